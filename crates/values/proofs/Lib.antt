@@ -1,0 +1,4 @@
+pub mod Table
+pub mod TwosComplement
+pub mod MachineIntegers
+pub mod Ranges

@@ -1,0 +1,68 @@
+-- The code's tests of a range are the definition's, at each row of the table.
+use mathlib.Core.Path.{_≡_, refl, sym, ap, _∙_}
+use mathlib.Core.Bool.{Bool, true, false, not, _&&_}
+use Prim.Native.Nat.{ℕ, _≤_, _<_, _^_, _*_}
+use native.Mathlib.Omega.{arith}
+use native.Mathlib.Decide.{decLe}
+use borrow.Author.Tests.{le-leb, lt-leb, eq-eqb, ne-eqb}
+use lib.Dec.{leb, eqb, leb·zero}
+use lib.IntN.{ℤ, pos, negsuc, negℤ}
+use lib.Signed.{leZ}
+use lib.Ieee.{binary32, nanBits}
+use Rattle.values.specs.Rows.{TypeRow, Kind, signed, unsigned, float, whole, between, notNaN, Listed}
+use Rattle.values.specs.Classes.{twosComplement, integer, inRange, PatternOf}
+use Rattle.values.proofs.Table.{counts-from-zero, signed-range}
+
+module _ (row : TypeRow) (raw : ℕ) where
+  pub in-whole : row .range ≡ whole → inRange row raw ≡ true
+  unfolding inRange
+  in-whole e = rw e
+
+  pub in-between : (low high : ℤ) → row .range ≡ between low high → inRange row raw ≡ (leZ low (integer row raw) && leZ (integer row raw) high)
+  unfolding inRange
+  in-between low high e = rw e
+
+  pub in-not-nan : row .range ≡ notNaN → inRange row raw ≡ not (nanBits binary32 raw)
+  unfolding inRange
+  in-not-nan e = rw e
+
+  signed-integer : row .kind ≡ signed → integer row raw ≡ twosComplement (16 * row .most) raw
+  unfolding integer
+  signed-integer e = rw e
+
+  plain-integer : (row .kind ≡ signed → ⊥) → integer row raw ≡ pos raw
+  unfolding integer
+  plain-integer n = go (row .kind) refl
+    where
+      go : (k : Kind) → row .kind ≡ k
+          → elim k [ signed ↦ twosComplement (16 * row .most) raw | unsigned ↦ pos raw | float ↦ pos raw ] ≡ pos raw
+      go signed e = absurd (n e)
+      go unsigned e = refl
+      go float e = refl
+
+  module _ (p : PatternOf row raw) where
+    pub in-up-to : (n : ℕ) → row .range ≡ between (pos 0) (pos n) → inRange row raw ≡ leb raw n
+    in-up-to n e =
+        in-between (pos 0) (pos n) e
+        ∙ rw (plain-integer (counts-from-zero row (p .listed) 0 (pos n) e)) (simp (leb·zero raw))
+
+    pub in-only : (n : ℕ) → row .range ≡ between (pos n) (pos n) → inRange row raw ≡ eqb raw n
+    in-only n e =
+        in-between (pos n) (pos n) e
+        ∙ rw (plain-integer (counts-from-zero row (p .listed) n (pos n) e)) (both (decLe n raw) (decLe raw n))
+      where
+        both : Dec (n ≤ raw) → Dec (raw ≤ n) → (leb n raw && leb raw n) ≡ eqb raw n
+        both (yes a) (yes b) = rw (le-leb n raw a, le-leb raw n b, eq-eqb raw n (omega arith))
+        both (yes a) (no b) = rw (le-leb n raw a, lt-leb raw n (omega arith), ne-eqb raw n (λ q. b (omega arith)))
+        both (no a) d = rw (lt-leb n raw (omega arith), ne-eqb raw n (λ q. a (omega arith)))
+
+    module _ (e : row .range ≡ between (negℤ (pos 10)) (pos 10)) where
+      pub one-register : raw < 65536
+      one-register =
+          let m : row .most ≡ 1 = signed-range row (p .listed) 9 (pos 10) e .1 in
+          rw (ap (λ (k : ℕ). 2 ^ (16 * k)) m) at (p .fits)
+
+      pub in-scale-factor : inRange row raw ≡ (leZ (negℤ (pos 10)) (twosComplement 16 raw) && leZ (twosComplement 16 raw) (pos 10))
+      in-scale-factor =
+          let s = signed-range row (p .listed) 9 (pos 10) e in
+          in-between (negℤ (pos 10)) (pos 10) e ∙ rw (signed-integer (s .0), s .1)

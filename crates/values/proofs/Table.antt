@@ -1,0 +1,122 @@
+-- Laws of the table of type rows: look-up, and what holds of each of its rows, computed once over the whole table.
+use mathlib.Core.Path.{_≡_, refl, sym, ap, subst, _∙_}
+use mathlib.Core.Bool.{Bool, true, false, not, _&&_, _||_}
+use mathlib.Core.List.{List, [], _∷_}
+use mathlib.Core.Option.{Option, none, some}
+use Prim.Native.Nat.{ℕ, _≤_}
+use native.Mathlib.Omega.{arith}
+use borrow.Author.Tests.{ne-eqb, eqb-true, le-leb}
+use lib.Dec.{T, eqb, leb, eqb→eq, leb→le}
+use lib.IntN.{ℤ, pos, negsuc}
+use Rattle.values.specs.Rows.{TypeRow, Kind, signed, unsigned, float, Range, whole, between, notNaN, rows, rowAmong, rowOf, Listed}
+
+-- A row of another code is passed over.
+pub passed : (r : TypeRow) (rs : List TypeRow) (c : ℕ) → (c ≡ r .code → ⊥) → rowAmong rs c ≡ none → rowAmong (r ∷ rs) c ≡ none
+unfolding rowAmong
+passed r rs c h e = simp (rowAmong, ne-eqb _ _ h) e
+
+pub at-end : (c : ℕ) → rowAmong [] c ≡ none
+unfolding rowAmong
+at-end c = refl
+
+left : (a b : Bool) → T (a && b) → T a
+left true b t = tt
+left false b t = t
+
+right : (a b : Bool) → T (a && b) → T b
+right true b t = t
+right false b t = absurd t
+
+-- A test that passes at each row of a list.
+abbrev every : (TypeRow → Bool) → List TypeRow → Bool
+every test [] = true
+every test (r ∷ rs) = test r && every test rs
+
+-- The row found is one of the list, with the code looked for.
+found-among : (test : TypeRow → Bool) (rs : List TypeRow) (c : ℕ) (r : TypeRow) → T (every test rs) → rowAmong rs c ≡ some r
+    → (c ≡ r .code) × T (test r)
+unfolding rowAmong
+found-among test [] c r t e = let z : _≡_ {A = ℕ} 0 1 = cc in absurd (omega arith)
+found-among test (x ∷ rs) c r t e =
+    go (eqb c (x .code)) refl e (λ q. found-among test rs c r (right (test x) (every test rs) t) q)
+  where
+    go : (b : Bool) → eqb c (x .code) ≡ b → elim b [ true ↦ some x | false ↦ rowAmong rs c ] ≡ some r
+        → (rowAmong rs c ≡ some r → (c ≡ r .code) × T (test r)) → (c ≡ r .code) × T (test r)
+    go true b q ih =
+        let s : x ≡ r = cc in
+        (eqb-true c (x .code) b ∙ ap (λ (y : TypeRow). y .code) s, subst (λ (y : TypeRow). T (test y)) s (left (test x) (every test rs) t))
+    go false b q ih = ih q
+
+-- A test that passes at each row of the table passes at a row that is found there.
+found : (test : TypeRow → Bool) → T (every test rows) → (c : ℕ) (r : TypeRow) → rowOf c ≡ some r → (c ≡ r .code) × T (test r)
+found test t c r e = found-among test rows c r t e
+
+pub listed : (c : ℕ) (r : TypeRow) → rowOf c ≡ some r → Listed r
+unfolding rows
+listed c r e = sym (ap rowOf (found (λ x. true) tt c r e .0)) ∙ e
+
+-- ---- What holds of each row
+
+-- The codes up to 18 take at most four registers.
+abbrev fourTest : TypeRow → Bool
+fourTest r = not (leb (r .code) 18) || leb (r .most) 4
+
+pub four-registers : (c : ℕ) (r : TypeRow) → c ≤ 18 → rowOf c ≡ some r → r .most ≤ 4
+unfolding rows
+four-registers c r h e =
+    let f = found fourTest tt c r e in
+    let k : r .code ≤ 18 = omega (arith, f .0) in
+    leb→le (r .most) 4 (rw (le-leb (r .code) 18 k) at (f .1))
+
+-- A signed type takes one to four registers; a float takes two, and no NaN is in its range.
+abbrev kindTest : Kind → ℕ → Range → Bool
+kindTest signed m r = leb 1 m && leb m 4
+kindTest unsigned m r = true
+kindTest float m whole = false
+kindTest float m (between low high) = false
+kindTest float m notNaN = eqb m 2
+
+module _ (r : TypeRow) (l : Listed r) where
+  kinds : T (kindTest (r .kind) (r .most) (r .range))
+  unfolding rows
+  kinds = found (λ x. kindTest (x .kind) (x .most) (x .range)) tt (r .code) r l .1
+
+  pub signed-width : r .kind ≡ signed → (1 ≤ r .most) × (r .most ≤ 4)
+  signed-width k =
+    let t = rw k at kinds in
+    (leb→le 1 (r .most) (left (leb 1 (r .most)) (leb (r .most) 4) t), leb→le (r .most) 4 (right (leb 1 (r .most)) (leb (r .most) 4) t))
+
+  pub float-row : r .kind ≡ float → (r .most ≡ 2) × (r .range ≡ notNaN)
+  float-row k = go (r .range) refl (rw k at kinds)
+    where
+      go : (x : Range) → r .range ≡ x → T (kindTest float (r .most) x) → (r .most ≡ 2) × (r .range ≡ notNaN)
+      go whole e t = absurd t
+      go (between low high) e t = absurd t
+      go notNaN e t = (eqb→eq (r .most) 2 t, e)
+
+-- A range that begins below 0 is a signed type's of one register, and a range that begins at 0 or above is no signed type's.
+abbrev rangeTest : Range → Kind → ℕ → Bool
+rangeTest whole k m = true
+rangeTest notNaN k m = true
+rangeTest (between (pos low) high) signed m = false
+rangeTest (between (pos low) high) unsigned m = true
+rangeTest (between (pos low) high) float m = true
+rangeTest (between (negsuc low) high) signed m = eqb m 1
+rangeTest (between (negsuc low) high) unsigned m = false
+rangeTest (between (negsuc low) high) float m = false
+
+module _ (r : TypeRow) (l : Listed r) where
+  ranges : T (rangeTest (r .range) (r .kind) (r .most))
+  unfolding rows
+  ranges = found (λ x. rangeTest (x .range) (x .kind) (x .most)) tt (r .code) r l .1
+
+  pub counts-from-zero : (low : ℕ) (high : ℤ) → r .range ≡ between (pos low) high → r .kind ≡ signed → ⊥
+  counts-from-zero low high e k = rw (e, k) at ranges
+
+  pub signed-range : (low : ℕ) (high : ℤ) → r .range ≡ between (negsuc low) high → (r .kind ≡ signed) × (r .most ≡ 1)
+  signed-range low high e = go (r .kind) refl (rw e at ranges)
+    where
+      go : (k : Kind) → r .kind ≡ k → T (rangeTest (between (negsuc low) high) k (r .most)) → (r .kind ≡ signed) × (r .most ≡ 1)
+      go signed q t = (q, eqb→eq (r .most) 1 t)
+      go unsigned q t = absurd t
+      go float q t = absurd t

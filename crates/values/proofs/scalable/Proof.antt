@@ -1,0 +1,29 @@
+use borrow.Author.Needs.{needs}
+use Rattle.values.proofs.scalable.Statement.{statement}
+use Rattle.values.proofs.scalable.Tie as tie
+use Rattle.values.proofs.scalable.Reads as reads
+use Rattle.values.proofs.scalable.Lts as lts
+use Rattle.values.proofs.rows.row_of.Reads as row-of-reads
+
+-- src/lib.rt:70:9
+row-of-requires : tie.Need-row-of-requires
+row-of-requires c κs = search needs
+
+-- src/lib.rt:72:20
+enum-known-found : tie.Need-enum-known-found
+enum-known-found c = search needs
+
+-- src/lib.rt:73:27
+enum-told : tie.Need-enum-told
+enum-told c = search needs
+
+-- src/lib.rt:67:1
+returns : tie.Need-returns
+returns c = ?
+
+-- src/lib.rt:67:1
+returns-2 : tie.Need-returns-2
+returns-2 c = ?
+
+pub scalable-spec : {M : Type 1} → statement M
+scalable-spec = tie.close (tie.spec row-of-requires enum-known-found enum-told returns returns-2)

@@ -1,0 +1,74 @@
+-- What the code's types stand for: the answers of the public calls in document 01's terms, and the code's rows as the table's.
+use mathlib.Core.Option.{Option, none, some}
+use Prim.Native.Nat.{ℕ}
+use lib.IntN.{pos, negℤ}
+use Rattle.values.specs.Rows as Rows
+use Rattle.values.specs.Classes as Classes
+use Rattle.values.specs.Decoding as Decoding
+use Rattle.values.specs.declared.Value.{Value}
+use Rattle.values.specs.declared.Class.{Class}
+use Rattle.values.specs.declared.Classified.{Classified}
+use Rattle.values.specs.declared.RegisterCount.{RegisterCount}
+use Rattle.values.specs.declared.rows.Kind.{Kind}
+use Rattle.values.specs.declared.rows.Marker.{Marker}
+use Rattle.values.specs.declared.rows.Range.{Range}
+use Rattle.values.specs.declared.rows.TypeRow.{TypeRow}
+use Rattle.values.specs.declared.rows.Found.{Found}
+
+-- The answer of `decode`: a code that is not 1–18 is refusal 40.
+abbrev pub answer : Value → Decoding.Decoded
+answer (Value.Signed z) = Decoding.signed z
+answer (Value.Unsigned n) = Decoding.unsigned n
+answer (Value.Float x) = Decoding.float x
+answer Value.Unimplemented = Decoding.unimplemented
+answer Value.OutOfRange = Decoding.outOfRange
+answer Value.UnknownType = Decoding.refused 40
+
+abbrev pub classAnswer : Class → Classes.Class
+classAnswer Class.Value = Classes.value
+classAnswer Class.Unimplemented = Classes.unimplemented
+classAnswer Class.OutOfRange = Classes.outOfRange
+
+-- The answer of `classify`.
+abbrev pub classifiedAnswer : Classified → Classes.Classified
+classifiedAnswer (Classified.Of c) = Classes.under (classAnswer c)
+classifiedAnswer Classified.TooWide = Classes.noPattern
+classifiedAnswer Classified.UnknownType = Classes.unknownType
+
+-- The answer of `register_count`.
+abbrev pub countAnswer : RegisterCount → Option (ℕ × ℕ)
+countAnswer (RegisterCount.Between fewest most) = some (fewest, most)
+countAnswer RegisterCount.UnknownType = none
+
+-- The code's row as a row of the table.
+abbrev pub kindMeans : Kind → Rows.Kind
+kindMeans Kind.Signed = Rows.signed
+kindMeans Kind.Unsigned = Rows.unsigned
+kindMeans Kind.Float = Rows.float
+
+abbrev pub markerMeans : Marker → Rows.Marker
+markerMeans Marker.Never = Rows.never
+markerMeans (Marker.At p) = Rows.pattern p
+
+abbrev pub rangeMeans : Range → Rows.Range
+rangeMeans Range.Whole = Rows.whole
+rangeMeans (Range.UpTo n) = Rows.between (pos 0) (pos n)
+rangeMeans (Range.Only n) = Rows.between (pos n) (pos n)
+rangeMeans Range.ScaleFactor = Rows.between (negℤ (pos 10)) (pos 10)
+rangeMeans Range.NotNan = Rows.notNaN
+
+abbrev pub rowMeans : TypeRow → Rows.TypeRow
+rowMeans r =
+    record {
+      code = r .code;
+      fewest = r .fewest;
+      most = r .most;
+      scalable = r .scalable;
+      kind = kindMeans (r .kind);
+      marker = markerMeans (r .marker);
+      range = rangeMeans (r .range);
+    }
+
+abbrev pub foundMeans : Found → Option Rows.TypeRow
+foundMeans (Found.Row r) = some (rowMeans r)
+foundMeans Found.Nothing = none

@@ -1,0 +1,67 @@
+-- What a raw number is under its type (document 01, "The value rows"): a value, unimplemented or out of range.
+use mathlib.Core.Bool.{Bool, true, false, not, _&&_}
+use mathlib.Core.Option.{Option, none, some}
+use Prim.Native.Nat.{ℕ, _-_, _*_, _^_, _<_}
+use lib.Dec.{eqb, ltb}
+use lib.IntN.{ℤ, pos, _-ℤ_}
+use lib.Signed.{leZ}
+use lib.Ieee.{binary32, nanBits}
+use Rattle.values.specs.Registers.{tooWide}
+use Rattle.values.specs.Rows.{TypeRow, rowOf, Listed, Kind, signed, unsigned, float, Marker, never, pattern, Range, whole, between, notNaN}
+
+-- The number that a pattern of so many bits stands for in two's complement.
+unfoldable pub twosComplement : ℕ → ℕ → ℤ
+twosComplement bits raw =
+    elim (ltb raw (2 ^ (bits - 1))) [ true ↦ pos raw | false ↦ pos raw -ℤ pos (2 ^ bits) ]
+
+-- The bits of a type at its widest: 16 a register.
+abbrev pub bits : TypeRow → ℕ
+bits row = 16 * row .most
+
+-- The integer that a pattern stands for by its type's sign.
+unfoldable pub integer : TypeRow → ℕ → ℤ
+integer row raw =
+    elim (row .kind) [ signed ↦ twosComplement (bits row) raw | unsigned ↦ pos raw | float ↦ pos raw ]
+
+-- Is the raw number the type's unimplemented pattern?
+abbrev pub isMarker : Marker → ℕ → Bool
+isMarker never raw = false
+isMarker (pattern p) raw = eqb raw p
+
+-- Is the raw number in its type's range? float32: every pattern but a NaN's, so infinities and negative zero too.
+unfoldable pub inRange : TypeRow → ℕ → Bool
+inRange row raw =
+    elim (row .range) [
+      | whole ↦ true
+      | between low high ↦ leZ low (integer row raw) && leZ (integer row raw) high
+      | notNaN ↦ not (nanBits binary32 raw)
+    ]
+
+pub data Class : Type 0 where
+  value unimplemented outOfRange : Class
+
+-- The class of a raw number under a type: unimplemented wins over out of range.
+unfoldable pub classOf : TypeRow → ℕ → Class
+classOf row raw =
+    elim (isMarker (row .marker) raw) [
+      | true ↦ unimplemented
+      | false ↦ elim (inRange row raw) [ true ↦ value | false ↦ outOfRange ]
+    ]
+
+-- A raw number that is a pattern of a type of the table.
+pub record PatternOf (row : TypeRow) (raw : ℕ) : Type 0 where
+  pub listed : Listed row
+  pub fits : raw < 2 ^ bits row
+
+-- What `classify` answers of a raw number: its class, that it is too wide to be a pattern of the type, or that the type is unknown.
+pub data Classified : Type 0 where
+  under : Class → Classified
+  noPattern : Classified
+  unknownType : Classified
+
+unfoldable pub classified : ℕ → ℕ → Classified
+classified code raw =
+    elim (rowOf code) [
+      | none ↦ unknownType
+      | some row ↦ elim (tooWide (row .most) raw) [ true ↦ noPattern | false ↦ under (classOf row raw) ]
+    ]

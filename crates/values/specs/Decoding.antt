@@ -1,0 +1,48 @@
+-- Document 01, "One value": a type code and four registers give one answer with data, or refusal 40.
+use mathlib.Core.Bool.{Bool, true, false, _&&_}
+use mathlib.Core.List.{List}
+use mathlib.Core.Option.{Option, none, some}
+use Prim.Native.Nat.{ℕ}
+use lib.Dec.{leb}
+use lib.IntN.{ℤ}
+use lib.Ieee.{Float, binary32, ofBits}
+use lib.ListN.{take}
+use Rattle.values.specs.Rows.{TypeRow, Kind, rowOf}
+use Rattle.values.specs.Registers.{join}
+use Rattle.values.specs.Classes.{Class, bits, twosComplement, classOf}
+
+-- The answers, with their data; a refusal by its number.
+pub data Decoded : Type 0 where
+  signed : ℤ → Decoded
+  unsigned : ℕ → Decoded
+  float : Float → Decoded
+  unimplemented : Decoded
+  outOfRange : Decoded
+  refused : ℕ → Decoded
+
+-- The number of a pattern that is a value, as its type reads it.
+unfoldable pub numberOf : TypeRow → ℕ → Decoded
+numberOf row raw =
+    elim (row .kind) [
+      | Kind.signed ↦ signed (twosComplement (bits row) raw)
+      | Kind.unsigned ↦ unsigned raw
+      | Kind.float ↦ float (ofBits binary32 raw)
+    ]
+
+-- The answer for a raw number under a type.
+unfoldable pub valueOf : TypeRow → ℕ → Decoded
+valueOf row raw =
+    elim (classOf row raw) [
+      | Class.value ↦ numberOf row raw
+      | Class.unimplemented ↦ unimplemented
+      | Class.outOfRange ↦ outOfRange
+    ]
+
+-- The rows that one value is decoded by: those of the codes 1–18.
+unfoldable pub decodable : ℕ → Option TypeRow
+decodable code = elim (leb code 18) [ true ↦ rowOf code | false ↦ none ]
+
+-- One value of four registers, the first ones used. 40: the code is not 1–18.
+unfoldable pub decoded : ℕ → List ℕ → Decoded
+decoded code registers =
+    elim (decodable code) [ none ↦ refused 40 | some row ↦ valueOf row (join (take (row .most) registers)) ]

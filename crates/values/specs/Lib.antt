@@ -1,0 +1,6 @@
+pub mod Rows
+pub mod Registers
+pub mod Classes
+pub mod Decoding
+pub mod Answers
+pub mod Printed

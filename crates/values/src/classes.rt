@@ -1,0 +1,96 @@
+// What a raw number is under its type.
+ghost use mathlib.Core.Path.{_≡_};
+ghost use mathlib.Core.Bool.{not, _&&_};
+ghost use Prim.Native.Nat.{_<_};
+ghost use lib.IntN.{pos, negℤ};
+ghost use lib.Signed.{leZ};
+ghost use lib.Ieee.{binary32, nanBits};
+ghost use Rattle.values.specs.Classes.{PatternOf, twosComplement, isMarker, inRange, classOf, classified};
+ghost use Rattle.values.specs.Answers.{classAnswer, classifiedAnswer, markerMeans, rowMeans};
+use crate::Class;
+use crate::Classified;
+use crate::registers::too_wide;
+use crate::rows::Found;
+use crate::rows::Marker;
+use crate::rows::Range;
+use crate::rows::TypeRow;
+use crate::rows::row_of;
+
+// The class of a raw number under a type code.
+pub fn classify(type_code: u16, raw: u64) -> Classified
+    ensures { λ r. ⌜ classifiedAnswer r ≡ classified «type_code» raw ⌝ }
+{
+    let found = row_of(type_code);
+    match found {
+        Found::Row(row) => {
+            if too_wide(row.most, raw) {
+                return Classified::TooWide;
+            }
+            Classified::Of(class_in(row, raw))
+        }
+        Found::Nothing => Classified::UnknownType,
+    }
+}
+
+// The class of a pattern of the row's type: unimplemented wins over out of range.
+pub(crate) fn class_in(row: TypeRow, raw: u64) -> Class
+    requires { ⌜ PatternOf (rowMeans row) raw ⌝ }
+    ensures { λ r. ⌜ classAnswer r ≡ classOf (rowMeans row) raw ⌝ }
+{
+    let marker = row.marker;
+    if is_marker(marker, raw) {
+        return Class::Unimplemented;
+    }
+    if in_range(row, raw) {
+        return Class::Value;
+    }
+    Class::OutOfRange
+}
+
+// Is it the type's unimplemented pattern?
+fn is_marker(marker: Marker, raw: u64) -> bool
+    ensures { λ r. ⌜ r ≡ isMarker (markerMeans marker) raw ⌝ }
+{
+    match marker {
+        Marker::Never => false,
+        Marker::At(pattern) => raw == pattern,
+    }
+}
+
+// Is the pattern in its type's range?
+fn in_range(row: TypeRow, raw: u64) -> bool
+    requires { ⌜ PatternOf (rowMeans row) raw ⌝ }
+    ensures { λ r. ⌜ r ≡ inRange (rowMeans row) raw ⌝ }
+{
+    let range = row.range;
+    match range {
+        Range::Whole => true,
+        Range::UpTo(high) => raw <= high,
+        Range::Only(pattern) => raw == pattern,
+        Range::ScaleFactor => scale_factor_in_range(raw),
+        Range::NotNan => not_nan(raw),
+    }
+}
+
+// -10 to 10 in two's complement of one register.
+fn scale_factor_in_range(raw: u64) -> bool
+    requires { ⌜ raw < 65536 ⌝ }
+    ensures { λ r. ⌜ r ≡ (leZ (negℤ (pos 10)) (twosComplement 16 raw) && leZ (twosComplement 16 raw) (pos 10)) ⌝ }
+{
+    if raw <= 10 {
+        return true;
+    }
+    0xFFF6 <= raw
+}
+
+// A binary32 pattern is a NaN's if its exponent is all ones and its fraction is not 0.
+fn not_nan(raw: u64) -> bool
+    ensures { λ r. ⌜ r ≡ not (nanBits binary32 raw) ⌝ }
+{
+    let exponent = raw % 0x80000000 / 0x800000;
+    let fraction = raw % 0x800000;
+    if exponent == 255 {
+        return fraction == 0;
+    }
+    true
+}

@@ -1,0 +1,146 @@
+// Values of SunSpec points: how registers join, what a raw number is under its type, and `decode`.
+// Every call here is total and carries an equation with the definitions of specs/.
+mod classes;
+mod registers;
+mod rows;
+
+use classes::class_in;
+pub use classes::classify;
+pub use registers::raw_value;
+pub use registers::too_wide;
+use rows::Found;
+use rows::Kind;
+use rows::TypeRow;
+use rows::row_of;
+ghost use mathlib.Core.Path.{_≡_};
+ghost use Prim.Native.Nat.{_*_, _-_, _^_, _≤_, _<_};
+ghost use Rattle.values.specs.Rows.{mayScale, registersOf};
+ghost use Rattle.values.specs.Classes.{PatternOf, twosComplement, classOf, value};
+ghost use Rattle.values.specs.Decoding.{numberOf, valueOf, decoded};
+ghost use Rattle.values.specs.Answers.{answer, countAnswer, rowMeans};
+
+// A pattern of a type is a value, marks the point as unimplemented, or is out of the type's range.
+pub enum Class {
+    Value,
+    Unimplemented,
+    OutOfRange,
+}
+
+// What `classify` answers of a raw number: its class, or why it has none.
+pub enum Classified {
+    Of(Class),
+    TooWide,
+    UnknownType,
+}
+
+// How many registers a point of a type takes: from fewest to most.
+pub enum RegisterCount {
+    Between { fewest: u16, most: u16 },
+    UnknownType,
+}
+
+// What `decode` answers: a number, or why there is none. UnknownType is refusal 40.
+pub enum Value {
+    Signed(i64),
+    Unsigned(u64),
+    Float(f32),
+    Unimplemented,
+    OutOfRange,
+    UnknownType,
+}
+
+// How many registers a point of this type takes.
+pub fn register_count(type_code: u16) -> RegisterCount
+    ensures { λ r. ⌜ countAnswer r ≡ registersOf «type_code» ⌝ }
+{
+    let found = row_of(type_code);
+    match found {
+        Found::Row(row) => RegisterCount::Between {
+            fewest: row.fewest,
+            most: row.most,
+        },
+        Found::Nothing => RegisterCount::UnknownType,
+    }
+}
+
+// May a point of this type carry a scale factor?
+pub fn scalable(type_code: u16) -> bool
+    ensures { λ r. ⌜ r ≡ mayScale «type_code» ⌝ }
+{
+    let found = row_of(type_code);
+    match found {
+        Found::Row(row) => row.scalable,
+        Found::Nothing => false,
+    }
+}
+
+// The value in the first registers, as many as the type takes.
+pub fn decode(type_code: u16, registers: [u16; 4]) -> Value
+    ensures { λ r. ⌜ answer r ≡ decoded «type_code» registers ⌝ }
+{
+    if 18 < type_code {
+        return Value::UnknownType;
+    }
+    let found = row_of(type_code);
+    match found {
+        Found::Row(row) => {
+            let count = row.most as usize;
+            let raw = raw_value(&registers[..count]);
+            value_of(row, raw)
+        }
+        Found::Nothing => Value::UnknownType,
+    }
+}
+
+// The answer for a pattern of the row's type.
+fn value_of(row: TypeRow, raw: u64) -> Value
+    requires { ⌜ PatternOf (rowMeans row) raw ⌝ }
+    ensures { λ r. ⌜ answer r ≡ valueOf (rowMeans row) raw ⌝ }
+{
+    let class = class_in(row, raw);
+    match class {
+        Class::Value => number_of(row, raw),
+        Class::Unimplemented => Value::Unimplemented,
+        Class::OutOfRange => Value::OutOfRange,
+    }
+}
+
+// The number of a pattern that is a value.
+fn number_of(row: TypeRow, raw: u64) -> Value
+    requires { ⌜ PatternOf (rowMeans row) raw ⌝ }
+    requires { ⌜ classOf (rowMeans row) raw ≡ value ⌝ }
+    ensures { λ r. ⌜ answer r ≡ numberOf (rowMeans row) raw ⌝ }
+{
+    let kind = row.kind;
+    match kind {
+        Kind::Signed => Value::Signed(twos_complement(row.most, raw)),
+        Kind::Unsigned => Value::Unsigned(raw),
+        Kind::Float => Value::Float(f32::from_bits(raw as u32)),
+    }
+}
+
+// Two's complement of one to four registers. -1 - (ones - raw) stays within 64 bits at every width.
+fn twos_complement(count: u16, raw: u64) -> i64
+    requires { ⌜ (1 ≤ count) × (count ≤ 4) ⌝ }
+    requires { ⌜ raw < 2 ^ (16 * count) ⌝ }
+    ensures { λ r. ⌜ r ≡ twosComplement (16 * count) raw ⌝ }
+{
+    let ones = all_ones(count);
+    if raw <= ones / 2 {
+        return raw as i64;
+    }
+    -1 - ((ones - raw) as i64)
+}
+
+// The largest pattern of one to four registers.
+fn all_ones(count: u16) -> u64
+    requires { ⌜ (1 ≤ count) × (count ≤ 4) ⌝ }
+    ensures { λ r. ⌜ r ≡ 2 ^ (16 * count) - 1 ⌝ }
+{
+    match count {
+        1 => 0xFFFF,
+        2 => 0xFFFFFFFF,
+        3 => 0xFFFFFFFFFFFF,
+        _ => 0xFFFFFFFFFFFFFFFF,
+    }
+}
