@@ -26,8 +26,8 @@ module _ (bits raw ones : ℕ) (low : 1 ≤ bits) (high : bits ≤ 64) (is : one
 
   pub lower-pattern : raw ≤ ones / 2 → toZ w64 raw ≡ twosComplement bits raw
   lower-pattern h =
-    let l : raw < 2 ^ (bits - 1) = omega (arith, halves bits low, pow-pos (bits - 1)) in
-    toZ-pos w64 (omega (arith, half-fits)) ∙ sym (lower-half bits raw l)
+      let l : raw < 2 ^ (bits - 1) = omega (arith, halves bits low, pow-pos (bits - 1)) in
+      toZ-pos w64 (omega (arith, half-fits)) ∙ sym (lower-half bits raw l)
 
   module _ (above : ones / 2 < raw) (fits : raw < 2 ^ bits) where
     machine : negsuc 0 -ℤ toZ w64 (ones - raw) ≡ negsuc (ones - raw)

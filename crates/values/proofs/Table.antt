@@ -83,8 +83,8 @@ module _ (r : TypeRow) (l : Listed r) where
 
   pub signed-width : r .kind ≡ signed → (1 ≤ r .most) × (r .most ≤ 4)
   signed-width k =
-    let t = rw k at kinds in
-    (leb→le 1 (r .most) (left (leb 1 (r .most)) (leb (r .most) 4) t), leb→le (r .most) 4 (right (leb 1 (r .most)) (leb (r .most) 4) t))
+      let t = rw k at kinds in
+      (leb→le 1 (r .most) (left (leb 1 (r .most)) (leb (r .most) 4) t), leb→le (r .most) 4 (right (leb 1 (r .most)) (leb (r .most) 4) t))
 
   pub float-row : r .kind ≡ float → (r .most ≡ 2) × (r .range ≡ notNaN)
   float-row k = go (r .range) refl (rw k at kinds)

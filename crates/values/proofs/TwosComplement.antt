@@ -34,6 +34,7 @@ scale-factor-tail raw h k = elim (decLe 32768 raw) [ yes u ↦ up u (decLe 0xFFF
   where
     down : raw < 32768 → leb 0xFFF6 raw ≡ withinTen (twosComplement 16 raw)
     down l = rw (lower-half 16 raw l, lt-leb 0xFFF6 raw (omega arith)) (simp (lt-leb raw 10 h))
+
     up : 32768 ≤ raw → Dec (0xFFF6 ≤ raw) → leb 0xFFF6 raw ≡ withinTen (twosComplement 16 raw)
     up u (yes a) = rw (upper-half 16 raw u k, le-leb 0xFFF6 raw a) (simp (le-leb (65536 - suc raw) 9 (omega arith)))
     up u (no a) = rw (upper-half 16 raw u k, lt-leb 0xFFF6 raw (omega arith)) (simp (lt-leb (65536 - suc raw) 9 (omega arith)))

@@ -1,11 +1,14 @@
 // Registers and the raw number that they hold.
 
 ghost use mathlib.Core.Path.{_≡_};
+ghost use Prim.Native.Nat.{_<_, _^_};
+ghost use lib.ListN.{length};
 ghost use Rattle.values.specs.Registers.{shownRaw, tooWide};
 
 // The raw value that a record shows: the registers joined, high first, and 0 for more than four.
 pub fn raw_value(registers: &[u16]) -> u64
     ensures { λ r. ⌜ r ≡ shownRaw (now (registers .entry)) ⌝ }
+    ensures { λ r. ⌜ r < 65536 ^ length (now (registers .entry)) ⌝ }
 {
     if 4 < registers.len() {
         return 0;

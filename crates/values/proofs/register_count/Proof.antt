@@ -1,3 +1,6 @@
+use Rattle.values.specs.Rows.{registersOf}
+use Rattle.values.specs.Answers.{foundMeans}
+use mathlib.Core.Path.{sym, ap, _∙_}
 use borrow.Author.Needs.{needs}
 use Rattle.values.proofs.register_count.Statement.{statement}
 use Rattle.values.proofs.register_count.Tie as tie
@@ -19,11 +22,13 @@ enum-told c = search needs
 
 -- src/lib.rt:53:1
 returns : tie.Need-returns
-returns c = ?
+unfolding registersOf
+returns c = simp (registersOf, sym (c .before .before .before .row-of .ensures) ∙ ap foundMeans (c .before .found .given .1))
 
 -- src/lib.rt:53:1
 returns-2 : tie.Need-returns-2
-returns-2 c = ?
+unfolding registersOf
+returns-2 c = simp (registersOf, sym (c .before .before .row-of .ensures) ∙ ap foundMeans (c .enum-told .given .1))
 
 pub register-count-spec : {M : Type 1} → statement M
 register-count-spec =

@@ -1,3 +1,6 @@
+use Rattle.values.specs.Rows.{mayScale}
+use Rattle.values.specs.Answers.{foundMeans}
+use mathlib.Core.Path.{sym, ap, _∙_}
 use borrow.Author.Needs.{needs}
 use Rattle.values.proofs.scalable.Statement.{statement}
 use Rattle.values.proofs.scalable.Tie as tie
@@ -19,11 +22,13 @@ enum-told c = search needs
 
 -- src/lib.rt:67:1
 returns : tie.Need-returns
-returns c = ?
+unfolding mayScale
+returns c = simp (mayScale, sym (c .before .before .before .row-of .ensures) ∙ ap foundMeans (c .before .found .given .1))
 
 -- src/lib.rt:67:1
 returns-2 : tie.Need-returns-2
-returns-2 c = ?
+unfolding mayScale
+returns-2 c = simp (mayScale, sym (c .before .before .row-of .ensures) ∙ ap foundMeans (c .enum-told .given .1))
 
 pub scalable-spec : {M : Type 1} → statement M
 scalable-spec = tie.close (tie.spec row-of-requires enum-known-found enum-told returns returns-2)

@@ -1,3 +1,6 @@
+use Rattle.values.proofs.ClassCases as classes
+use Rattle.values.specs.Answers.{rowMeans}
+use mathlib.Core.Path.{sym, _∙_}
 use borrow.Author.Needs.{needs}
 use Rattle.values.proofs.classes.class_in.Statement.{statement}
 use Rattle.values.proofs.classes.class_in.Tie as tie
@@ -12,7 +15,7 @@ is-marker-requires c κs = search needs
 
 -- src/classes.rt:42:9
 returns : tie.Need-returns
-returns c = ?
+returns c = let a = c .before .before .args in sym (classes.marked (rowMeans (a .row)) (a .raw) (sym (c .before .is-marker .ensures) ∙ c .if1 .taken))
 
 -- src/classes.rt:44:8
 in-range-requires : tie.Need-in-range-requires
@@ -20,11 +23,11 @@ in-range-requires c κs = search needs
 
 -- src/classes.rt:45:9
 returns-2 : tie.Need-returns-2
-returns-2 c = ?
+returns-2 c = let a = c .before .before .before .before .args in sym (classes.in-range (rowMeans (a .row)) (a .raw) (sym (c .before .before .before .is-marker .ensures) ∙ c .before .before .if1 .left) (sym (c .before .in-range .ensures) ∙ c .if2 .taken))
 
 -- src/classes.rt:36:1
 returns-3 : tie.Need-returns-3
-returns-3 c = ?
+returns-3 c = let a = c .before .before .before .before .args in sym (classes.not-in-range (rowMeans (a .row)) (a .raw) (sym (c .before .before .before .is-marker .ensures) ∙ c .before .before .if1 .left) (sym (c .before .in-range .ensures) ∙ c .if2 .left))
 
 pub class-in-spec : {M : Type 1} → statement M
 class-in-spec =

@@ -1,0 +1,90 @@
+-- The ways to a class, and from a class to the answer of `decode`.
+use mathlib.Core.Path.{_≡_, refl}
+use mathlib.Core.Bool.{Bool, true, false}
+use mathlib.Core.Option.{Option, none, some}
+use mathlib.Core.List.{List}
+use Prim.Native.Nat.{ℕ, _≤_, _<_}
+use borrow.Author.Tests.{le-leb, lt-leb}
+use lib.ListN.{take}
+use lib.Ieee.{binary32, ofBits}
+use Rattle.values.specs.Rows.{TypeRow, Kind, rowOf}
+use Rattle.values.specs.Registers.{join, tooWide}
+use Rattle.values.specs.Classes.{bits, twosComplement, isMarker, inRange, Class, value, unimplemented, outOfRange, classOf, classified, under, noPattern, unknownType}
+use Rattle.values.specs.Decoding as decoding
+use Rattle.values.specs.Decoding.{numberOf, valueOf, decodable, decoded, refused}
+
+module _ (row : TypeRow) (raw : ℕ) where
+  pub marked : isMarker (row .marker) raw ≡ true → classOf row raw ≡ unimplemented
+  unfolding classOf
+  marked m = simp (classOf, m)
+
+  pub in-range : isMarker (row .marker) raw ≡ false → inRange row raw ≡ true → classOf row raw ≡ value
+  unfolding classOf
+  in-range m r = simp (classOf, m, r)
+
+  pub not-in-range : isMarker (row .marker) raw ≡ false → inRange row raw ≡ false → classOf row raw ≡ outOfRange
+  unfolding classOf
+  not-in-range m r = simp (classOf, m, r)
+
+  -- A value is in range.
+  pub value-in-range : classOf row raw ≡ value → inRange row raw ≡ true
+  unfolding classOf
+  value-in-range e = go (isMarker (row .marker) raw) (inRange row raw) e
+    where
+      go : (m r : Bool) → elim m [ true ↦ unimplemented | false ↦ elim r [ true ↦ value | false ↦ outOfRange ] ] ≡ value → r ≡ true
+      go true true q = refl
+      go true false q = cc
+      go false true q = refl
+      go false false q = cc
+
+  pub answer-value : classOf row raw ≡ value → valueOf row raw ≡ numberOf row raw
+  unfolding valueOf
+  answer-value e = simp (valueOf, e)
+
+  pub answer-unimplemented : classOf row raw ≡ unimplemented → valueOf row raw ≡ decoding.unimplemented
+  unfolding valueOf
+  answer-unimplemented e = simp (valueOf, e)
+
+  pub answer-out-of-range : classOf row raw ≡ outOfRange → valueOf row raw ≡ decoding.outOfRange
+  unfolding valueOf
+  answer-out-of-range e = simp (valueOf, e)
+
+  -- The number by the type's kind.
+  pub number-signed : row .kind ≡ Kind.signed → numberOf row raw ≡ decoding.signed (twosComplement (bits row) raw)
+  unfolding numberOf
+  number-signed e = simp (numberOf, e)
+
+  pub number-unsigned : row .kind ≡ Kind.unsigned → numberOf row raw ≡ decoding.unsigned raw
+  unfolding numberOf
+  number-unsigned e = simp (numberOf, e)
+
+  pub number-float : row .kind ≡ Kind.float → numberOf row raw ≡ decoding.float (ofBits binary32 raw)
+  unfolding numberOf
+  number-float e = simp (numberOf, e)
+
+module _ (code raw : ℕ) where
+  pub unknown : rowOf code ≡ none → classified code raw ≡ unknownType
+  unfolding classified
+  unknown e = simp (classified, e)
+
+  pub too-wide : (row : TypeRow) → rowOf code ≡ some row → tooWide (row .most) raw ≡ true → classified code raw ≡ noPattern
+  unfolding classified
+  too-wide row e w = simp (classified, e, w)
+
+  pub of-class : (row : TypeRow) → rowOf code ≡ some row → tooWide (row .most) raw ≡ false → classified code raw ≡ under (classOf row raw)
+  unfolding classified
+  of-class row e w = simp (classified, e, w)
+
+-- What `decoded` is by the code's row.
+module _ (code : ℕ) (registers : List ℕ) where
+  pub beyond : 18 < code → decoded code registers ≡ refused 40
+  unfolding decodable decoded
+  beyond h = simp (decoded, decodable, lt-leb _ _ h)
+
+  pub no-row : code ≤ 18 → rowOf code ≡ none → decoded code registers ≡ refused 40
+  unfolding decodable decoded
+  no-row h e = simp (decoded, decodable, le-leb _ _ h, e)
+
+  pub by-row : (row : TypeRow) → code ≤ 18 → rowOf code ≡ some row → decoded code registers ≡ valueOf row (join (take (row .most) registers))
+  unfolding decodable decoded
+  by-row row h e = simp (decoded, decodable, le-leb _ _ h, e)
