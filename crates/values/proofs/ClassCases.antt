@@ -1,16 +1,18 @@
 -- The ways to a class, and from a class to the answer of `decode`.
 use mathlib.Core.Path.{_≡_, refl}
-use mathlib.Core.Bool.{Bool, true, false}
+use mathlib.Core.Bool.{Bool, true, false, _&&_, and-false}
 use mathlib.Core.Option.{Option, none, some}
 use mathlib.Core.List.{List}
 use Prim.Native.Nat.{ℕ, _≤_, _<_}
 use borrow.Author.Tests.{le-leb, lt-leb}
+use lib.Dec.{leb}
 use lib.ListN.{take}
 use lib.Ieee.{binary32, ofBits}
 use Rattle.values.specs.Rows.{TypeRow, Kind, rowOf}
 use Rattle.values.specs.Registers.{join, tooWide}
 use Rattle.values.specs.Classes.{bits, twosComplement, isMarker, inRange, Class, value, unimplemented, outOfRange, classOf, classified, under, noPattern, unknownType}
 use Rattle.values.specs.Decoding as decoding
+use Rattle.values.proofs.Table.{from-one}
 use Rattle.values.specs.Decoding.{numberOf, valueOf, decodable, decoded, refused}
 
 module _ (row : TypeRow) (raw : ℕ) where
@@ -79,12 +81,24 @@ module _ (code raw : ℕ) where
 module _ (code : ℕ) (registers : List ℕ) where
   pub beyond : 18 < code → decoded code registers ≡ refused 40
   unfolding decodable decoded
-  beyond h = simp (decoded, decodable, lt-leb _ _ h)
+  beyond h = simp (decoded, decodable, lt-leb _ _ h, and-false)
 
-  pub no-row : code ≤ 18 → rowOf code ≡ none → decoded code registers ≡ refused 40
-  unfolding decodable decoded
-  no-row h e = simp (decoded, decodable, le-leb _ _ h, e)
+  no-row-decodes : rowOf code ≡ none → decodable code ≡ none
+  unfolding decodable
+  no-row-decodes e = go (leb 1 code && leb code 18)
+    where
+      go : (b : Bool) → _≡_ {A = Option TypeRow} (elim b [ true ↦ rowOf code | false ↦ none ]) none
+      go true = e
+      go false = refl
 
-  pub by-row : (row : TypeRow) → code ≤ 18 → rowOf code ≡ some row → decoded code registers ≡ valueOf row (join (take (row .most) registers))
-  unfolding decodable decoded
-  by-row row h e = simp (decoded, decodable, le-leb _ _ h, e)
+  pub no-row : rowOf code ≡ none → decoded code registers ≡ refused 40
+  unfolding decoded
+  no-row e = simp (decoded, no-row-decodes e)
+
+  pub decodes : (row : TypeRow) → code ≤ 18 → rowOf code ≡ some row → decodable code ≡ some row
+  unfolding decodable
+  decodes row h e = simp (decodable, le-leb _ _ (from-one code row e), le-leb _ _ h, e)
+
+  pub by-row : (row : TypeRow) → decodable code ≡ some row → decoded code registers ≡ valueOf row (join (take (row .most) registers))
+  unfolding decoded
+  by-row row e = simp (decoded, e)

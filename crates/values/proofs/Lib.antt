@@ -4,3 +4,4 @@ pub mod MachineIntegers
 pub mod Ranges
 pub mod ClassCases
 pub mod Joining
+pub mod FoundRow

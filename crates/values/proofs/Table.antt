@@ -57,6 +57,11 @@ listed c r e = sym (ap rowOf (found (λ x. true) tt c r e .0)) ∙ e
 
 -- ---- What holds of each row
 
+-- Codes count from 1.
+pub from-one : (c : ℕ) (r : TypeRow) → rowOf c ≡ some r → 1 ≤ c
+unfolding rows
+from-one c r e = let f = found (λ x. leb 1 (x .code)) tt c r e in omega (arith, f .0, leb→le 1 (r .code) (f .1))
+
 -- The codes up to 18 take at most four registers.
 abbrev fourTest : TypeRow → Bool
 fourTest r = not (leb (r .code) 18) || leb (r .most) 4

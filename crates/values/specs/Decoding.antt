@@ -40,7 +40,7 @@ valueOf row raw =
 
 -- The rows that one value is decoded by: those of the codes 1–18.
 unfoldable pub decodable : ℕ → Option TypeRow
-decodable code = elim (leb code 18) [ true ↦ rowOf code | false ↦ none ]
+decodable code = elim (leb 1 code && leb code 18) [ true ↦ rowOf code | false ↦ none ]
 
 -- One value of four registers, the first ones used. 40: the code is not 1–18.
 unfoldable pub decoded : ℕ → List ℕ → Decoded

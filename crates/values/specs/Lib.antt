@@ -2,5 +2,6 @@ pub mod Rows
 pub mod Registers
 pub mod Classes
 pub mod Decoding
+pub mod Encoding
 pub mod Answers
 pub mod Printed

@@ -1,9 +1,14 @@
 -- Registers and the raw number that they hold (document 01, "The value rows": registers join high first).
 use mathlib.Core.Bool.{Bool, true, false}
 use mathlib.Core.List.{List, [], _∷_}
-use Prim.Native.Nat.{ℕ, zero, suc, _+_, _*_, _/_, _%_, _^_}
+use Prim.Native.Nat.{ℕ, zero, suc, _+_, _*_, _/_, _%_, _^_, _<_}
 use lib.Dec.{leb}
 use lib.ListN.{length}
+
+-- Every number of the list is a register's: below 65536.
+abbrev pub AreRegisters : List ℕ → Type 0
+AreRegisters [] = Unit {0}
+AreRegisters (r ∷ rs) = (r < 65536) × AreRegisters rs
 
 -- The raw number of any number of registers, the first the highest.
 unfoldable pub join : List ℕ → ℕ

@@ -1,0 +1,34 @@
+-- What decoding by a row of the table rests on, where the code is at most 18 and four registers are given.
+use mathlib.Core.Path.{_≡_, sym, ap, _∙_}
+use mathlib.Core.List.{List}
+use mathlib.Core.Option.{some}
+use Prim.Native.Nat.{ℕ, _^_, _≤_, _<_}
+use native.Mathlib.Omega.{arith}
+use lib.ListN.{length, take}
+use lib.Seq.{length-take-le}
+use Rattle.values.specs.Rows.{TypeRow, rowOf}
+use Rattle.values.specs.Registers.{shownRaw}
+use Rattle.values.specs.Classes.{PatternOf}
+use Rattle.values.specs.Decoding.{valueOf, decoded}
+use Rattle.values.proofs.Table.{listed, four-registers}
+use Rattle.values.proofs.Joining.{shown, first-fit}
+use Rattle.values.proofs.ClassCases.{decodes, by-row}
+
+module _ (code : ℕ) (registers : List ℕ) (row : TypeRow) (four : length registers ≡ 4) (most : code ≤ 18)
+    (is : rowOf code ≡ some row) where
+  -- The type's registers are among the four.
+  pub among-four : row .most ≤ length registers
+  among-four = rw four (four-registers code row most is)
+
+  pub first-length : row .most ≡ length (take (row .most) registers)
+  first-length = sym (length-take-le (row .most) registers among-four)
+
+  -- What they hold is a pattern of the type, and its answer is that of `decoded`.
+  pub pattern-of : (raw : ℕ) → raw < 65536 ^ length (take (row .most) registers) → PatternOf row raw
+  pattern-of raw h = record { listed = listed code row is; fits = first-fit registers (row .most) raw among-four h }
+
+  pub answer-of : (raw : ℕ) → raw ≡ shownRaw (take (row .most) registers) → valueOf row raw ≡ decoded code registers
+  answer-of raw e =
+      let l : length (take (row .most) registers) ≤ 4 = omega (arith, first-length, among-four, four) in
+      ap (valueOf row) (e ∙ shown (take (row .most) registers) l)
+      ∙ sym (by-row code registers row (decodes code registers row most is))
