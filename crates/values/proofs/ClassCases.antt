@@ -4,7 +4,8 @@ use mathlib.Core.Bool.{Bool, true, false, _&&_, and-false}
 use mathlib.Core.Option.{Option, none, some}
 use mathlib.Core.List.{List}
 use Prim.Native.Nat.{ℕ, _≤_, _<_}
-use borrow.Author.Tests.{le-leb, lt-leb}
+use native.Mathlib.Omega.{arith}
+use borrow.Author.Tests.{le-leb, lt-leb, leb-true}
 use lib.Dec.{leb}
 use lib.ListN.{take}
 use lib.Ieee.{binary32, ofBits}
@@ -102,3 +103,21 @@ module _ (code : ℕ) (registers : List ℕ) where
   pub by-row : (row : TypeRow) → decodable code ≡ some row → decoded code registers ≡ valueOf row (join (take (row .most) registers))
   unfolding decoded
   by-row row e = simp (decoded, e)
+
+-- The row that a code decodes by is the table's.
+pub row-of-decodable : (code : ℕ) (row : TypeRow) → decodable code ≡ some row → rowOf code ≡ some row
+unfolding decodable
+row-of-decodable code row e = go (leb 1 code && leb code 18) e
+  where
+    go : (b : Bool) → _≡_ {A = Option TypeRow} (elim b [ true ↦ rowOf code | false ↦ none ]) (some row) → rowOf code ≡ some row
+    go true q = q
+    go false q = cc
+
+pub decodable-up-to : (code : ℕ) (row : TypeRow) → decodable code ≡ some row → code ≤ 18
+unfolding decodable
+decodable-up-to code row e = go (leb 1 code) (leb code 18) refl e
+  where
+    go : (a b : Bool) → leb code 18 ≡ b → _≡_ {A = Option TypeRow} (elim (a && b) [ true ↦ rowOf code | false ↦ none ]) (some row) → code ≤ 18
+    go true true t q = leb-true code 18 t
+    go true false t q = let z : _≡_ {A = ℕ} 0 1 = cc in absurd (omega arith)
+    go false b t q = let z : _≡_ {A = ℕ} 0 1 = cc in absurd (omega arith)

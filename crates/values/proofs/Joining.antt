@@ -17,7 +17,7 @@ lower-register raw p r j =
     let e : raw * (p * 65536) ≡ raw * 65536 * p = ap (λ (x : ℕ). raw * x) (mul-comm p 65536) ∙ sym (mul-assoc raw 65536 p) in
     rw (e, add-mul (raw * 65536) r p, add-assoc (raw * 65536 * p) (r * p) j)
 
-join-cons : (r : ℕ) (rs : List ℕ) → join (r ∷ rs) ≡ r * 65536 ^ length rs + join rs
+pub join-cons : (r : ℕ) (rs : List ℕ) → join (r ∷ rs) ≡ r * 65536 ^ length rs + join rs
 unfolding join
 join-cons r rs = refl
 

@@ -5,3 +5,8 @@ pub mod Ranges
 pub mod ClassCases
 pub mod Joining
 pub mod FoundRow
+pub mod DecodedCases
+pub mod ThreeClasses
+pub mod NoNaN
+pub mod Splitting
+pub mod RoundTrip

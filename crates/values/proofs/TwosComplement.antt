@@ -9,6 +9,7 @@ use lib.Dec.{leb}
 use lib.IntN.{ℤ, pos, negsuc, negℤ, _-ℤ_}
 use lib.Signed.{leZ}
 use Rattle.values.specs.Classes.{twosComplement}
+use Rattle.values.specs.Encoding.{twosPattern}
 
 -- A difference below 0.
 pub less : (x m : ℕ) → x < m → pos x -ℤ pos m ≡ negsuc (m - suc x)
@@ -23,6 +24,15 @@ module _ (bits raw : ℕ) where
   pub upper-half : 2 ^ (bits - 1) ≤ raw → raw < 2 ^ bits → twosComplement bits raw ≡ negsuc (2 ^ bits - suc raw)
   unfolding twosComplement
   upper-half h k = simp (twosComplement, le-ltb _ _ h) (less raw (2 ^ bits) k)
+
+  -- The pattern of the number is the pattern it came from.
+  pub pattern-back : raw < 2 ^ bits → twosPattern bits (twosComplement bits raw) ≡ raw
+  pattern-back k = elim (decLe (2 ^ (bits - 1)) raw) [ yes u ↦ upper u | no u ↦ lower (omega arith) ]
+    where
+      lower : raw < 2 ^ (bits - 1) → twosPattern bits (twosComplement bits raw) ≡ raw
+      lower l = rw (lower-half l)
+      upper : 2 ^ (bits - 1) ≤ raw → twosPattern bits (twosComplement bits raw) ≡ raw
+      upper u = rw (upper-half u k) (omega arith)
 
 -- The numbers from -10 to 10 in one register, as a test.
 abbrev withinTen : ℤ → Bool

@@ -1,0 +1,54 @@
+-- Every answer of `decoded` with what it came from: the laws about decoded numbers go by these cases.
+use mathlib.Core.Path.{_≡_, refl, sym, subst}
+use mathlib.Core.List.{List}
+use mathlib.Core.Option.{Option, none, some}
+use Prim.Native.Nat.{ℕ}
+use lib.Ieee.{binary32, ofBits}
+use lib.ListN.{take}
+use Rattle.values.specs.Rows.{TypeRow, Kind}
+use Rattle.values.specs.Registers.{join}
+use Rattle.values.specs.Classes.{Class, classOf, bits, twosComplement}
+use Rattle.values.specs.Decoding.{Decoded, signed, unsigned, float, unimplemented, outOfRange, refused, numberOf, valueOf, decodable, decoded}
+
+-- A pattern's answer: a number by the type's kind where the pattern is a value.
+pub data Answered (row : TypeRow) (raw : ℕ) : Decoded → Type 0 where
+  asSigned : row .kind ≡ Kind.signed → classOf row raw ≡ Class.value → Answered row raw (signed (twosComplement (bits row) raw))
+  asUnsigned : row .kind ≡ Kind.unsigned → classOf row raw ≡ Class.value → Answered row raw (unsigned raw)
+  asFloat : row .kind ≡ Kind.float → classOf row raw ≡ Class.value → Answered row raw (float (ofBits binary32 raw))
+  asUnimplemented : classOf row raw ≡ Class.unimplemented → Answered row raw unimplemented
+  asOutOfRange : classOf row raw ≡ Class.outOfRange → Answered row raw outOfRange
+
+answered : (row : TypeRow) (raw : ℕ) → Answered row raw (valueOf row raw)
+unfolding valueOf numberOf
+answered row raw = by-class (classOf row raw) refl (row .kind) refl
+  where
+    by-class : (c : Class) → classOf row raw ≡ c → (k : Kind) → row .kind ≡ k
+        → Answered row raw
+        (elim c [
+          | Class.value ↦ elim k [
+            | Kind.signed ↦ signed (twosComplement (bits row) raw)
+            | Kind.unsigned ↦ unsigned raw
+            | Kind.float ↦ float (ofBits binary32 raw)
+          ]
+          | Class.unimplemented ↦ unimplemented
+          | Class.outOfRange ↦ outOfRange
+        ])
+    by-class Class.value c Kind.signed k = asSigned k c
+    by-class Class.value c Kind.unsigned k = asUnsigned k c
+    by-class Class.value c Kind.float k = asFloat k c
+    by-class Class.unimplemented c k q = asUnimplemented c
+    by-class Class.outOfRange c k q = asOutOfRange c
+
+-- The answer for a code and registers: by the code's row, or refusal 40.
+pub data Cases (code : ℕ) (registers : List ℕ) : Decoded → Type 0 where
+  byRow : {d : Decoded} (row : TypeRow) → decodable code ≡ some row → Answered row (join (take (row .most) registers)) d → Cases code registers d
+  noRow : decodable code ≡ none → Cases code registers (refused 40)
+
+pub cases : (code : ℕ) (registers : List ℕ) → Cases code registers (decoded code registers)
+unfolding decoded
+cases code registers = go (decodable code) refl
+  where
+    go : (o : Option TypeRow) → decodable code ≡ o
+        → Cases code registers (elim o [ none ↦ refused 40 | some row ↦ valueOf row (join (take (row .most) registers)) ])
+    go none e = noRow e
+    go (some row) e = byRow row e (answered row (join (take (row .most) registers)))
