@@ -10,3 +10,4 @@ pub mod ThreeClasses
 pub mod NoNaN
 pub mod Splitting
 pub mod RoundTrip
+pub mod SignedNumbers

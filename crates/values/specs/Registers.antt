@@ -4,11 +4,11 @@ use mathlib.Core.List.{List, [], _∷_}
 use Prim.Native.Nat.{ℕ, zero, suc, _+_, _*_, _/_, _%_, _^_, _<_}
 use lib.Dec.{leb}
 use lib.ListN.{length}
+use Rattle.values.specs.Each.{Each}
 
 -- Every number of the list is a register's: below 65536.
 abbrev pub AreRegisters : List ℕ → Type 0
-AreRegisters [] = Unit {0}
-AreRegisters (r ∷ rs) = (r < 65536) × AreRegisters rs
+AreRegisters rs = Each (λ r. r < 65536) rs
 
 -- The raw number of any number of registers, the first the highest.
 unfoldable pub join : List ℕ → ℕ

@@ -1,0 +1,70 @@
+-- A decoded signed number is the two's complement of its pattern, and two's complement is what it is everywhere: the one integer
+-- from -2 ^ (bits - 1) up to, not including, 2 ^ (bits - 1) that is the pattern, or 2 ^ bits less.
+use mathlib.Core.Path.{_≡_, refl, sym, ap, subst, _∙_}
+use mathlib.Core.Logic.{_⊎_, inl, inr}
+use mathlib.Core.List.{List}
+use mathlib.Core.Option.{some}
+use Prim.Native.Nat.{ℕ, zero, suc, _-_, _^_, _≤_, _<_}
+use native.Mathlib.Omega.{arith}
+use native.Mathlib.Decide.{decLe}
+use lib.Dec.{T, le→leb, lt→ltb}
+use lib.IntN.{ℤ, pos, negsuc, negℤ, _+ℤ_, -ℤ-+ℤ-cancel}
+use lib.ListN.{length, take}
+use lib.Pow.{pow-pos}
+use lib.Signed.{leZ, _≤ℤ_, _<ℤ_}
+use Rattle.values.specs.Rows.{TypeRow, Kind}
+use Rattle.values.specs.Registers.{AreRegisters, join}
+use Rattle.values.specs.Classes.{bits, twosComplement}
+use Rattle.values.specs.Decoding.{Decoded, signed, decodable, decoded}
+use Rattle.values.proofs.Table.{listed, signed-width}
+use Rattle.values.proofs.ClassCases.{row-of-decodable}
+use Rattle.values.proofs.TwosComplement.{lower-half, upper-half, less}
+use Rattle.values.proofs.MachineIntegers.{halves}
+use Rattle.values.proofs.DecodedCases.{asSigned, Cases, byRow, cases}
+use Rattle.values.proofs.RoundTrip.{holds-pattern}
+
+pub record TwosComplementOf (width raw : ℕ) (z : ℤ) : Type 0 where
+  pub low : negℤ (pos (2 ^ (width - 1))) ≤ℤ z
+  pub high : z <ℤ pos (2 ^ (width - 1))
+  pub same : (z ≡ pos raw) ⊎ (z +ℤ pos (2 ^ width) ≡ pos raw)
+
+negative-le : (h x : ℕ) → negℤ (pos h) ≤ℤ pos x
+negative-le zero x = record { le = le→leb 0 x (omega arith) }
+negative-le (suc h) x = record { le = tt }
+
+negative-le-negative : (h k : ℕ) → k < h → negℤ (pos h) ≤ℤ negsuc k
+negative-le-negative zero k l = absurd (omega arith)
+negative-le-negative (suc h) k l = record { le = le→leb k h (omega arith) }
+
+module _ (width raw : ℕ) (wide : 1 ≤ width) (fits : raw < 2 ^ width) where
+  pub twos-complement : TwosComplementOf width raw (twosComplement width raw)
+  twos-complement = elim (decLe (2 ^ (width - 1)) raw) [ yes u ↦ upper u | no u ↦ lower (omega arith) ]
+    where
+      lower : raw < 2 ^ (width - 1) → TwosComplementOf width raw (twosComplement width raw)
+      lower l =
+          rw (lower-half width raw l)
+          (record { low = negative-le (2 ^ (width - 1)) raw; high = record { lt = lt→ltb raw (2 ^ (width - 1)) l }; same = inl refl })
+      upper : 2 ^ (width - 1) ≤ raw → TwosComplementOf width raw (twosComplement width raw)
+      upper u =
+          rw (upper-half width raw u fits)
+          (record {
+            low = negative-le-negative (2 ^ (width - 1)) (2 ^ width - suc raw) (omega (arith, halves width wide));
+            high = record { lt = tt };
+            same = inr (ap (λ (y : ℤ). y +ℤ pos (2 ^ width)) (sym (less raw (2 ^ width) fits)) ∙ -ℤ-+ℤ-cancel (pos raw) (pos (2 ^ width)))
+          })
+
+module _ (code : ℕ) (registers : List ℕ) (four : length registers ≡ 4) (all : AreRegisters registers) where
+  pub signed-number : (row : TypeRow) → decodable code ≡ some row → (z : ℤ) → decoded code registers ≡ signed z
+      → TwosComplementOf (bits row) (join (take (row .most) registers)) z
+  signed-number row e z q = go z (subst (Cases code registers) q (cases code registers))
+    where
+      at : (r : TypeRow) → decodable code ≡ some r → r .kind ≡ Kind.signed
+          → TwosComplementOf (bits r) (join (take (r .most) registers)) (twosComplement (bits r) (join (take (r .most) registers)))
+      at r is k =
+          twos-complement (bits r) (join (take (r .most) registers))
+          (omega (arith, signed-width r (listed code r (row-of-decodable code r is)) k)) (holds-pattern code registers four all r is .fits)
+      go : (y : ℤ) → Cases code registers (signed y) → TwosComplementOf (bits row) (join (take (row .most) registers)) y
+      go y (byRow other is (asSigned k v)) =
+          let s : other ≡ row = cc in
+          subst (λ (r : TypeRow). TwosComplementOf (bits r) (join (take (r .most) registers)) (twosComplement (bits other) (join (take (other .most) registers)))) s
+          (at other is k)
