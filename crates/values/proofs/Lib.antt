@@ -11,3 +11,6 @@ pub mod NoNaN
 pub mod Splitting
 pub mod RoundTrip
 pub mod SignedNumbers
+pub mod PrintedRanges
+pub mod IntegerOrder
+pub mod Tests

@@ -26,11 +26,11 @@ module _ (row : TypeRow) (raw : ℕ) where
   unfolding inRange
   in-not-nan e = rw e
 
-  signed-integer : row .kind ≡ signed → integer row raw ≡ twosComplement (16 * row .most) raw
+  pub signed-integer : row .kind ≡ signed → integer row raw ≡ twosComplement (16 * row .most) raw
   unfolding integer
   signed-integer e = rw e
 
-  plain-integer : (row .kind ≡ signed → ⊥) → integer row raw ≡ pos raw
+  pub plain-integer : (row .kind ≡ signed → ⊥) → integer row raw ≡ pos raw
   unfolding integer
   plain-integer n = go (row .kind) refl
     where

@@ -7,15 +7,15 @@ use mathlib.Core.Option.{some}
 use Prim.Native.Nat.{ℕ, zero, suc, _-_, _^_, _≤_, _<_}
 use native.Mathlib.Omega.{arith}
 use native.Mathlib.Decide.{decLe}
-use lib.Dec.{T, le→leb, lt→ltb}
+use lib.Dec.{lt→ltb}
 use lib.IntN.{ℤ, pos, negsuc, negℤ, _+ℤ_, -ℤ-+ℤ-cancel}
 use lib.ListN.{length, take}
-use lib.Pow.{pow-pos}
-use lib.Signed.{leZ, _≤ℤ_, _<ℤ_}
+use lib.Signed.{_≤ℤ_, _<ℤ_}
 use Rattle.values.specs.Rows.{TypeRow, Kind}
 use Rattle.values.specs.Registers.{AreRegisters, join}
 use Rattle.values.specs.Classes.{bits, twosComplement}
 use Rattle.values.specs.Decoding.{Decoded, signed, decodable, decoded}
+use Rattle.values.proofs.IntegerOrder.{negative-le, negative-le-negative}
 use Rattle.values.proofs.Table.{listed, signed-width}
 use Rattle.values.proofs.ClassCases.{row-of-decodable}
 use Rattle.values.proofs.TwosComplement.{lower-half, upper-half, less}
@@ -28,14 +28,6 @@ pub record TwosComplementOf (width raw : ℕ) (z : ℤ) : Type 0 where
   pub high : z <ℤ pos (2 ^ (width - 1))
   pub same : (z ≡ pos raw) ⊎ (z +ℤ pos (2 ^ width) ≡ pos raw)
 
-negative-le : (h x : ℕ) → negℤ (pos h) ≤ℤ pos x
-negative-le zero x = record { le = le→leb 0 x (omega arith) }
-negative-le (suc h) x = record { le = tt }
-
-negative-le-negative : (h k : ℕ) → k < h → negℤ (pos h) ≤ℤ negsuc k
-negative-le-negative zero k l = absurd (omega arith)
-negative-le-negative (suc h) k l = record { le = le→leb k h (omega arith) }
-
 module _ (width raw : ℕ) (wide : 1 ≤ width) (fits : raw < 2 ^ width) where
   pub twos-complement : TwosComplementOf width raw (twosComplement width raw)
   twos-complement = elim (decLe (2 ^ (width - 1)) raw) [ yes u ↦ upper u | no u ↦ lower (omega arith) ]
@@ -43,12 +35,12 @@ module _ (width raw : ℕ) (wide : 1 ≤ width) (fits : raw < 2 ^ width) where
       lower : raw < 2 ^ (width - 1) → TwosComplementOf width raw (twosComplement width raw)
       lower l =
           rw (lower-half width raw l)
-          (record { low = negative-le (2 ^ (width - 1)) raw; high = record { lt = lt→ltb raw (2 ^ (width - 1)) l }; same = inl refl })
+          (record { low = record { le = negative-le (2 ^ (width - 1)) raw }; high = record { lt = lt→ltb raw (2 ^ (width - 1)) l }; same = inl refl })
       upper : 2 ^ (width - 1) ≤ raw → TwosComplementOf width raw (twosComplement width raw)
       upper u =
           rw (upper-half width raw u fits)
           (record {
-            low = negative-le-negative (2 ^ (width - 1)) (2 ^ width - suc raw) (omega (arith, halves width wide));
+            low = record { le = negative-le-negative (2 ^ (width - 1)) (2 ^ width - suc raw) (omega (arith, halves width wide)) };
             high = record { lt = tt };
             same = inr (ap (λ (y : ℤ). y +ℤ pos (2 ^ width)) (sym (less raw (2 ^ width) fits)) ∙ -ℤ-+ℤ-cancel (pos raw) (pos (2 ^ width)))
           })

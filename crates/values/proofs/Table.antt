@@ -3,12 +3,13 @@ use mathlib.Core.Path.{_≡_, refl, sym, ap, subst, _∙_}
 use mathlib.Core.Bool.{Bool, true, false, not, _&&_, _||_}
 use mathlib.Core.List.{List, [], _∷_}
 use mathlib.Core.Option.{Option, none, some}
-use Prim.Native.Nat.{ℕ, _≤_}
+use Prim.Native.Nat.{ℕ, _-_, _*_, _^_, _≤_}
 use native.Mathlib.Omega.{arith}
 use borrow.Author.Tests.{ne-eqb, eqb-true, le-leb}
 use lib.Dec.{T, eqb, leb, eqb→eq, leb→le}
 use lib.IntN.{ℤ, pos, negsuc}
-use Rattle.values.specs.Rows.{TypeRow, Kind, signed, unsigned, float, Range, whole, between, notNaN, rows, rowAmong, rowOf, Listed}
+use Rattle.values.proofs.Tests.{both-left, both-right, every}
+use Rattle.values.specs.Rows.{TypeRow, Kind, signed, unsigned, float, Marker, never, pattern, Range, whole, between, notNaN, rows, rowAmong, rowOf, Listed}
 
 -- A row of another code is passed over.
 pub passed : (r : TypeRow) (rs : List TypeRow) (c : ℕ) → (c ≡ r .code → ⊥) → rowAmong rs c ≡ none → rowAmong (r ∷ rs) c ≡ none
@@ -19,32 +20,19 @@ pub at-end : (c : ℕ) → rowAmong [] c ≡ none
 unfolding rowAmong
 at-end c = refl
 
-left : (a b : Bool) → T (a && b) → T a
-left true b t = tt
-left false b t = t
-
-right : (a b : Bool) → T (a && b) → T b
-right true b t = t
-right false b t = absurd t
-
--- A test that passes at each row of a list.
-abbrev every : (TypeRow → Bool) → List TypeRow → Bool
-every test [] = true
-every test (r ∷ rs) = test r && every test rs
-
 -- The row found is one of the list, with the code looked for.
 found-among : (test : TypeRow → Bool) (rs : List TypeRow) (c : ℕ) (r : TypeRow) → T (every test rs) → rowAmong rs c ≡ some r
     → (c ≡ r .code) × T (test r)
 unfolding rowAmong
 found-among test [] c r t e = let z : _≡_ {A = ℕ} 0 1 = cc in absurd (omega arith)
 found-among test (x ∷ rs) c r t e =
-    go (eqb c (x .code)) refl e (λ q. found-among test rs c r (right (test x) (every test rs) t) q)
+    go (eqb c (x .code)) refl e (λ q. found-among test rs c r (both-right (test x) (every test rs) t) q)
   where
     go : (b : Bool) → eqb c (x .code) ≡ b → elim b [ true ↦ some x | false ↦ rowAmong rs c ] ≡ some r
         → (rowAmong rs c ≡ some r → (c ≡ r .code) × T (test r)) → (c ≡ r .code) × T (test r)
     go true b q ih =
         let s : x ≡ r = cc in
-        (eqb-true c (x .code) b ∙ ap (λ (y : TypeRow). y .code) s, subst (λ (y : TypeRow). T (test y)) s (left (test x) (every test rs) t))
+        (eqb-true c (x .code) b ∙ ap (λ (y : TypeRow). y .code) s, subst (λ (y : TypeRow). T (test y)) s (both-left (test x) (every test rs) t))
     go false b q ih = ih q
 
 -- A test that passes at each row of the table passes at a row that is found there.
@@ -89,7 +77,7 @@ module _ (r : TypeRow) (l : Listed r) where
   pub signed-width : r .kind ≡ signed → (1 ≤ r .most) × (r .most ≤ 4)
   signed-width k =
       let t = rw k at kinds in
-      (leb→le 1 (r .most) (left (leb 1 (r .most)) (leb (r .most) 4) t), leb→le (r .most) 4 (right (leb 1 (r .most)) (leb (r .most) 4) t))
+      (leb→le 1 (r .most) (both-left (leb 1 (r .most)) (leb (r .most) 4) t), leb→le (r .most) 4 (both-right (leb 1 (r .most)) (leb (r .most) 4) t))
 
   pub float-row : r .kind ≡ float → (r .most ≡ 2) × (r .range ≡ notNaN)
   float-row k = go (r .range) refl (rw k at kinds)
@@ -125,3 +113,18 @@ module _ (r : TypeRow) (l : Listed r) where
       go signed q t = (q, eqb→eq (r .most) 1 t)
       go unsigned q t = absurd t
       go float q t = absurd t
+
+-- A signed type without a narrower range leaves its least pattern to the marker, and only a float's range is that of a float.
+abbrev pub edgeTest : Range → Kind → Marker → ℕ → Bool
+edgeTest (between low high) k m width = true
+edgeTest whole signed never width = false
+edgeTest whole signed (pattern p) width = eqb p (2 ^ (width - 1))
+edgeTest whole unsigned m width = true
+edgeTest whole float m width = true
+edgeTest notNaN signed m width = false
+edgeTest notNaN unsigned m width = false
+edgeTest notNaN float m width = true
+
+pub edges : (r : TypeRow) → Listed r → T (edgeTest (r .range) (r .kind) (r .marker) (16 * r .most))
+unfolding rows
+edges r l = found (λ x. edgeTest (x .range) (x .kind) (x .marker) (16 * x .most)) tt (r .code) r l .1

@@ -1,0 +1,156 @@
+-- Every decoded integer lies in the range that document 000 prints for its type.
+use mathlib.Core.Path.{_≡_, refl, sym, ap, subst, _∙_}
+use mathlib.Core.Bool.{Bool, true, false, _&&_}
+use mathlib.Core.List.{List, [], _∷_}
+use mathlib.Core.Option.{Option, none, some}
+use Prim.Native.Nat.{ℕ, zero, suc, _-_, _*_, _^_, _≤_, _<_}
+use native.Mathlib.Nat.{le-trans}
+use native.Mathlib.Omega.{arith}
+use native.Mathlib.Decide.{decLe}
+use borrow.Author.Tests.{eqb-false, eq-eqb}
+use lib.Dec.{T, eqb, leb→le, le→leb, eqb→eq}
+use lib.IntN.{ℤ, pos, negsuc, negℤ}
+use lib.ListN.{length, take}
+use lib.Pow.{pow-pos}
+use lib.Signed.{leZ, _≤ℤ_}
+use Rattle.values.specs.Each.{Each}
+use Rattle.values.specs.Rows.{TypeRow, Kind, signed, unsigned, float, Marker, never, pattern, Range, whole, between, notNaN, rows, rowAmong, rowOf}
+use Rattle.values.specs.Registers.{AreRegisters, join}
+use Rattle.values.specs.Classes as classes
+use Rattle.values.specs.Classes.{bits, twosComplement, integer, isMarker, inRange, classOf, PatternOf}
+use Rattle.values.specs.Decoding.{Decoded, decoded, decodable}
+use Rattle.values.specs.Printed.{PrintedRange, printed, Within}
+use Rattle.values.proofs.Tests.{both-left, both-right, passes, every}
+use Rattle.values.proofs.IntegerOrder.{le-le, negative-le, negative-le-negative}
+use Rattle.values.proofs.ThreeClasses.{class-is-its-tests}
+use Rattle.values.proofs.Ranges.{in-between, plain-integer, signed-integer}
+use Rattle.values.proofs.TwosComplement.{lower-half, upper-half}
+use Rattle.values.proofs.MachineIntegers.{halves}
+use Rattle.values.proofs.Table.{signed-width, edgeTest, edges}
+use Rattle.values.proofs.ClassCases.{row-of-decodable}
+use Rattle.values.proofs.DecodedCases.{Answered, asSigned, asUnsigned, asFloat, asUnimplemented, asOutOfRange, Cases, byRow, noRow, cases}
+use Rattle.values.proofs.RoundTrip.{holds-pattern}
+
+-- The least and the greatest integer that a row leaves a value.
+abbrev leastIn : Range → Kind → ℕ → ℤ
+leastIn (between low high) k width = low
+leastIn whole signed width = negℤ (pos (2 ^ (width - 1) - 1))
+leastIn whole unsigned width = pos 0
+leastIn whole float width = pos 0
+leastIn notNaN k width = pos 0
+
+abbrev greatestIn : Range → Kind → ℕ → Bool → ℤ
+greatestIn (between low high) k width onesMarked = high
+greatestIn whole signed width onesMarked = pos (2 ^ (width - 1) - 1)
+greatestIn whole unsigned width true = pos (2 ^ width - 2)
+greatestIn whole unsigned width false = pos (2 ^ width - 1)
+greatestIn whole float width onesMarked = pos 0
+greatestIn notNaN k width onesMarked = pos 0
+
+onesMarked : TypeRow → Bool
+onesMarked row = isMarker (row .marker) (2 ^ bits row - 1)
+
+least : TypeRow → ℤ
+least row = leastIn (row .range) (row .kind) (bits row)
+
+greatest : TypeRow → ℤ
+greatest row = greatestIn (row .range) (row .kind) (bits row) (onesMarked row)
+
+-- An integer from the row's least to its greatest.
+abbrev Bounded : TypeRow → ℤ → Type 0
+Bounded row z = T (leZ (least row) z) × T (leZ z (greatest row))
+
+never-both : false ≡ true → ⊥
+never-both e = subst T (sym e) tt
+
+other-kind : unsigned ≡ signed → ⊥
+other-kind e = let z : _≡_ {A = ℕ} 0 1 = cc in omega arith
+
+module _ (row : TypeRow) (raw : ℕ) (p : PatternOf row raw) (v : classOf row raw ≡ classes.value) where
+  unmarked : isMarker (row .marker) raw ≡ false
+  unmarked = class-is-its-tests row raw classes.value .0 v .0
+
+  in-range : inRange row raw ≡ true
+  in-range = class-is-its-tests row raw classes.value .0 v .1
+
+  -- A row's own range bounds the integer.
+  inside : (low high z : ℤ) → row .range ≡ between low high → integer row raw ≡ z → T (leZ low z) × T (leZ z high)
+  inside low high z e y =
+      let t : T (leZ low z && leZ z high) = passes _ (sym (in-between row raw low high e ∙ ap (λ (x : ℤ). leZ low x && leZ x high) y) ∙ in-range) in
+      (both-left (leZ low z) (leZ z high) t, both-right (leZ low z) (leZ z high) t)
+
+  -- Else a signed type's marker takes the least pattern away.
+  signed-bounded : row .kind ≡ signed → Bounded row (twosComplement (bits row) raw)
+  unfolding least greatest onesMarked
+  signed-bounded k = rw k (go (row .range) refl)
+    where
+      off-edge : (m : Marker) → row .marker ≡ m → T (edgeTest whole signed m (bits row)) → raw ≡ 2 ^ (bits row - 1) → ⊥
+      off-edge never e t q = t
+      off-edge (pattern x) e t q = eqb-false raw x (rw e at unmarked) (q ∙ sym (eqb→eq x (2 ^ (bits row - 1)) t))
+      half : (raw ≡ 2 ^ (bits row - 1) → ⊥) → Dec (2 ^ (bits row - 1) ≤ raw)
+          → T (leZ (leastIn whole signed (bits row)) (twosComplement (bits row) raw)) × T (leZ (twosComplement (bits row) raw) (pos (2 ^ (bits row - 1) - 1)))
+      half n (yes u) =
+          let h = halves (bits row) (omega (arith, signed-width row (p .listed) k)) in
+          rw (upper-half (bits row) raw u (p .fits))
+          (negative-le-negative (2 ^ (bits row - 1) - 1) (2 ^ bits row - suc raw) (omega (arith, h, p .fits, n)), tt)
+      half n (no u) =
+          rw (lower-half (bits row) raw (omega arith))
+          (negative-le (2 ^ (bits row - 1) - 1) raw, le→leb raw (2 ^ (bits row - 1) - 1) (omega arith))
+      go : (r : Range) → row .range ≡ r
+          → T (leZ (leastIn r signed (bits row)) (twosComplement (bits row) raw))
+          × T (leZ (twosComplement (bits row) raw) (greatestIn r signed (bits row) (onesMarked row)))
+      go whole e = half (off-edge (row .marker) refl (rw (e, k) at (edges row (p .listed)))) (decLe (2 ^ (bits row - 1)) raw)
+      go (between low high) e = inside low high (twosComplement (bits row) raw) e (signed-integer row raw k)
+      go notNaN e = absurd (rw (e, k) at (edges row (p .listed)))
+
+  -- And an unsigned type's marker may take the greatest.
+  unsigned-bounded : row .kind ≡ unsigned → Bounded row (pos raw)
+  unfolding least greatest onesMarked
+  unsigned-bounded k = rw k (go (row .range) refl)
+    where
+      top : (b : Bool) → onesMarked row ≡ b → T (leZ (pos raw) (greatestIn whole unsigned (bits row) b))
+      top true e =
+          let n : raw ≡ 2 ^ bits row - 1 → ⊥ = λ q. never-both (sym unmarked ∙ ap (isMarker (row .marker)) q ∙ e) in
+          le→leb raw (2 ^ bits row - 2) (omega (arith, p .fits, n))
+      top false e = le→leb raw (2 ^ bits row - 1) (omega (arith, p .fits))
+      go : (r : Range) → row .range ≡ r
+          → T (leZ (leastIn r unsigned (bits row)) (pos raw)) × T (leZ (pos raw) (greatestIn r unsigned (bits row) (onesMarked row)))
+      go whole e = (le→leb 0 raw (omega arith), top (onesMarked row) refl)
+      go (between low high) e = inside low high (pos raw) e (plain-integer row raw (λ q. other-kind (sym k ∙ q)))
+      go notNaN e = absurd (rw (e, k) at (edges row (p .listed)))
+
+-- The row of a printed range leaves no value outside it: computed for each.
+rowInside : PrintedRange → Option TypeRow → Bool
+rowInside r none = false
+rowInside r (some row) = leZ (r .least) (least row) && leZ (greatest row) (r .greatest)
+
+printed-rows : T (every (λ r. rowInside r (rowOf (r .code))) printed)
+unfolding printed rows rowAmong rowInside least greatest onesMarked
+printed-rows = tt
+
+module _ (registers : List ℕ) (four : length registers ≡ 4) (all : AreRegisters registers) where
+  module _ (r : PrintedRange) (t : T (rowInside r (rowOf (r .code)))) where
+    bounds : (row : TypeRow) → decodable (r .code) ≡ some row → (z : ℤ) → Bounded row z → (r .least ≤ℤ z) × (z ≤ℤ r .greatest)
+    unfolding rowInside
+    bounds row e z b =
+        let s = rw (row-of-decodable (r .code) row e) at t in
+        (record { le = le-le (r .least) (least row) z (both-left (leZ (r .least) (least row)) (leZ (greatest row) (r .greatest)) s) (b .0) },
+          record { le = le-le z (greatest row) (r .greatest) (b .1) (both-right (leZ (r .least) (least row)) (leZ (greatest row) (r .greatest)) s) })
+
+    in-printed : (d : Decoded) → Cases (r .code) registers d → Within r d
+    in-printed d (byRow row e (asSigned k v)) = bounds row e _ (signed-bounded row _ (holds-pattern (r .code) registers four all row e) v k)
+    in-printed d (byRow row e (asUnsigned k v)) = bounds row e _ (unsigned-bounded row _ (holds-pattern (r .code) registers four all row e) v k)
+    in-printed d (byRow row e (asFloat k v)) = tt
+    in-printed d (byRow row e (asUnimplemented v)) = tt
+    in-printed d (byRow row e (asOutOfRange v)) = tt
+    in-printed d (noRow e) = tt
+
+  -- The claim, over the whole printed table.
+  pub within-printed : Each (λ r. Within r (decoded (r .code) registers)) printed
+  within-printed = go printed printed-rows
+    where
+      go : (rs : List PrintedRange) → T (every (λ r. rowInside r (rowOf (r .code))) rs) → Each (λ r. Within r (decoded (r .code) registers)) rs
+      go [] t = tt
+      go (r ∷ rs) t =
+          let test : PrintedRange → Bool = λ x. rowInside x (rowOf (x .code)) in
+          (in-printed r (both-left (test r) (every test rs) t) (decoded (r .code) registers) (cases (r .code) registers), go rs (both-right (test r) (every test rs) t))
