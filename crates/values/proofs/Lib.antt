@@ -14,3 +14,4 @@ pub mod SignedNumbers
 pub mod PrintedRanges
 pub mod IntegerOrder
 pub mod Tests
+pub mod RefusedCodes
