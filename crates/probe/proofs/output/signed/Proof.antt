@@ -1,0 +1,80 @@
+-- `probe::output::signed` meets its contract: -1 less a number below 0 is a number from 0 on. Assumes nothing.
+use Prim.Native.Nat.{ℕ, suc, _-_, _<_, _^_}
+use native.Mathlib.Omega.{arith}
+use mathlib.Core.Path.{_≡_}
+use mathlib.Core.Bool.{true, false}
+use borrow.Author.Needs.{needs}
+use borrow.Author.Tests.{ltb-true, le-ltb}
+use lib.Dec.{T}
+use lib.IntN.{ℤ, pos, negsuc, natAbs, _-ℤ_}
+use lib.Signed.{ltZ, nonNeg}
+use mir.Syntax.{w64}
+use mir.Val.{SFits, Fits}
+use mir.Facts.{fits-ofZ, sfits-toZ, toZ-pos}
+use Rattle.probe.proofs.output.signed.Statement.{statement}
+use Rattle.probe.proofs.output.signed.Tie as tie
+
+-- what a number below 0 leaves of -1
+record Left (z : ℤ) : Type 0 where
+  number : ℕ
+  small : number < 2 ^ 63
+  is : negsuc 0 -ℤ z ≡ pos number
+
+below : (z : ℤ) → SFits w64 z → ltZ z (pos 0) ≡ true → Left z
+below (pos n) f t = absurd (omega (arith, ltb-true n 0 t))
+below (negsuc n) f t = record { number = suc n - 1; small = omega arith; is = simp (le-ltb (suc n) 1 (omega arith)) }
+
+not-below : (z : ℤ) → SFits w64 z → ltZ z (pos 0) ≡ false → T (nonNeg z) × Fits w64 (natAbs z)
+not-below (pos n) f t = (tt, record { fits = omega arith })
+not-below (negsuc n) f t = let z : _≡_ {A = ℕ} 0 1 = cc in absurd (omega arith)
+
+slice-aggregate-text : tie.Need-slice-aggregate-text
+slice-aggregate-text c = search needs
+
+text-requires : tie.Need-text-requires
+text-requires c κs = search needs
+
+sub-unsigned : tie.Need-sub-unsigned
+sub-unsigned c =
+    let l = below _ (sfits-toZ (fits-ofZ (c .before .before .before .fits .n))) (c .before .before .if1 .taken) in
+    rw (l .is) (record { sfits = l .small })
+
+cast-unsigned : tie.Need-cast-unsigned
+cast-unsigned c =
+    let l = below _ (sfits-toZ (fits-ofZ (c .before .before .before .fits .n))) (c .before .before .if1 .taken) in
+    rw (l .is, toZ-pos w64 (l .small)) (tt, record { fits = omega arith })
+
+add-unsigned : tie.Need-add-unsigned
+add-unsigned c =
+    let l = below _ (sfits-toZ (fits-ofZ (c .before .before .before .fits .n))) (c .before .before .if1 .taken) in
+    rw (l .is, toZ-pos w64 (l .small)) (record { fits = omega arith })
+
+unsigned-requires : tie.Need-unsigned-requires
+unsigned-requires c κs = search needs
+
+cast-unsigned-2 : tie.Need-cast-unsigned-2
+cast-unsigned-2 c = not-below _ (sfits-toZ (fits-ofZ (c .before .fits .n))) (c .if1 .left)
+
+unsigned-requires-2 : tie.Need-unsigned-requires-2
+unsigned-requires-2 c κs = search needs
+
+returns : tie.Need-returns
+returns c = search needs
+
+returns-2 : tie.Need-returns-2
+returns-2 c = search needs
+
+pub signed-spec : {M : Type 1} → statement M
+signed-spec =
+    tie.close
+    (tie.spec
+    slice-aggregate-text
+    text-requires
+    sub-unsigned
+    cast-unsigned
+    add-unsigned
+    unsigned-requires
+    cast-unsigned-2
+    unsigned-requires-2
+    returns
+    returns-2)

@@ -1,0 +1,198 @@
+// The fields of a line. A field is one space and at least one byte behind it, up to the next space or
+// the line's end. A position may be any number: past the line's end stands no field.
+ghost use Prim.Native.Nat.{_+_, _*_, _≤_, min};
+ghost use lib.ListN.{length};
+ghost use Rattle.io.specs.Counts.{Counts};
+ghost use Rattle.probe.specs.Fields.{AtMost, Stored};
+
+// Where a field's text lies in its line. Where there is no field it is empty.
+struct Span {
+    start: usize,
+    end: usize,
+}
+
+// A number, and the position behind its field.
+pub(crate) enum Number {
+    Of { value: u64, next: usize },
+    Bad,
+}
+
+// The same, for a number of 16 bits.
+pub(crate) enum Number16 {
+    Of { value: u16, next: usize },
+    Bad,
+}
+
+// How many words were stored, and the position behind their field.
+pub(crate) enum Words {
+    Of { count: usize, next: usize },
+    Bad,
+}
+
+// What a byte that is no hexadecimal digit counts for: more than any word.
+const NO_DIGIT: u32 = 65536;
+
+// Where `byte` stands first in `s` from `start` on, or the end of `s` where it doesn't.
+pub(crate) fn find(s: &[u8], start: usize, byte: u8) -> usize
+    ensures { λ r. ⌜ min start (length (now (s .entry))) ≤ r ⌝ }
+    ensures { λ r. ⌜ Counts r (now (s .entry)) ⌝ }
+{
+    let mut i = start;
+    while i < s.len() {
+        if s[i] == byte {
+            return i;
+        }
+        i += 1;
+    }
+    s.len()
+}
+
+pub(crate) fn same(a: &[u8], b: &[u8]) -> bool {
+    if a.len() != b.len() {
+        return false;
+    }
+    let mut i = 0;
+    while i < a.len() {
+        if a[i] != b[i] {
+            return false;
+        }
+        i += 1;
+    }
+    true
+}
+
+pub(crate) fn nothing_left(line: &[u8], at: usize) -> bool {
+    at == line.len()
+}
+
+// The field whose space is at `at`.
+fn field_at(line: &[u8], at: usize) -> Span
+    ensures { λ r. ⌜ (r .start ≤ r .end) × (r .end ≤ length (now (line .entry))) ⌝ }
+{
+    if line.len() <= at {
+        return Span { start: 0, end: 0 };
+    }
+    if line[at] != b' ' {
+        return Span { start: 0, end: 0 };
+    }
+    let start = at + 1;
+    Span {
+        start,
+        end: find(line, start, b' '),
+    }
+}
+
+// The field at `at` as a decimal number of at most `bound`. The bound is tried before each digit is
+// added, so that no number of digits overflows.
+pub(crate) fn decimal_field(line: &[u8], at: usize, bound: u64) -> Number
+    ensures { λ r. ⌜ AtMost bound r ⌝ }
+{
+    let field = field_at(line, at);
+    let start = field.start;
+    let end = field.end;
+    if start == end {
+        return Number::Bad;
+    }
+    let mut value = 0u64;
+    let mut i = start;
+    while i < end {
+        let digit = decimal_digit(line[i]);
+        if 9 < digit || bound < digit {
+            return Number::Bad;
+        }
+        if (bound - digit) / 10 < value {
+            return Number::Bad;
+        }
+        value = value * 10 + digit;
+        i += 1;
+    }
+    Number::Of { value, next: end }
+}
+
+// The field at `at` as a decimal number of 16 bits.
+pub(crate) fn u16_field(line: &[u8], at: usize) -> Number16 {
+    let number = decimal_field(line, at, 65535);
+    let Number::Of { value, next } = number else {
+        return Number16::Bad;
+    };
+    Number16::Of {
+        value: value as u16,
+        next,
+    }
+}
+
+// The value of a decimal digit, and 10 for any other byte.
+fn decimal_digit(b: u8) -> u64 {
+    match b {
+        b'0'..=b'9' => (b - b'0') as u64,
+        _ => 10,
+    }
+}
+
+// Stores the words of the field at `at`, `-` for none or four hexadecimal digits for each, at the
+// start of `out`. Where the field is bad, some of them may have been stored.
+pub(crate) fn words_field(line: &[u8], at: usize, out: &mut [u16]) -> Words
+    ensures { λ r. ⌜ Stored (now (out .exit)) r ⌝ }
+{
+    let field = field_at(line, at);
+    let start = field.start;
+    let end = field.end;
+    if start == end {
+        return Words::Bad;
+    }
+    if same(&line[start..end], b"-") {
+        return Words::Of {
+            count: 0,
+            next: end,
+        };
+    }
+    let count = (end - start) / 4;
+    if (end - start) % 4 != 0 {
+        return Words::Bad;
+    }
+    if out.len() < count {
+        return Words::Bad;
+    }
+    if !store_words(line, start, count, out) {
+        return Words::Bad;
+    }
+    Words::Of { count, next: end }
+}
+
+// Stores `count` words, whose digits start at `start`. False where one is no digit.
+fn store_words(line: &[u8], start: usize, count: usize, out: &mut [u16]) -> bool
+    requires { ⌜ (start + count * 4 ≤ length (now line)) × (count ≤ length (now out)) ⌝ }
+    ensures { λ _. ⌜ Counts count (now (out .exit)) ⌝ }
+{
+    let mut k = 0;
+    while k < count {
+        let word = word_at(line, start + k * 4);
+        if 65535 < word {
+            return false;
+        }
+        out[k] = word as u16;
+        k += 1;
+    }
+    true
+}
+
+// The word of the four digits from `at` on, or a number above 65535 where one is no digit.
+fn word_at(line: &[u8], at: usize) -> u32
+    requires { ⌜ at + 4 ≤ length (now line) ⌝ }
+{
+    hex_digit(line[at]) * 4096
+        + hex_digit(line[at + 1]) * 256
+        + hex_digit(line[at + 2]) * 16
+        + hex_digit(line[at + 3])
+}
+
+fn hex_digit(b: u8) -> u32
+    ensures { λ r. ⌜ r ≤ 65536 ⌝ }
+{
+    match b {
+        b'0'..=b'9' => (b - b'0') as u32,
+        b'A'..=b'F' => (b - b'A' + 10) as u32,
+        b'a'..=b'f' => (b - b'a' + 10) as u32,
+        _ => NO_DIGIT,
+    }
+}
