@@ -15,3 +15,4 @@ pub mod PrintedRanges
 pub mod IntegerOrder
 pub mod Tests
 pub mod RefusedCodes
+pub mod CodeTable

@@ -87,6 +87,7 @@ module _ (row : TypeRow) (raw : ℕ) (p : PatternOf row raw) (v : classOf row ra
       off-edge : (m : Marker) → row .marker ≡ m → T (edgeTest whole signed m (bits row)) → raw ≡ 2 ^ (bits row - 1) → ⊥
       off-edge never e t q = t
       off-edge (pattern x) e t q = eqb-false raw x (rw e at unmarked) (q ∙ sym (eqb→eq x (2 ^ (bits row - 1)) t))
+
       half : (raw ≡ 2 ^ (bits row - 1) → ⊥) → Dec (2 ^ (bits row - 1) ≤ raw)
           → T (leZ (leastIn whole signed (bits row)) (twosComplement (bits row) raw)) × T (leZ (twosComplement (bits row) raw) (pos (2 ^ (bits row - 1) - 1)))
       half n (yes u) =
@@ -96,6 +97,7 @@ module _ (row : TypeRow) (raw : ℕ) (p : PatternOf row raw) (v : classOf row ra
       half n (no u) =
           rw (lower-half (bits row) raw (omega arith))
           (negative-le (2 ^ (bits row - 1) - 1) raw, le→leb raw (2 ^ (bits row - 1) - 1) (omega arith))
+
       go : (r : Range) → row .range ≡ r
           → T (leZ (leastIn r signed (bits row)) (twosComplement (bits row) raw))
           × T (leZ (twosComplement (bits row) raw) (greatestIn r signed (bits row) (onesMarked row)))
@@ -113,6 +115,7 @@ module _ (row : TypeRow) (raw : ℕ) (p : PatternOf row raw) (v : classOf row ra
           let n : raw ≡ 2 ^ bits row - 1 → ⊥ = λ q. never-both (sym unmarked ∙ ap (isMarker (row .marker)) q ∙ e) in
           le→leb raw (2 ^ bits row - 2) (omega (arith, p .fits, n))
       top false e = le→leb raw (2 ^ bits row - 1) (omega (arith, p .fits))
+
       go : (r : Range) → row .range ≡ r
           → T (leZ (leastIn r unsigned (bits row)) (pos raw)) × T (leZ (pos raw) (greatestIn r unsigned (bits row) (onesMarked row)))
       go whole e = (le→leb 0 raw (omega arith), top (onesMarked row) refl)
@@ -133,9 +136,10 @@ module _ (registers : List ℕ) (four : length registers ≡ 4) (all : AreRegist
     bounds : (row : TypeRow) → decodable (r .code) ≡ some row → (z : ℤ) → Bounded row z → (r .least ≤ℤ z) × (z ≤ℤ r .greatest)
     unfolding rowInside
     bounds row e z b =
-        let s = rw (row-of-decodable (r .code) row e) at t in
-        (record { le = le-le (r .least) (least row) z (both-left (leZ (r .least) (least row)) (leZ (greatest row) (r .greatest)) s) (b .0) },
-          record { le = le-le z (greatest row) (r .greatest) (b .1) (both-right (leZ (r .least) (least row)) (leZ (greatest row) (r .greatest)) s) })
+        let s = rw (row-of-decodable (r .code) row e) at t in (
+          record { le = le-le (r .least) (least row) z (both-left (leZ (r .least) (least row)) (leZ (greatest row) (r .greatest)) s) (b .0) },
+          record { le = le-le z (greatest row) (r .greatest) (b .1) (both-right (leZ (r .least) (least row)) (leZ (greatest row) (r .greatest)) s) },
+        )
 
     in-printed : (d : Decoded) → Cases (r .code) registers d → Within r d
     in-printed d (byRow row e (asSigned k v)) = bounds row e _ (signed-bounded row _ (holds-pattern (r .code) registers four all row e) v k)

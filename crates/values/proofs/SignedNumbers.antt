@@ -36,13 +36,14 @@ module _ (width raw : ℕ) (wide : 1 ≤ width) (fits : raw < 2 ^ width) where
       lower l =
           rw (lower-half width raw l)
           (record { low = record { le = negative-le (2 ^ (width - 1)) raw }; high = record { lt = lt→ltb raw (2 ^ (width - 1)) l }; same = inl refl })
+
       upper : 2 ^ (width - 1) ≤ raw → TwosComplementOf width raw (twosComplement width raw)
       upper u =
           rw (upper-half width raw u fits)
           (record {
             low = record { le = negative-le-negative (2 ^ (width - 1)) (2 ^ width - suc raw) (omega (arith, halves width wide)) };
             high = record { lt = tt };
-            same = inr (ap (λ (y : ℤ). y +ℤ pos (2 ^ width)) (sym (less raw (2 ^ width) fits)) ∙ -ℤ-+ℤ-cancel (pos raw) (pos (2 ^ width)))
+            same = inr (ap (λ (y : ℤ). y +ℤ pos (2 ^ width)) (sym (less raw (2 ^ width) fits)) ∙ -ℤ-+ℤ-cancel (pos raw) (pos (2 ^ width)));
           })
 
 module _ (code : ℕ) (registers : List ℕ) (four : length registers ≡ 4) (all : AreRegisters registers) where
@@ -55,6 +56,7 @@ module _ (code : ℕ) (registers : List ℕ) (four : length registers ≡ 4) (al
       at r is k =
           twos-complement (bits r) (join (take (r .most) registers))
           (omega (arith, signed-width r (listed code r (row-of-decodable code r is)) k)) (holds-pattern code registers four all r is .fits)
+
       go : (y : ℤ) → Cases code registers (signed y) → TwosComplementOf (bits row) (join (take (row .most) registers)) y
       go y (byRow other is (asSigned k v)) =
           let s : other ≡ row = cc in

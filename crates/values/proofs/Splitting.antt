@@ -22,7 +22,7 @@ unfolding split
 low-registers zero x low = refl
 low-registers (suc n) x low =
     let e : x * 65536 ^ suc n ≡ x * 65536 * 65536 ^ n =
-        ap (λ (p : ℕ). x * p) (pow-suc 65536 n ∙ mul-comm (65536 ^ n) 65536) ∙ sym (mul-assoc x 65536 (65536 ^ n)) in
+    ap (λ (p : ℕ). x * p) (pow-suc 65536 n ∙ mul-comm (65536 ^ n) 65536) ∙ sym (mul-assoc x 65536 (65536 ^ n)) in
     let d : (x * 65536 * 65536 ^ n + low) / 65536 ^ n ≡ x * 65536 + low / 65536 ^ n = mul-add-div-right (positive n) (x * 65536) low in
     rw (e, d, mul-add-mod-self-right x 65536 (low / 65536 ^ n), low-registers n (x * 65536) low)
 

@@ -5,20 +5,11 @@ use mathlib.Core.List.{List, [], _∷_}
 use mathlib.Core.Option.{Option, none, some}
 use Prim.Native.Nat.{ℕ, _-_, _*_, _^_, _≤_}
 use native.Mathlib.Omega.{arith}
-use borrow.Author.Tests.{ne-eqb, eqb-true, le-leb}
+use borrow.Author.Tests.{eqb-true, le-leb}
 use lib.Dec.{T, eqb, leb, eqb→eq, leb→le}
 use lib.IntN.{ℤ, pos, negsuc}
 use Rattle.values.proofs.Tests.{both-left, both-right, every}
 use Rattle.values.specs.Rows.{TypeRow, Kind, signed, unsigned, float, Marker, never, pattern, Range, whole, between, notNaN, rows, rowAmong, rowOf, Listed}
-
--- A row of another code is passed over.
-pub passed : (r : TypeRow) (rs : List TypeRow) (c : ℕ) → (c ≡ r .code → ⊥) → rowAmong rs c ≡ none → rowAmong (r ∷ rs) c ≡ none
-unfolding rowAmong
-passed r rs c h e = simp (rowAmong, ne-eqb _ _ h) e
-
-pub at-end : (c : ℕ) → rowAmong [] c ≡ none
-unfolding rowAmong
-at-end c = refl
 
 -- The row found is one of the list, with the code looked for.
 found-among : (test : TypeRow → Bool) (rs : List TypeRow) (c : ℕ) (r : TypeRow) → T (every test rs) → rowAmong rs c ≡ some r

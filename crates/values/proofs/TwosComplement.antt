@@ -31,6 +31,7 @@ module _ (bits raw : ℕ) where
     where
       lower : raw < 2 ^ (bits - 1) → twosPattern bits (twosComplement bits raw) ≡ raw
       lower l = rw (lower-half l)
+
       upper : 2 ^ (bits - 1) ≤ raw → twosPattern bits (twosComplement bits raw) ≡ raw
       upper u = rw (upper-half u k) (omega arith)
 

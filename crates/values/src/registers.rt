@@ -16,7 +16,8 @@ pub fn raw_value(registers: &[u16]) -> u64
     let mut raw: u64 = 0;
     let mut i = 0;
     while i < registers.len() {
-        raw = raw * 65536 + (registers[i] as u64);
+        let register = registers[i] as u64;
+        raw = raw * 65536 + register;
         i += 1;
     }
     raw

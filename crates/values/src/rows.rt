@@ -1,8 +1,7 @@
 // The type rows as the code holds them: one table, proved to be that of specs/Rows.antt.
 ghost use mathlib.Core.Path.{_≡_};
-ghost use mathlib.Core.Option.{some};
-ghost use Rattle.values.specs.Rows.{rowOf, row as tableRow};
-ghost use Rattle.values.specs.Answers.{foundMeans, kindMeans, markerMeans, rangeMeans};
+ghost use Rattle.values.specs.Rows.{rowOf};
+ghost use Rattle.values.specs.Answers.{foundMeans};
 use crate::rows::Kind::Float;
 use crate::rows::Kind::Signed;
 use crate::rows::Kind::Unsigned;
@@ -51,55 +50,55 @@ pub(crate) enum Found {
     Nothing,
 }
 
-// A row of the table, found.
-fn row(
-    code: u16,
-    fewest: u16,
-    most: u16,
-    scalable: bool,
-    kind: Kind,
-    marker: Marker,
-    range: Range,
-) -> Found
-    ensures { λ r. ⌜ foundMeans r ≡ some (tableRow code fewest most scalable (kindMeans kind) (markerMeans marker) (rangeMeans range)) ⌝ }
+// A row as the table writes it: code, fewest and most registers, may it carry a scale factor, kind,
+// unimplemented pattern, range.
+struct Line(u16, u16, u16, bool, Kind, Marker, Range);
+
+// The rows of the codes from 1 on, in order.
+const TABLE: [Line; 20] = [
+    Line(1, 1, 1, true, Signed, At(0x8000), Whole),
+    Line(2, 1, 1, true, Unsigned, At(0xFFFF), Whole),
+    Line(3, 1, 1, true, Unsigned, At(0), Whole),
+    Line(4, 1, 1, false, Unsigned, At(0xFFFF), Whole),
+    Line(5, 1, 1, false, Unsigned, At(0xFFFF), UpTo(0x7FFF)),
+    Line(6, 1, 1, false, Unsigned, Never, Only(0x8000)),
+    Line(7, 1, 1, false, Unsigned, Never, Whole),
+    Line(8, 1, 1, false, Signed, At(0x8000), ScaleFactor),
+    Line(9, 2, 2, true, Signed, At(0x80000000), Whole),
+    Line(10, 2, 2, true, Unsigned, At(0xFFFFFFFF), Whole),
+    Line(11, 2, 2, true, Unsigned, At(0), Whole),
+    Line(12, 2, 2, false, Unsigned, At(0xFFFFFFFF), Whole),
+    Line(13, 2, 2, false, Unsigned, At(0xFFFFFFFF), UpTo(0x7FFFFFFF)),
+    Line(14, 2, 2, false, Float, At(0x7FC00000), NotNan),
+    Line(15, 2, 2, false, Unsigned, At(0), Whole),
+    Line(16, 4, 4, true, Signed, At(0x8000000000000000), Whole),
+    Line(17, 4, 4, true, Unsigned, At(0xFFFFFFFFFFFFFFFF), Whole),
+    Line(18, 4, 4, true, Unsigned, At(0), UpTo(0x7FFFFFFFFFFFFFFF)),
+    Line(19, 1, 64, false, Unsigned, At(0), Whole),
+    Line(20, 8, 8, false, Unsigned, At(0), Whole),
+];
+
+// The row of a type code.
+pub(crate) fn row_of(type_code: u16) -> Found
+    ensures { λ r. ⌜ foundMeans r ≡ rowOf «type_code» ⌝ }
 {
+    if type_code < 1 {
+        return Found::Nothing;
+    }
+    if 20 < type_code {
+        return Found::Nothing;
+    }
+    let line = TABLE[(type_code - 1) as usize];
+    let kind = line.4;
+    let marker = line.5;
+    let range = line.6;
     Found::Row(TypeRow {
-        code,
-        fewest,
-        most,
-        scalable,
+        code: line.0,
+        fewest: line.1,
+        most: line.2,
+        scalable: line.3,
         kind,
         marker,
         range,
     })
-}
-
-// The row of a type code: code, fewest and most registers, may it carry a scale factor, kind,
-// unimplemented pattern, range.
-pub(crate) fn row_of(type_code: u16) -> Found
-    ensures { λ r. ⌜ foundMeans r ≡ rowOf «type_code» ⌝ }
-{
-    match type_code {
-        1 => row(1, 1, 1, true, Signed, At(0x8000), Whole),
-        2 => row(2, 1, 1, true, Unsigned, At(0xFFFF), Whole),
-        3 => row(3, 1, 1, true, Unsigned, At(0), Whole),
-        4 => row(4, 1, 1, false, Unsigned, At(0xFFFF), Whole),
-        5 => row(5, 1, 1, false, Unsigned, At(0xFFFF), UpTo(0x7FFF)),
-        6 => row(6, 1, 1, false, Unsigned, Never, Only(0x8000)),
-        7 => row(7, 1, 1, false, Unsigned, Never, Whole),
-        8 => row(8, 1, 1, false, Signed, At(0x8000), ScaleFactor),
-        9 => row(9, 2, 2, true, Signed, At(0x80000000), Whole),
-        10 => row(10, 2, 2, true, Unsigned, At(0xFFFFFFFF), Whole),
-        11 => row(11, 2, 2, true, Unsigned, At(0), Whole),
-        12 => row(12, 2, 2, false, Unsigned, At(0xFFFFFFFF), Whole),
-        13 => row(13, 2, 2, false, Unsigned, At(0xFFFFFFFF), UpTo(0x7FFFFFFF)),
-        14 => row(14, 2, 2, false, Float, At(0x7FC00000), NotNan),
-        15 => row(15, 2, 2, false, Unsigned, At(0), Whole),
-        16 => row(16, 4, 4, true, Signed, At(0x8000000000000000), Whole),
-        17 => row(17, 4, 4, true, Unsigned, At(0xFFFFFFFFFFFFFFFF), Whole),
-        18 => row(18, 4, 4, true, Unsigned, At(0), UpTo(0x7FFFFFFFFFFFFFFF)),
-        19 => row(19, 1, 64, false, Unsigned, At(0), Whole),
-        20 => row(20, 8, 8, false, Unsigned, At(0), Whole),
-        _ => Found::Nothing,
-    }
 }
