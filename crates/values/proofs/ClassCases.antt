@@ -10,8 +10,9 @@ use lib.Dec.{leb}
 use lib.ListN.{take}
 use lib.Ieee.{binary32, ofBits}
 use Rattle.values.specs.Rows.{TypeRow, Kind, rowOf}
-use Rattle.values.specs.Registers.{join, tooWide}
-use Rattle.values.specs.Classes.{bits, twosComplement, isMarker, inRange, Class, value, unimplemented, outOfRange, classOf, classified, under, noPattern, unknownType}
+use Rattle.values.specs.Registers as registers
+use Rattle.values.specs.Registers.{join}
+use Rattle.values.specs.Classes.{width, twosComplement, isMarker, inRange, Class, value, unimplemented, outOfRange, classOf, classified, ofClass, tooWide, unknownType}
 use Rattle.values.specs.Decoding as decoding
 use Rattle.values.proofs.Table.{from-one}
 use Rattle.values.specs.Decoding.{numberOf, valueOf, decodable, decoded, refused}
@@ -29,17 +30,6 @@ module _ (row : TypeRow) (raw : ℕ) where
   unfolding classOf
   not-in-range m r = simp (classOf, m, r)
 
-  -- A value is in range.
-  pub value-in-range : classOf row raw ≡ value → inRange row raw ≡ true
-  unfolding classOf
-  value-in-range e = go (isMarker (row .marker) raw) (inRange row raw) e
-    where
-      go : (m r : Bool) → elim m [ true ↦ unimplemented | false ↦ elim r [ true ↦ value | false ↦ outOfRange ] ] ≡ value → r ≡ true
-      go true true q = refl
-      go true false q = cc
-      go false true q = refl
-      go false false q = cc
-
   pub answer-value : classOf row raw ≡ value → valueOf row raw ≡ numberOf row raw
   unfolding valueOf
   answer-value e = simp (valueOf, e)
@@ -53,7 +43,7 @@ module _ (row : TypeRow) (raw : ℕ) where
   answer-out-of-range e = simp (valueOf, e)
 
   -- The number by the type's kind.
-  pub number-signed : row .kind ≡ Kind.signed → numberOf row raw ≡ decoding.signed (twosComplement (bits row) raw)
+  pub number-signed : row .kind ≡ Kind.signed → numberOf row raw ≡ decoding.signed (twosComplement (width row) raw)
   unfolding numberOf
   number-signed e = simp (numberOf, e)
 
@@ -70,11 +60,11 @@ module _ (code raw : ℕ) where
   unfolding classified
   unknown e = simp (classified, e)
 
-  pub too-wide : (row : TypeRow) → rowOf code ≡ some row → tooWide (row .most) raw ≡ true → classified code raw ≡ noPattern
+  pub too-wide : (row : TypeRow) → rowOf code ≡ some row → registers.tooWide (row .most) raw ≡ true → classified code raw ≡ tooWide
   unfolding classified
   too-wide row e w = simp (classified, e, w)
 
-  pub of-class : (row : TypeRow) → rowOf code ≡ some row → tooWide (row .most) raw ≡ false → classified code raw ≡ under (classOf row raw)
+  pub of-class : (row : TypeRow) → rowOf code ≡ some row → registers.tooWide (row .most) raw ≡ false → classified code raw ≡ ofClass (classOf row raw)
   unfolding classified
   of-class row e w = simp (classified, e, w)
 

@@ -18,7 +18,8 @@ use Rattle.values.specs.declared.rows.Kind.{Kind}
 use Rattle.values.specs.declared.rows.Marker.{Marker}
 use Rattle.values.specs.declared.rows.Range.{Range}
 use Rattle.values.specs.declared.rows.Line.{Line}
-use Rattle.values.proofs.Tests.{both-left, both-right, every}
+use lib.Ieee.Fits.{and-l, and-r}
+use Rattle.values.proofs.ListTests.{every}
 
 -- A line of the code's table as a row, and a row of the table as the code writes it.
 abbrev lineMeans : Line → TypeRow
@@ -52,12 +53,12 @@ numbered c (r ∷ rs) = eqb (r .code) c && numbered (suc c) rs
 by-place : (c : ℕ) (rs : List TypeRow) (d : TypeRow) (i : ℕ) → T (numbered c rs) → i < length rs → rowAmong rs (c + i) ≡ some (getD rs i d)
 unfolding rowAmong
 by-place c [] d i t h = absurd (omega arith)
-by-place c (r ∷ rs) d zero t h = simp (rowAmong, eq-eqb (c + 0) (r .code) (add-zero c ∙ sym (eqb→eq (r .code) c (both-left (eqb (r .code) c) (numbered (suc c) rs) t))))
+by-place c (r ∷ rs) d zero t h = simp (rowAmong, eq-eqb (c + 0) (r .code) (add-zero c ∙ sym (eqb→eq (r .code) c (and-l (eqb (r .code) c) (numbered (suc c) rs) t))))
 by-place c (r ∷ rs) d (suc i) t h =
-    let e = eqb→eq (r .code) c (both-left (eqb (r .code) c) (numbered (suc c) rs) t) in
+    let e = eqb→eq (r .code) c (and-l (eqb (r .code) c) (numbered (suc c) rs) t) in
     let n : c + suc i ≡ r .code → ⊥ = λ q. omega (arith, e, q) in
     simp (rowAmong, ne-eqb (c + suc i) (r .code) n)
-    (rw (add-suc c i, ← suc-add c i) (by-place (suc c) rs d i (both-right (eqb (r .code) c) (numbered (suc c) rs) t) (omega arith)))
+    (rw (add-suc c i, ← suc-add c i) (by-place (suc c) rs d i (and-r (eqb (r .code) c) (numbered (suc c) rs) t) (omega arith)))
 
 getD-map : (ls : List Line) (i : ℕ) (d : Line) → getD (map lineMeans ls) i (lineMeans d) ≡ lineMeans (getD ls i d)
 getD-map [] i d = refl
@@ -86,10 +87,10 @@ unfolding rowAmong
 none-outside [] c t n = refl
 none-outside (r ∷ rs) c t n =
     let test : TypeRow → Bool = λ x. leb 1 (x .code) && leb (x .code) 20 in
-    let here = both-left (test r) (every test rs) t in
-    let low = leb→le 1 (r .code) (both-left (leb 1 (r .code)) (leb (r .code) 20) here) in
-    let high = leb→le (r .code) 20 (both-right (leb 1 (r .code)) (leb (r .code) 20) here) in
-    simp (rowAmong, ne-eqb c (r .code) (λ q. n (rw q low) (rw q high))) (none-outside rs c (both-right (test r) (every test rs) t) n)
+    let here = and-l (test r) (every test rs) t in
+    let low = leb→le 1 (r .code) (and-l (leb 1 (r .code)) (leb (r .code) 20) here) in
+    let high = leb→le (r .code) 20 (and-r (leb 1 (r .code)) (leb (r .code) 20) here) in
+    simp (rowAmong, ne-eqb c (r .code) (λ q. n (rw q low) (rw q high))) (none-outside rs c (and-r (test r) (every test rs) t) n)
 
 pub no-row-outside : (c : ℕ) → (1 ≤ c → c ≤ 20 → ⊥) → rowOf c ≡ none
 unfolding rows

@@ -7,12 +7,12 @@ use lib.Ieee.{binary32, ofBits}
 use lib.ListN.{take}
 use Rattle.values.specs.Rows.{TypeRow, Kind}
 use Rattle.values.specs.Registers.{join}
-use Rattle.values.specs.Classes.{Class, classOf, bits, twosComplement}
+use Rattle.values.specs.Classes.{Class, classOf, width, twosComplement}
 use Rattle.values.specs.Decoding.{Decoded, signed, unsigned, float, unimplemented, outOfRange, refused, numberOf, valueOf, decodable, decoded}
 
 -- A pattern's answer: a number by the type's kind where the pattern is a value.
 pub data Answered (row : TypeRow) (raw : ℕ) : Decoded → Type 0 where
-  asSigned : row .kind ≡ Kind.signed → classOf row raw ≡ Class.value → Answered row raw (signed (twosComplement (bits row) raw))
+  asSigned : row .kind ≡ Kind.signed → classOf row raw ≡ Class.value → Answered row raw (signed (twosComplement (width row) raw))
   asUnsigned : row .kind ≡ Kind.unsigned → classOf row raw ≡ Class.value → Answered row raw (unsigned raw)
   asFloat : row .kind ≡ Kind.float → classOf row raw ≡ Class.value → Answered row raw (float (ofBits binary32 raw))
   asUnimplemented : classOf row raw ≡ Class.unimplemented → Answered row raw unimplemented
@@ -26,7 +26,7 @@ answered row raw = by-class (classOf row raw) refl (row .kind) refl
         → Answered row raw
         (elim c [
           | Class.value ↦ elim k [
-            | Kind.signed ↦ signed (twosComplement (bits row) raw)
+            | Kind.signed ↦ signed (twosComplement (width row) raw)
             | Kind.unsigned ↦ unsigned raw
             | Kind.float ↦ float (ofBits binary32 raw)
           ]

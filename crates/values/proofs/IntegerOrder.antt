@@ -22,3 +22,7 @@ negative-le (suc h) x = tt
 pub negative-le-negative : (h k : ℕ) → k < h → T (leZ (negℤ (pos h)) (negsuc k))
 negative-le-negative zero k l = absurd (omega arith)
 negative-le-negative (suc h) k l = le→leb k h (omega arith)
+
+pub negative-below : (h k : ℕ) → T (leZ (negℤ (pos h)) (negsuc k)) → k < h
+negative-below zero k t = absurd t
+negative-below (suc h) k t = omega (arith, leb→le k h t)

@@ -13,6 +13,6 @@ pub mod RoundTrip
 pub mod SignedNumbers
 pub mod PrintedRanges
 pub mod IntegerOrder
-pub mod Tests
+pub mod ListTests
 pub mod RefusedCodes
 pub mod CodeTable

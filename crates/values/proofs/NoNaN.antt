@@ -15,12 +15,13 @@ use Rattle.values.specs.Classes.{Class, classOf, inRange}
 use Rattle.values.specs.Decoding.{Decoded, float, decodable, decoded}
 use Rattle.values.proofs.Table.{float-row, listed}
 use Rattle.values.proofs.Ranges.{in-not-nan}
-use Rattle.values.proofs.ClassCases.{value-in-range, row-of-decodable}
+use Rattle.values.proofs.ClassCases.{row-of-decodable}
+use Rattle.values.proofs.ThreeClasses.{class-is-its-tests}
 use Rattle.values.proofs.DecodedCases.{Answered, asFloat, Cases, byRow, cases}
 
 -- A value of a float type is no NaN's pattern.
 pub no-nan-pattern : (row : TypeRow) (raw : ℕ) → Listed row → row .kind ≡ Kind.float → classOf row raw ≡ Class.value → nanBits binary32 raw ≡ false
-no-nan-pattern row raw l k v = not-true (nanBits binary32 raw) (sym (in-not-nan row raw (float-row row l k .1)) ∙ value-in-range row raw v)
+no-nan-pattern row raw l k v = not-true (nanBits binary32 raw) (sym (in-not-nan row raw (float-row row l k .1)) ∙ class-is-its-tests row raw Class.value .0 v .1)
 
 pub no-nan : (code : ℕ) (registers : List ℕ) (x : Float) → decoded code registers ≡ float x → T (not (isNan x))
 no-nan code registers x e = go x (subst (Cases code registers) e (cases code registers))

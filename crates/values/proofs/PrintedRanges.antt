@@ -17,10 +17,11 @@ use Rattle.values.specs.Each.{Each}
 use Rattle.values.specs.Rows.{TypeRow, Kind, signed, unsigned, float, Marker, never, pattern, Range, whole, between, notNaN, rows, rowAmong, rowOf}
 use Rattle.values.specs.Registers.{AreRegisters, join}
 use Rattle.values.specs.Classes as classes
-use Rattle.values.specs.Classes.{bits, twosComplement, integer, isMarker, inRange, classOf, PatternOf}
+use Rattle.values.specs.Classes.{width, twosComplement, integer, isMarker, inRange, classOf, PatternOf}
 use Rattle.values.specs.Decoding.{Decoded, decoded, decodable}
 use Rattle.values.specs.Printed.{PrintedRange, printed, Within}
-use Rattle.values.proofs.Tests.{both-left, both-right, passes, every}
+use lib.Ieee.Fits.{and-l, and-r}
+use Rattle.values.proofs.ListTests.{passes, every}
 use Rattle.values.proofs.IntegerOrder.{le-le, negative-le, negative-le-negative}
 use Rattle.values.proofs.ThreeClasses.{class-is-its-tests}
 use Rattle.values.proofs.Ranges.{in-between, plain-integer, signed-integer}
@@ -48,13 +49,13 @@ greatestIn whole float width onesMarked = pos 0
 greatestIn notNaN k width onesMarked = pos 0
 
 onesMarked : TypeRow → Bool
-onesMarked row = isMarker (row .marker) (2 ^ bits row - 1)
+onesMarked row = isMarker (row .marker) (2 ^ width row - 1)
 
 least : TypeRow → ℤ
-least row = leastIn (row .range) (row .kind) (bits row)
+least row = leastIn (row .range) (row .kind) (width row)
 
 greatest : TypeRow → ℤ
-greatest row = greatestIn (row .range) (row .kind) (bits row) (onesMarked row)
+greatest row = greatestIn (row .range) (row .kind) (width row) (onesMarked row)
 
 -- An integer from the row's least to its greatest.
 abbrev Bounded : TypeRow → ℤ → Type 0
@@ -77,32 +78,32 @@ module _ (row : TypeRow) (raw : ℕ) (p : PatternOf row raw) (v : classOf row ra
   inside : (low high z : ℤ) → row .range ≡ between low high → integer row raw ≡ z → T (leZ low z) × T (leZ z high)
   inside low high z e y =
       let t : T (leZ low z && leZ z high) = passes _ (sym (in-between row raw low high e ∙ ap (λ (x : ℤ). leZ low x && leZ x high) y) ∙ in-range) in
-      (both-left (leZ low z) (leZ z high) t, both-right (leZ low z) (leZ z high) t)
+      (and-l (leZ low z) (leZ z high) t, and-r (leZ low z) (leZ z high) t)
 
   -- Else a signed type's marker takes the least pattern away.
-  signed-bounded : row .kind ≡ signed → Bounded row (twosComplement (bits row) raw)
+  signed-bounded : row .kind ≡ signed → Bounded row (twosComplement (width row) raw)
   unfolding least greatest onesMarked
   signed-bounded k = rw k (go (row .range) refl)
     where
-      off-edge : (m : Marker) → row .marker ≡ m → T (edgeTest whole signed m (bits row)) → raw ≡ 2 ^ (bits row - 1) → ⊥
+      off-edge : (m : Marker) → row .marker ≡ m → T (edgeTest whole signed m (width row)) → raw ≡ 2 ^ (width row - 1) → ⊥
       off-edge never e t q = t
-      off-edge (pattern x) e t q = eqb-false raw x (rw e at unmarked) (q ∙ sym (eqb→eq x (2 ^ (bits row - 1)) t))
+      off-edge (pattern x) e t q = eqb-false raw x (rw e at unmarked) (q ∙ sym (eqb→eq x (2 ^ (width row - 1)) t))
 
-      half : (raw ≡ 2 ^ (bits row - 1) → ⊥) → Dec (2 ^ (bits row - 1) ≤ raw)
-          → T (leZ (leastIn whole signed (bits row)) (twosComplement (bits row) raw)) × T (leZ (twosComplement (bits row) raw) (pos (2 ^ (bits row - 1) - 1)))
+      half : (raw ≡ 2 ^ (width row - 1) → ⊥) → Dec (2 ^ (width row - 1) ≤ raw)
+          → T (leZ (leastIn whole signed (width row)) (twosComplement (width row) raw)) × T (leZ (twosComplement (width row) raw) (pos (2 ^ (width row - 1) - 1)))
       half n (yes u) =
-          let h = halves (bits row) (omega (arith, signed-width row (p .listed) k)) in
-          rw (upper-half (bits row) raw u (p .fits))
-          (negative-le-negative (2 ^ (bits row - 1) - 1) (2 ^ bits row - suc raw) (omega (arith, h, p .fits, n)), tt)
+          let h = halves (width row) (omega (arith, signed-width row (p .listed) k)) in
+          rw (upper-half (width row) raw u (p .fits))
+          (negative-le-negative (2 ^ (width row - 1) - 1) (2 ^ width row - suc raw) (omega (arith, h, p .fits, n)), tt)
       half n (no u) =
-          rw (lower-half (bits row) raw (omega arith))
-          (negative-le (2 ^ (bits row - 1) - 1) raw, le→leb raw (2 ^ (bits row - 1) - 1) (omega arith))
+          rw (lower-half (width row) raw (omega arith))
+          (negative-le (2 ^ (width row - 1) - 1) raw, le→leb raw (2 ^ (width row - 1) - 1) (omega arith))
 
       go : (r : Range) → row .range ≡ r
-          → T (leZ (leastIn r signed (bits row)) (twosComplement (bits row) raw))
-          × T (leZ (twosComplement (bits row) raw) (greatestIn r signed (bits row) (onesMarked row)))
-      go whole e = half (off-edge (row .marker) refl (rw (e, k) at (edges row (p .listed)))) (decLe (2 ^ (bits row - 1)) raw)
-      go (between low high) e = inside low high (twosComplement (bits row) raw) e (signed-integer row raw k)
+          → T (leZ (leastIn r signed (width row)) (twosComplement (width row) raw))
+          × T (leZ (twosComplement (width row) raw) (greatestIn r signed (width row) (onesMarked row)))
+      go whole e = half (off-edge (row .marker) refl (rw (e, k) at (edges row (p .listed)))) (decLe (2 ^ (width row - 1)) raw)
+      go (between low high) e = inside low high (twosComplement (width row) raw) e (signed-integer row raw k)
       go notNaN e = absurd (rw (e, k) at (edges row (p .listed)))
 
   -- And an unsigned type's marker may take the greatest.
@@ -110,51 +111,65 @@ module _ (row : TypeRow) (raw : ℕ) (p : PatternOf row raw) (v : classOf row ra
   unfolding least greatest onesMarked
   unsigned-bounded k = rw k (go (row .range) refl)
     where
-      top : (b : Bool) → onesMarked row ≡ b → T (leZ (pos raw) (greatestIn whole unsigned (bits row) b))
+      top : (b : Bool) → onesMarked row ≡ b → T (leZ (pos raw) (greatestIn whole unsigned (width row) b))
       top true e =
-          let n : raw ≡ 2 ^ bits row - 1 → ⊥ = λ q. never-both (sym unmarked ∙ ap (isMarker (row .marker)) q ∙ e) in
-          le→leb raw (2 ^ bits row - 2) (omega (arith, p .fits, n))
-      top false e = le→leb raw (2 ^ bits row - 1) (omega (arith, p .fits))
+          let n : raw ≡ 2 ^ width row - 1 → ⊥ = λ q. never-both (sym unmarked ∙ ap (isMarker (row .marker)) q ∙ e) in
+          le→leb raw (2 ^ width row - 2) (omega (arith, p .fits, n))
+      top false e = le→leb raw (2 ^ width row - 1) (omega (arith, p .fits))
 
       go : (r : Range) → row .range ≡ r
-          → T (leZ (leastIn r unsigned (bits row)) (pos raw)) × T (leZ (pos raw) (greatestIn r unsigned (bits row) (onesMarked row)))
+          → T (leZ (leastIn r unsigned (width row)) (pos raw)) × T (leZ (pos raw) (greatestIn r unsigned (width row) (onesMarked row)))
       go whole e = (le→leb 0 raw (omega arith), top (onesMarked row) refl)
       go (between low high) e = inside low high (pos raw) e (plain-integer row raw (λ q. other-kind (sym k ∙ q)))
       go notNaN e = absurd (rw (e, k) at (edges row (p .listed)))
 
+integral : Kind → Bool
+integral signed = true
+integral unsigned = true
+integral float = false
+
 -- The row of a printed range leaves no value outside it: computed for each.
 rowInside : PrintedRange → Option TypeRow → Bool
 rowInside r none = false
-rowInside r (some row) = leZ (r .least) (least row) && leZ (greatest row) (r .greatest)
+rowInside r (some row) = integral (row .kind) && (leZ (r .least) (least row) && leZ (greatest row) (r .greatest))
 
-printed-rows : T (every (λ r. rowInside r (rowOf (r .code))) printed)
-unfolding printed rows rowAmong rowInside least greatest onesMarked
+printed-rows : T (every (λ r. rowInside r (decodable (r .code))) printed)
+unfolding printed rows rowAmong decodable integral rowInside least greatest onesMarked
 printed-rows = tt
 
 module _ (registers : List ℕ) (four : length registers ≡ 4) (all : AreRegisters registers) where
-  module _ (r : PrintedRange) (t : T (rowInside r (rowOf (r .code)))) where
+  module _ (r : PrintedRange) (t : T (rowInside r (decodable (r .code)))) where
     bounds : (row : TypeRow) → decodable (r .code) ≡ some row → (z : ℤ) → Bounded row z → (r .least ≤ℤ z) × (z ≤ℤ r .greatest)
     unfolding rowInside
     bounds row e z b =
-        let s = rw (row-of-decodable (r .code) row e) at t in (
-          record { le = le-le (r .least) (least row) z (both-left (leZ (r .least) (least row)) (leZ (greatest row) (r .greatest)) s) (b .0) },
-          record { le = le-le z (greatest row) (r .greatest) (b .1) (both-right (leZ (r .least) (least row)) (leZ (greatest row) (r .greatest)) s) },
+        let s = and-r (integral (row .kind)) _ (rw e at t) in (
+          record { le = le-le (r .least) (least row) z (and-l (leZ (r .least) (least row)) (leZ (greatest row) (r .greatest)) s) (b .0) },
+          record { le = le-le z (greatest row) (r .greatest) (b .1) (and-r (leZ (r .least) (least row)) (leZ (greatest row) (r .greatest)) s) },
         )
 
+    inside-row : (row : TypeRow) → decodable (r .code) ≡ some row → T (integral (row .kind) && (leZ (r .least) (least row) && leZ (greatest row) (r .greatest)))
+    unfolding rowInside
+    inside-row row e = rw e at t
+
+    no-row-inside : T (rowInside r none) → ⊥
+    unfolding rowInside
+    no-row-inside f = f
+
     in-printed : (d : Decoded) → Cases (r .code) registers d → Within r d
+    unfolding integral
     in-printed d (byRow row e (asSigned k v)) = bounds row e _ (signed-bounded row _ (holds-pattern (r .code) registers four all row e) v k)
     in-printed d (byRow row e (asUnsigned k v)) = bounds row e _ (unsigned-bounded row _ (holds-pattern (r .code) registers four all row e) v k)
-    in-printed d (byRow row e (asFloat k v)) = tt
+    in-printed d (byRow row e (asFloat k v)) = rw k at (and-l (integral (row .kind)) _ (inside-row row e))
     in-printed d (byRow row e (asUnimplemented v)) = tt
     in-printed d (byRow row e (asOutOfRange v)) = tt
-    in-printed d (noRow e) = tt
+    in-printed d (noRow e) = no-row-inside (rw e at t)
 
   -- The claim, over the whole printed table.
   pub within-printed : Each (λ r. Within r (decoded (r .code) registers)) printed
   within-printed = go printed printed-rows
     where
-      go : (rs : List PrintedRange) → T (every (λ r. rowInside r (rowOf (r .code))) rs) → Each (λ r. Within r (decoded (r .code) registers)) rs
+      go : (rs : List PrintedRange) → T (every (λ r. rowInside r (decodable (r .code))) rs) → Each (λ r. Within r (decoded (r .code) registers)) rs
       go [] t = tt
       go (r ∷ rs) t =
-          let test : PrintedRange → Bool = λ x. rowInside x (rowOf (x .code)) in
-          (in-printed r (both-left (test r) (every test rs) t) (decoded (r .code) registers) (cases (r .code) registers), go rs (both-right (test r) (every test rs) t))
+          let test : PrintedRange → Bool = λ x. rowInside x (decodable (x .code)) in
+          (in-printed r (and-l (test r) (every test rs) t) (decoded (r .code) registers) (cases (r .code) registers), go rs (and-r (test r) (every test rs) t))

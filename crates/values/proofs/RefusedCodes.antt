@@ -10,7 +10,7 @@ use borrow.Author.Tests.{le-leb}
 use lib.Dec.{T, leb}
 use Rattle.values.specs.Rows.{TypeRow, rows, rowAmong, rowOf}
 use Rattle.values.specs.Decoding.{Decoded, refused, decodable, decoded}
-use Rattle.values.proofs.Tests.{both-left, both-right}
+use lib.Ieee.Fits.{and-l, and-r}
 use Rattle.values.proofs.ClassCases.{beyond, no-row}
 use Rattle.values.proofs.DecodedCases.{Cases, noRow, cases}
 
@@ -27,10 +27,10 @@ known-below : (n k : ℕ) → T (knownUpTo n) → 1 ≤ k → k ≤ n → T (kno
 known-below zero k t l h = absurd (omega arith)
 known-below (suc n) k t l h =
     elim (decLe k n) [
-      | yes b ↦ known-below n k (both-right (known (rowOf (suc n))) (knownUpTo n) t) l b
+      | yes b ↦ known-below n k (and-r (known (rowOf (suc n))) (knownUpTo n) t) l b
       | no b ↦
           let e : k ≡ suc n = omega arith in
-          rw e (both-left (known (rowOf (suc n))) (knownUpTo n) t)
+          rw e (and-l (known (rowOf (suc n))) (knownUpTo n) t)
     ]
 
 eighteen : T (knownUpTo 18)

@@ -1,5 +1,5 @@
--- A decoded signed number is the two's complement of its pattern, and two's complement is what it is everywhere: the one integer
--- from -2 ^ (bits - 1) up to, not including, 2 ^ (bits - 1) that is the pattern, or 2 ^ bits less.
+-- A decoded signed number is the two's complement of its pattern: the one integer from -2 ^ (width - 1) up to, not including,
+-- 2 ^ (width - 1) that is the pattern, or 2 ^ width less.
 use mathlib.Core.Path.{_≡_, refl, sym, ap, subst, _∙_}
 use mathlib.Core.Logic.{_⊎_, inl, inr}
 use mathlib.Core.List.{List}
@@ -7,15 +7,15 @@ use mathlib.Core.Option.{some}
 use Prim.Native.Nat.{ℕ, zero, suc, _-_, _^_, _≤_, _<_}
 use native.Mathlib.Omega.{arith}
 use native.Mathlib.Decide.{decLe}
-use lib.Dec.{lt→ltb}
-use lib.IntN.{ℤ, pos, negsuc, negℤ, _+ℤ_, -ℤ-+ℤ-cancel}
+use lib.Dec.{lt→ltb, ltb→lt}
+use lib.IntN.{ℤ, pos, negsuc, negℤ, _+ℤ_, _-ℤ_, -ℤ-+ℤ-cancel, +ℤ-negℤ-cancel}
 use lib.ListN.{length, take}
 use lib.Signed.{_≤ℤ_, _<ℤ_}
 use Rattle.values.specs.Rows.{TypeRow, Kind}
 use Rattle.values.specs.Registers.{AreRegisters, join}
-use Rattle.values.specs.Classes.{bits, twosComplement}
+use Rattle.values.specs.Classes.{width, twosComplement}
 use Rattle.values.specs.Decoding.{Decoded, signed, decodable, decoded}
-use Rattle.values.proofs.IntegerOrder.{negative-le, negative-le-negative}
+use Rattle.values.proofs.IntegerOrder.{negative-le, negative-le-negative, negative-below}
 use Rattle.values.proofs.Table.{listed, signed-width}
 use Rattle.values.proofs.ClassCases.{row-of-decodable}
 use Rattle.values.proofs.TwosComplement.{lower-half, upper-half, less}
@@ -46,19 +46,40 @@ module _ (width raw : ℕ) (wide : 1 ≤ width) (fits : raw < 2 ^ width) where
             same = inr (ap (λ (y : ℤ). y +ℤ pos (2 ^ width)) (sym (less raw (2 ^ width) fits)) ∙ -ℤ-+ℤ-cancel (pos raw) (pos (2 ^ width)));
           })
 
+-- No other integer is: the pattern and 2 ^ width less cannot both lie in the range.
+module _ (width raw : ℕ) (wide : 1 ≤ width) where
+  not-both : (z y : ℤ) → TwosComplementOf width raw z → TwosComplementOf width raw y → z ≡ pos raw → y +ℤ pos (2 ^ width) ≡ pos raw → ⊥
+  not-both z y a b p q =
+      let l : raw < 2 ^ (width - 1) = ltb→lt raw (2 ^ (width - 1)) (rw p at (a .high .lt)) in
+      let f : raw < 2 ^ width = omega (arith, halves width wide) in
+      let e : y ≡ negsuc (2 ^ width - suc raw) =
+      sym (+ℤ-negℤ-cancel y (pos (2 ^ width))) ∙ ap (λ (x : ℤ). x -ℤ pos (2 ^ width)) q ∙ less raw (2 ^ width) f in
+      let k = negative-below (2 ^ (width - 1)) (2 ^ width - suc raw) (rw e at (b .low .le)) in
+      omega (arith, k, l, f, halves width wide)
+
+  pub unique : (z y : ℤ) → TwosComplementOf width raw z → TwosComplementOf width raw y → z ≡ y
+  unique z y a b = go (a .same) (b .same)
+    where
+      go : (z ≡ pos raw) ⊎ (z +ℤ pos (2 ^ width) ≡ pos raw) → (y ≡ pos raw) ⊎ (y +ℤ pos (2 ^ width) ≡ pos raw) → z ≡ y
+      go (inl p) (inl q) = p ∙ sym q
+      go (inl p) (inr q) = absurd (not-both z y a b p q)
+      go (inr p) (inl q) = absurd (not-both y z b a q p)
+      go (inr p) (inr q) =
+          sym (+ℤ-negℤ-cancel z (pos (2 ^ width))) ∙ ap (λ (x : ℤ). x -ℤ pos (2 ^ width)) (p ∙ sym q) ∙ +ℤ-negℤ-cancel y (pos (2 ^ width))
+
 module _ (code : ℕ) (registers : List ℕ) (four : length registers ≡ 4) (all : AreRegisters registers) where
   pub signed-number : (row : TypeRow) → decodable code ≡ some row → (z : ℤ) → decoded code registers ≡ signed z
-      → TwosComplementOf (bits row) (join (take (row .most) registers)) z
+      → TwosComplementOf (width row) (join (take (row .most) registers)) z
   signed-number row e z q = go z (subst (Cases code registers) q (cases code registers))
     where
       at : (r : TypeRow) → decodable code ≡ some r → r .kind ≡ Kind.signed
-          → TwosComplementOf (bits r) (join (take (r .most) registers)) (twosComplement (bits r) (join (take (r .most) registers)))
+          → TwosComplementOf (width r) (join (take (r .most) registers)) (twosComplement (width r) (join (take (r .most) registers)))
       at r is k =
-          twos-complement (bits r) (join (take (r .most) registers))
+          twos-complement (width r) (join (take (r .most) registers))
           (omega (arith, signed-width r (listed code r (row-of-decodable code r is)) k)) (holds-pattern code registers four all r is .fits)
 
-      go : (y : ℤ) → Cases code registers (signed y) → TwosComplementOf (bits row) (join (take (row .most) registers)) y
+      go : (y : ℤ) → Cases code registers (signed y) → TwosComplementOf (width row) (join (take (row .most) registers)) y
       go y (byRow other is (asSigned k v)) =
           let s : other ≡ row = cc in
-          subst (λ (r : TypeRow). TwosComplementOf (bits r) (join (take (r .most) registers)) (twosComplement (bits other) (join (take (other .most) registers)))) s
+          subst (λ (r : TypeRow). TwosComplementOf (width r) (join (take (r .most) registers)) (twosComplement (width other) (join (take (other .most) registers)))) s
           (at other is k)

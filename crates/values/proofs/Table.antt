@@ -8,7 +8,8 @@ use native.Mathlib.Omega.{arith}
 use borrow.Author.Tests.{eqb-true, le-leb}
 use lib.Dec.{T, eqb, leb, eqb→eq, leb→le}
 use lib.IntN.{ℤ, pos, negsuc}
-use Rattle.values.proofs.Tests.{both-left, both-right, every}
+use lib.Ieee.Fits.{and-l, and-r}
+use Rattle.values.proofs.ListTests.{every}
 use Rattle.values.specs.Rows.{TypeRow, Kind, signed, unsigned, float, Marker, never, pattern, Range, whole, between, notNaN, rows, rowAmong, rowOf, Listed}
 
 -- The row found is one of the list, with the code looked for.
@@ -17,13 +18,13 @@ found-among : (test : TypeRow → Bool) (rs : List TypeRow) (c : ℕ) (r : TypeR
 unfolding rowAmong
 found-among test [] c r t e = let z : _≡_ {A = ℕ} 0 1 = cc in absurd (omega arith)
 found-among test (x ∷ rs) c r t e =
-    go (eqb c (x .code)) refl e (λ q. found-among test rs c r (both-right (test x) (every test rs) t) q)
+    go (eqb c (x .code)) refl e (λ q. found-among test rs c r (and-r (test x) (every test rs) t) q)
   where
     go : (b : Bool) → eqb c (x .code) ≡ b → elim b [ true ↦ some x | false ↦ rowAmong rs c ] ≡ some r
         → (rowAmong rs c ≡ some r → (c ≡ r .code) × T (test r)) → (c ≡ r .code) × T (test r)
     go true b q ih =
         let s : x ≡ r = cc in
-        (eqb-true c (x .code) b ∙ ap (λ (y : TypeRow). y .code) s, subst (λ (y : TypeRow). T (test y)) s (both-left (test x) (every test rs) t))
+        (eqb-true c (x .code) b ∙ ap (λ (y : TypeRow). y .code) s, subst (λ (y : TypeRow). T (test y)) s (and-l (test x) (every test rs) t))
     go false b q ih = ih q
 
 -- A test that passes at each row of the table passes at a row that is found there.
@@ -68,7 +69,7 @@ module _ (r : TypeRow) (l : Listed r) where
   pub signed-width : r .kind ≡ signed → (1 ≤ r .most) × (r .most ≤ 4)
   signed-width k =
       let t = rw k at kinds in
-      (leb→le 1 (r .most) (both-left (leb 1 (r .most)) (leb (r .most) 4) t), leb→le (r .most) 4 (both-right (leb 1 (r .most)) (leb (r .most) 4) t))
+      (leb→le 1 (r .most) (and-l (leb 1 (r .most)) (leb (r .most) 4) t), leb→le (r .most) 4 (and-r (leb 1 (r .most)) (leb (r .most) 4) t))
 
   pub float-row : r .kind ≡ float → (r .most ≡ 2) × (r .range ≡ notNaN)
   float-row k = go (r .range) refl (rw k at kinds)

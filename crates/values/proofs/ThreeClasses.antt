@@ -7,8 +7,8 @@ use mathlib.Core.Option.{some}
 use Prim.Native.Nat.{ℕ, _^_, _≤_, _<_}
 use borrow.Author.Tests.{le-leb, lt-leb}
 use Rattle.values.specs.Rows.{TypeRow, rowOf}
-use Rattle.values.specs.Registers.{tooWide}
-use Rattle.values.specs.Classes.{bits, isMarker, inRange, Class, value, unimplemented, outOfRange, classOf, classified, under, noPattern}
+use Rattle.values.specs.Registers as registers
+use Rattle.values.specs.Classes.{width, isMarker, inRange, Class, value, unimplemented, outOfRange, classOf, classified, ofClass, tooWide}
 use Rattle.values.proofs.ClassCases as cases
 
 module _ (row : TypeRow) (raw : ℕ) where
@@ -49,10 +49,10 @@ module _ (row : TypeRow) (raw : ℕ) where
 
 -- By type code: a pattern of the type's width has its class, and a wider number has none.
 module _ (code raw : ℕ) (row : TypeRow) (is : rowOf code ≡ some row) where
-  pub pattern-has-class : raw < 2 ^ bits row → classified code raw ≡ under (classOf row raw)
-  unfolding tooWide
+  pub pattern-has-class : raw < 2 ^ width row → classified code raw ≡ ofClass (classOf row raw)
+  unfolding registers.tooWide
   pattern-has-class h = cases.of-class code raw row is (lt-leb _ _ h)
 
-  pub wider-has-none : 2 ^ bits row ≤ raw → classified code raw ≡ noPattern
-  unfolding tooWide
+  pub wider-has-none : 2 ^ width row ≤ raw → classified code raw ≡ tooWide
+  unfolding registers.tooWide
   wider-has-none h = cases.too-wide code raw row is (le-leb _ _ h)

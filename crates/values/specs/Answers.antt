@@ -22,7 +22,7 @@ answer (Value.Unsigned n) = Decoding.unsigned n
 answer (Value.Float x) = Decoding.float x
 answer Value.Unimplemented = Decoding.unimplemented
 answer Value.OutOfRange = Decoding.outOfRange
-answer Value.UnknownType = Decoding.refused 40
+answer Value.NotDecodable = Decoding.refused 40
 
 abbrev pub classAnswer : Class → Classes.Class
 classAnswer Class.Value = Classes.value
@@ -31,8 +31,8 @@ classAnswer Class.OutOfRange = Classes.outOfRange
 
 -- The answer of `classify`.
 abbrev pub classifiedAnswer : Classified → Classes.Classified
-classifiedAnswer (Classified.Of c) = Classes.under (classAnswer c)
-classifiedAnswer Classified.TooWide = Classes.noPattern
+classifiedAnswer (Classified.Of c) = Classes.ofClass (classAnswer c)
+classifiedAnswer Classified.TooWide = Classes.tooWide
 classifiedAnswer Classified.UnknownType = Classes.unknownType
 
 -- The answer of `register_count`.

@@ -6,7 +6,7 @@ use lib.Dec.{eqb, ltb}
 use lib.IntN.{ℤ, pos, _-ℤ_}
 use lib.Signed.{leZ}
 use lib.Ieee.{binary32, nanBits}
-use Rattle.values.specs.Registers.{tooWide}
+use Rattle.values.specs.Registers as registers
 use Rattle.values.specs.Rows.{TypeRow, rowOf, Listed, Kind, signed, unsigned, float, Marker, never, pattern, Range, whole, between, notNaN}
 
 -- The number that a pattern of so many bits stands for in two's complement.
@@ -15,13 +15,13 @@ twosComplement bits raw =
     elim (ltb raw (2 ^ (bits - 1))) [ true ↦ pos raw | false ↦ pos raw -ℤ pos (2 ^ bits) ]
 
 -- The bits of a type at its widest: 16 a register.
-abbrev pub bits : TypeRow → ℕ
-bits row = 16 * row .most
+abbrev pub width : TypeRow → ℕ
+width row = 16 * row .most
 
--- The integer that a pattern stands for by its type's sign.
+-- The integer that a pattern stands for by its type's sign. It is not asked of a float: no float has a range of integers.
 unfoldable pub integer : TypeRow → ℕ → ℤ
 integer row raw =
-    elim (row .kind) [ signed ↦ twosComplement (bits row) raw | unsigned ↦ pos raw | float ↦ pos raw ]
+    elim (row .kind) [ signed ↦ twosComplement (width row) raw | unsigned ↦ pos raw | float ↦ pos raw ]
 
 -- Is the raw number the type's unimplemented pattern?
 abbrev pub isMarker : Marker → ℕ → Bool
@@ -51,17 +51,18 @@ classOf row raw =
 -- A raw number that is a pattern of a type of the table.
 pub record PatternOf (row : TypeRow) (raw : ℕ) : Type 0 where
   pub listed : Listed row
-  pub fits : raw < 2 ^ bits row
+  pub fits : raw < 2 ^ width row
 
--- What `classify` answers of a raw number: its class, that it is too wide to be a pattern of the type, or that the type is unknown.
+-- What `classify` answers of a raw number: its class; or that it is too wide to be a pattern of the type (document 01, "Events":
+-- 2 ^ (16 × registers) or more), a string at its longest; or that the type is unknown.
 pub data Classified : Type 0 where
-  under : Class → Classified
-  noPattern : Classified
+  ofClass : Class → Classified
+  tooWide : Classified
   unknownType : Classified
 
 unfoldable pub classified : ℕ → ℕ → Classified
 classified code raw =
     elim (rowOf code) [
       | none ↦ unknownType
-      | some row ↦ elim (tooWide (row .most) raw) [ true ↦ noPattern | false ↦ under (classOf row raw) ]
+      | some row ↦ elim (registers.tooWide (row .most) raw) [ true ↦ tooWide | false ↦ ofClass (classOf row raw) ]
     ]

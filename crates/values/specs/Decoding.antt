@@ -9,7 +9,7 @@ use lib.Ieee.{Float, binary32, ofBits}
 use lib.ListN.{take}
 use Rattle.values.specs.Rows.{TypeRow, Kind, rowOf}
 use Rattle.values.specs.Registers.{join}
-use Rattle.values.specs.Classes.{Class, bits, twosComplement, classOf}
+use Rattle.values.specs.Classes.{Class, width, twosComplement, classOf}
 
 -- The answers, with their data; a refusal by its number.
 pub data Decoded : Type 0 where
@@ -24,7 +24,7 @@ pub data Decoded : Type 0 where
 unfoldable pub numberOf : TypeRow → ℕ → Decoded
 numberOf row raw =
     elim (row .kind) [
-      | Kind.signed ↦ signed (twosComplement (bits row) raw)
+      | Kind.signed ↦ signed (twosComplement (width row) raw)
       | Kind.unsigned ↦ unsigned raw
       | Kind.float ↦ float (ofBits binary32 raw)
     ]

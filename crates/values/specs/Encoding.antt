@@ -6,7 +6,7 @@ use lib.IntN.{ℤ, pos, negsuc}
 use lib.Ieee.{binary32, toBits}
 use Rattle.values.specs.Rows.{TypeRow}
 use Rattle.values.specs.Registers.{split}
-use Rattle.values.specs.Classes.{bits}
+use Rattle.values.specs.Classes.{width}
 use Rattle.values.specs.Decoding.{Decoded, signed, unsigned, float, unimplemented, outOfRange, refused, decodable}
 
 -- The pattern of an integer in two's complement of so many bits.
@@ -16,7 +16,7 @@ twosPattern bits (negsuc n) = 2 ^ bits - suc n
 
 -- The raw number of a decoded number; the other answers have none.
 abbrev pub rawNumber : TypeRow → Decoded → Option ℕ
-rawNumber row (signed z) = some (twosPattern (bits row) z)
+rawNumber row (signed z) = some (twosPattern (width row) z)
 rawNumber row (unsigned n) = some n
 rawNumber row (float x) = some (toBits binary32 x)
 rawNumber row unimplemented = none

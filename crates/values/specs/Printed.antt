@@ -13,8 +13,8 @@ pub record PrintedRange : Type 0 where
   pub least : ℤ
   pub greatest : ℤ
 
-abbrev upTo : ℕ → ℕ → PrintedRange
-upTo c n = record { code = c; least = pos 0; greatest = pos n }
+abbrev zeroTo : ℕ → ℕ → PrintedRange
+zeroTo c n = record { code = c; least = pos 0; greatest = pos n }
 
 abbrev around : ℕ → ℕ → PrintedRange
 around c n = record { code = c; least = negℤ (pos n); greatest = pos n }
@@ -22,27 +22,27 @@ around c n = record { code = c; least = negℤ (pos n); greatest = pos n }
 unfoldable pub printed : List PrintedRange
 printed =
     around 1 32767
-    ∷ upTo 2 65534
-    ∷ upTo 3 65535
-    ∷ upTo 4 65534
-    ∷ upTo 5 0x7FFF
+    ∷ zeroTo 2 65534
+    ∷ zeroTo 3 65535
+    ∷ zeroTo 4 65534
+    ∷ zeroTo 5 0x7FFF
     ∷ record { code = 6; least = pos 0x8000; greatest = pos 0x8000 }
     ∷ around 8 10
     ∷ around 9 2147483647
-    ∷ upTo 10 4294967294
-    ∷ upTo 11 4294967295
-    ∷ upTo 12 4294967294
-    ∷ upTo 13 0x7FFFFFFF
+    ∷ zeroTo 10 4294967294
+    ∷ zeroTo 11 4294967295
+    ∷ zeroTo 12 4294967294
+    ∷ zeroTo 13 0x7FFFFFFF  -- printed: 0x7FFFFFF
     ∷ around 16 9223372036854775807
-    ∷ upTo 17 18446744073709551614
-    ∷ upTo 18 9223372036854775807
+    ∷ zeroTo 17 18446744073709551614  -- printed: 18,446,744,073,709,551,615
+    ∷ zeroTo 18 9223372036854775807
     ∷ []
 
--- An integer that was decoded lies in the range; the other answers are no integers.
+-- What was decoded is an integer in the range, or there is no value. None of these types is a float or refused.
 abbrev pub Within : PrintedRange → Decoded → Type 0
 Within r (signed z) = (r .least ≤ℤ z) × (z ≤ℤ r .greatest)
 Within r (unsigned n) = (r .least ≤ℤ pos n) × (pos n ≤ℤ r .greatest)
-Within r (float x) = Unit {0}
+Within r (float x) = ⊥
 Within r unimplemented = Unit {0}
 Within r outOfRange = Unit {0}
-Within r (refused n) = Unit {0}
+Within r (refused n) = ⊥

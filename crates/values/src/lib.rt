@@ -1,11 +1,12 @@
 // Values of SunSpec points: how registers join, what a raw number is under its type, and `decode`.
-// Every call here is total and carries an equation with the definitions of specs/.
+// Every public call takes any arguments and carries an equation with the definitions of specs/.
 mod classes;
 mod registers;
 mod rows;
 
 use classes::class_in;
 pub use classes::classify;
+use registers::all_ones;
 pub use registers::raw_value;
 pub use registers::too_wide;
 use rows::Found;
@@ -26,7 +27,8 @@ pub enum Class {
     OutOfRange,
 }
 
-// What `classify` answers of a raw number: its class, or why it has none.
+// What `classify` answers of a raw number: its class, or why it has none. A string's width is that of
+// the longest: for a point of another size, ask `too_wide` as well.
 pub enum Classified {
     Of(Class),
     TooWide,
@@ -39,14 +41,15 @@ pub enum RegisterCount {
     UnknownType,
 }
 
-// What `decode` answers: a number, or why there is none. UnknownType is refusal 40.
+// What `decode` answers: a number, or why there is none. NotDecodable is refusal 40: the code is not 1–18.
+// string and ipv6addr are types, but may take more than the four registers.
 pub enum Value {
     Signed(i64),
     Unsigned(u64),
     Float(f32),
     Unimplemented,
     OutOfRange,
-    UnknownType,
+    NotDecodable,
 }
 
 // How many registers a point of this type takes.
@@ -79,7 +82,7 @@ pub fn decode(type_code: u16, registers: [u16; 4]) -> Value
     ensures { λ r. ⌜ answer r ≡ decoded «type_code» registers ⌝ }
 {
     if 18 < type_code {
-        return Value::UnknownType;
+        return Value::NotDecodable;
     }
     let found = row_of(type_code);
     match found {
@@ -88,7 +91,7 @@ pub fn decode(type_code: u16, registers: [u16; 4]) -> Value
             let raw = raw_value(&registers[..count]);
             value_of(row, raw)
         }
-        Found::Nothing => Value::UnknownType,
+        Found::Nothing => Value::NotDecodable,
     }
 }
 
@@ -130,17 +133,4 @@ fn twos_complement(count: u16, raw: u64) -> i64
         return raw as i64;
     }
     -1 - ((ones - raw) as i64)
-}
-
-// The largest pattern of one to four registers.
-fn all_ones(count: u16) -> u64
-    requires { ⌜ (1 ≤ count) × (count ≤ 4) ⌝ }
-    ensures { λ r. ⌜ r ≡ 2 ^ (16 * count) - 1 ⌝ }
-{
-    match count {
-        1 => 0xFFFF,
-        2 => 0xFFFFFFFF,
-        3 => 0xFFFFFFFFFFFF,
-        _ => 0xFFFFFFFFFFFFFFFF,
-    }
 }

@@ -1,7 +1,6 @@
 // Registers and the raw number that they hold.
-
 ghost use mathlib.Core.Path.{_≡_};
-ghost use Prim.Native.Nat.{_<_, _^_};
+ghost use Prim.Native.Nat.{_-_, _*_, _^_, _<_, min};
 ghost use lib.ListN.{length};
 ghost use Rattle.values.specs.Registers.{shownRaw, tooWide};
 
@@ -14,11 +13,11 @@ pub fn raw_value(registers: &[u16]) -> u64
         return 0;
     }
     let mut raw: u64 = 0;
-    let mut i = 0;
-    while i < registers.len() {
-        let register = registers[i] as u64;
+    let mut left = registers.len();
+    while 0 < left {
+        let register = registers[registers.len() - left] as u64;
         raw = raw * 65536 + register;
-        i += 1;
+        left -= 1;
     }
     raw
 }
@@ -27,11 +26,18 @@ pub fn raw_value(registers: &[u16]) -> u64
 pub fn too_wide(count: u16, raw: u64) -> bool
     ensures { λ r. ⌜ r ≡ tooWide count raw ⌝ }
 {
+    all_ones(count) < raw
+}
+
+// The largest pattern of so many registers, as far as 64 bits hold it.
+pub(crate) fn all_ones(count: u16) -> u64
+    ensures { λ r. ⌜ r ≡ min (2 ^ (16 * count)) (2 ^ 64) - 1 ⌝ }
+{
     match count {
-        0 => 1 <= raw,
-        1 => 0x10000 <= raw,
-        2 => 0x100000000 <= raw,
-        3 => 0x1000000000000 <= raw,
-        _ => false,
+        0 => 0,
+        1 => 0xFFFF,
+        2 => 0xFFFFFFFF,
+        3 => 0xFFFFFFFFFFFF,
+        _ => 0xFFFFFFFFFFFFFFFF,
     }
 }

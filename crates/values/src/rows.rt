@@ -35,6 +35,7 @@ pub(crate) enum Range {
     NotNan,
 }
 
+// A type row. Its code is for the proofs: they say by it that a row is one of the table.
 pub(crate) struct TypeRow {
     pub(crate) code: u16,
     pub(crate) fewest: u16,
@@ -50,45 +51,49 @@ pub(crate) enum Found {
     Nothing,
 }
 
-// A row as the table writes it: code, fewest and most registers, may it carry a scale factor, kind,
-// unimplemented pattern, range.
+// A row as the table writes it, on one line: code, fewest and most registers, may it carry a scale
+// factor, kind, unimplemented pattern, range.
 struct Line(u16, u16, u16, bool, Kind, Marker, Range);
 
-// The rows of the codes from 1 on, in order.
-const TABLE: [Line; 20] = [
-    Line(1, 1, 1, true, Signed, At(0x8000), Whole),
-    Line(2, 1, 1, true, Unsigned, At(0xFFFF), Whole),
-    Line(3, 1, 1, true, Unsigned, At(0), Whole),
-    Line(4, 1, 1, false, Unsigned, At(0xFFFF), Whole),
-    Line(5, 1, 1, false, Unsigned, At(0xFFFF), UpTo(0x7FFF)),
-    Line(6, 1, 1, false, Unsigned, Never, Only(0x8000)),
-    Line(7, 1, 1, false, Unsigned, Never, Whole),
-    Line(8, 1, 1, false, Signed, At(0x8000), ScaleFactor),
-    Line(9, 2, 2, true, Signed, At(0x80000000), Whole),
-    Line(10, 2, 2, true, Unsigned, At(0xFFFFFFFF), Whole),
-    Line(11, 2, 2, true, Unsigned, At(0), Whole),
-    Line(12, 2, 2, false, Unsigned, At(0xFFFFFFFF), Whole),
-    Line(13, 2, 2, false, Unsigned, At(0xFFFFFFFF), UpTo(0x7FFFFFFF)),
-    Line(14, 2, 2, false, Float, At(0x7FC00000), NotNan),
-    Line(15, 2, 2, false, Unsigned, At(0), Whole),
-    Line(16, 4, 4, true, Signed, At(0x8000000000000000), Whole),
-    Line(17, 4, 4, true, Unsigned, At(0xFFFFFFFFFFFFFFFF), Whole),
-    Line(18, 4, 4, true, Unsigned, At(0), UpTo(0x7FFFFFFFFFFFFFFF)),
-    Line(19, 1, 64, false, Unsigned, At(0), Whole),
-    Line(20, 8, 8, false, Unsigned, At(0), Whole),
+// How many types there are: their codes count from 1.
+const TYPES: usize = 20;
+
+// The rows in the order of their codes.
+const TABLE: [Line; TYPES] = [
+    Line(1, 1, 1, true, Signed, At(0x8000), Whole), // int16
+    Line(2, 1, 1, true, Unsigned, At(0xFFFF), Whole), // uint16
+    Line(3, 1, 1, true, Unsigned, At(0), Whole), // acc16
+    Line(4, 1, 1, false, Unsigned, At(0xFFFF), Whole), // enum16
+    Line(5, 1, 1, false, Unsigned, At(0xFFFF), UpTo(0x7FFF)), // bitfield16
+    Line(6, 1, 1, false, Unsigned, Never, Only(0x8000)), // pad
+    Line(7, 1, 1, false, Unsigned, Never, Whole), // raw16
+    Line(8, 1, 1, false, Signed, At(0x8000), ScaleFactor), // sunssf
+    Line(9, 2, 2, true, Signed, At(0x80000000), Whole), // int32
+    Line(10, 2, 2, true, Unsigned, At(0xFFFFFFFF), Whole), // uint32
+    Line(11, 2, 2, true, Unsigned, At(0), Whole), // acc32
+    Line(12, 2, 2, false, Unsigned, At(0xFFFFFFFF), Whole), // enum32
+    Line(13, 2, 2, false, Unsigned, At(0xFFFFFFFF), UpTo(0x7FFFFFFF)), // bitfield32
+    Line(14, 2, 2, false, Float, At(0x7FC00000), NotNan), // float32
+    Line(15, 2, 2, false, Unsigned, At(0), Whole), // ipaddr
+    Line(16, 4, 4, true, Signed, At(0x8000000000000000), Whole), // int64
+    Line(17, 4, 4, true, Unsigned, At(0xFFFFFFFFFFFFFFFF), Whole), // uint64
+    Line(18, 4, 4, true, Unsigned, At(0), UpTo(0x7FFFFFFFFFFFFFFF)), // acc64
+    Line(19, 1, 64, false, Unsigned, At(0), Whole), // string
+    Line(20, 8, 8, false, Unsigned, At(0), Whole), // ipv6addr
 ];
 
 // The row of a type code.
 pub(crate) fn row_of(type_code: u16) -> Found
     ensures { λ r. ⌜ foundMeans r ≡ rowOf «type_code» ⌝ }
 {
-    if type_code < 1 {
+    let code = type_code as usize;
+    if code < 1 {
         return Found::Nothing;
     }
-    if 20 < type_code {
+    if TYPES < code {
         return Found::Nothing;
     }
-    let line = TABLE[(type_code - 1) as usize];
+    let line = TABLE[code - 1];
     let kind = line.4;
     let marker = line.5;
     let range = line.6;

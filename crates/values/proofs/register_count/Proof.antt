@@ -1,35 +1,27 @@
-use Rattle.values.specs.Rows.{registersOf}
-use Rattle.values.specs.Answers.{foundMeans}
+-- `register_count` answers from the row that is found.
 use mathlib.Core.Path.{sym, ap, _∙_}
 use borrow.Author.Needs.{needs}
+use Rattle.values.specs.Rows.{registersOf}
+use Rattle.values.specs.Answers.{foundMeans}
 use Rattle.values.proofs.register_count.Statement.{statement}
 use Rattle.values.proofs.register_count.Tie as tie
-use Rattle.values.proofs.register_count.Reads as reads
-use Rattle.values.proofs.register_count.Lts as lts
-use Rattle.values.proofs.rows.row_of.Reads as row-of-reads
 
--- src/lib.rt:56:9
 row-of-requires : tie.Need-row-of-requires
 row-of-requires c κs = search needs
 
--- src/lib.rt:58:20
 enum-known-found : tie.Need-enum-known-found
 enum-known-found c = search needs
 
--- src/lib.rt:62:27
 enum-told : tie.Need-enum-told
 enum-told c = search needs
 
--- src/lib.rt:53:1
 returns : tie.Need-returns
 unfolding registersOf
 returns c = simp (registersOf, sym (c .before .before .before .row-of .ensures) ∙ ap foundMeans (c .before .found .given .1))
 
--- src/lib.rt:53:1
 returns-2 : tie.Need-returns-2
 unfolding registersOf
 returns-2 c = simp (registersOf, sym (c .before .before .row-of .ensures) ∙ ap foundMeans (c .enum-told .given .1))
 
 pub register-count-spec : {M : Type 1} → statement M
-register-count-spec =
-    tie.close (tie.spec row-of-requires enum-known-found enum-told returns returns-2)
+register-count-spec = tie.close (tie.spec row-of-requires enum-known-found enum-told returns returns-2)

@@ -1,31 +1,24 @@
-use Rattle.values.specs.Rows.{mayScale}
-use Rattle.values.specs.Answers.{foundMeans}
+-- `scalable` answers from the row that is found.
 use mathlib.Core.Path.{sym, ap, _∙_}
 use borrow.Author.Needs.{needs}
+use Rattle.values.specs.Rows.{mayScale}
+use Rattle.values.specs.Answers.{foundMeans}
 use Rattle.values.proofs.scalable.Statement.{statement}
 use Rattle.values.proofs.scalable.Tie as tie
-use Rattle.values.proofs.scalable.Reads as reads
-use Rattle.values.proofs.scalable.Lts as lts
-use Rattle.values.proofs.rows.row_of.Reads as row-of-reads
 
--- src/lib.rt:70:9
 row-of-requires : tie.Need-row-of-requires
 row-of-requires c κs = search needs
 
--- src/lib.rt:72:20
 enum-known-found : tie.Need-enum-known-found
 enum-known-found c = search needs
 
--- src/lib.rt:73:27
 enum-told : tie.Need-enum-told
 enum-told c = search needs
 
--- src/lib.rt:67:1
 returns : tie.Need-returns
 unfolding mayScale
 returns c = simp (mayScale, sym (c .before .before .before .row-of .ensures) ∙ ap foundMeans (c .before .found .given .1))
 
--- src/lib.rt:67:1
 returns-2 : tie.Need-returns-2
 unfolding mayScale
 returns-2 c = simp (mayScale, sym (c .before .before .row-of .ensures) ∙ ap foundMeans (c .enum-told .given .1))

@@ -1,32 +1,37 @@
 -- `raw_value` joins up to four registers. The invariant: what is joined, moved up past the registers left, and what these hold
 -- make the whole; and the registers joined so far leave room in 64 bits for the next.
 use mathlib.Core.Path.{_≡_, sym, _∙_}
-use Prim.Native.Nat.{_+_, _-_, _*_, _^_, _≤_, _<_}
+use Prim.Native.Nat.{suc, _+_, _-_, _*_, _^_, _≤_, _<_}
 use native.Mathlib.Omega.{arith}
 use borrow.Author.Needs.{needs}
 use borrow.Author.Tests.{le-leb, lt-leb}
 use lib.ListN.{length, drop, getD}
 use Rattle.values.specs.Registers.{join, shownRaw}
-use Rattle.values.proofs.Joining.{join-step, join-end, one-more, room, positive}
+use Rattle.values.proofs.Joining.{join-start, join-step, join-end, one-more, room, positive}
 use Rattle.values.proofs.registers.raw_value.Statement.{statement}
 use Rattle.values.proofs.registers.raw_value.Tie as tie
 
 abbrev Inv-loop : tie.InvT-loop
-Inv-loop registers raw₀ i₀ raw i =
-    (i ≤ length registers)
+Inv-loop registers raw₀ left₀ raw left =
+    (left ≤ length registers)
     × (length registers ≤ 4)
-    × (raw < 65536 ^ i)
-    × (raw * 65536 ^ (length registers - i) + join (drop i registers) ≡ join registers)
+    × (raw < 65536 ^ (length registers - left))
+    × (raw * 65536 ^ left + join (drop (length registers - left) registers) ≡ join registers)
 
 abbrev μ-loop : tie.MeasureT-loop
-μ-loop registers raw₀ i₀ raw i = length registers - i
+μ-loop registers raw₀ left₀ raw left = left
 
 returns : tie.Need-returns Inv-loop μ-loop
 unfolding shownRaw
 returns c = (simp (shownRaw, lt-leb _ _ (c .if1 .taken)), positive (length (c .before .args .registers .now)))
 
 loop-holds : tie.Need-loop-holds Inv-loop μ-loop
-loop-holds c = search needs
+loop-holds c =
+    let rs = c .before .args .registers .now in
+    (omega arith, omega arith, positive (length rs - length rs), join-start rs)
+
+sub-register : tie.Need-sub-register Inv-loop μ-loop
+sub-register c = search needs
 
 mul-register : tie.Need-mul-register Inv-loop μ-loop
 mul-register c = search needs
@@ -35,20 +40,24 @@ shared-slice-read-register : tie.Need-shared-slice-read-register Inv-loop μ-loo
 shared-slice-read-register c = search needs
 
 cast-register : tie.Need-cast-register Inv-loop μ-loop
-cast-register c = omega (arith, c .shared-slice-known .given (c .before .before .loop .i))
+cast-register c =
+    let rs = c .before .before .before .before .args .registers .now in
+    omega (arith, c .shared-slice-known .given (length rs - c .before .before .loop .left))
 
 mul-raw : tie.Need-mul-raw Inv-loop μ-loop
 mul-raw c =
     let l = c .before .before .loop in
-    omega (arith, c .shared-slice-known .given (l .i), room (l .i) (l .raw) (omega arith) (l .inv .2))
+    let i = length (c .before .before .before .before .args .registers .now) - l .left in
+    omega (arith, c .shared-slice-known .given i, room i (l .raw) (omega arith) (l .inv .2))
 
 add-raw : tie.Need-add-raw Inv-loop μ-loop
 add-raw c =
     let l = c .before .before .loop in
-    omega (arith, c .shared-slice-known .given (l .i), room (l .i) (l .raw) (omega arith) (l .inv .2))
+    let i = length (c .before .before .before .before .args .registers .now) - l .left in
+    omega (arith, c .shared-slice-known .given i, room i (l .raw) (omega arith) (l .inv .2))
 
-add-i : tie.Need-add-i Inv-loop μ-loop
-add-i c = search needs
+sub-left : tie.Need-sub-left Inv-loop μ-loop
+sub-left c = search needs
 
 loop-less : tie.Need-loop-less Inv-loop μ-loop
 loop-less c = search needs
@@ -56,11 +65,13 @@ loop-less c = search needs
 loop-again : tie.Need-loop-again Inv-loop μ-loop
 loop-again c =
     let l = c .before .before .loop in
-    let rs = c .before .before .before .before .args .registers .now in (
+    let rs = c .before .before .before .before .args .registers .now in
+    let i = length rs - l .left in
+    let e : length rs - (l .left - 1) ≡ suc i = omega arith in (
       omega arith,
       omega arith,
-      one-more (l .i) (l .raw) (getD rs (l .i) 0) (l .inv .2) (c .shared-slice-known .given (l .i) .fits),
-      sym (join-step rs (l .i) (l .raw) (c .before .loop-test .taken)) ∙ l .inv .3,
+      rw e (one-more i (l .raw) (getD rs i 0) (l .inv .2) (c .shared-slice-known .given i .fits)),
+      sym (join-step rs (l .left) (l .raw) (omega arith) (l .inv .0)) ∙ l .inv .3,
     )
 
 returns-2 : tie.Need-returns-2 Inv-loop μ-loop
@@ -68,8 +79,9 @@ unfolding shownRaw
 returns-2 c =
     let l = c .before .loop in
     let rs = c .before .before .before .args .registers .now in
-    let e : l .i ≡ length rs = omega (arith, c .loop-test .left) in
-    (simp (shownRaw, le-leb _ _ (l .inv .1)) (sym (join-end rs (l .i) (l .raw) (c .loop-test .left)) ∙ l .inv .3), rw (← e) (l .inv .2))
+    let e : l .left ≡ 0 = omega (arith, c .loop-test .left) in
+    let all : length rs - l .left ≡ length rs = omega arith in
+    (simp (shownRaw, le-leb _ _ (l .inv .1)) (sym (join-end rs (l .raw)) ∙ (rw e at (l .inv .3))), rw all at (l .inv .2))
 
 pub raw-value-spec : {M : Type 1} → statement M
 raw-value-spec =
@@ -79,12 +91,13 @@ raw-value-spec =
     μ-loop
     returns
     loop-holds
+    sub-register
     mul-register
     shared-slice-read-register
     cast-register
     mul-raw
     add-raw
-    add-i
+    sub-left
     loop-less
     loop-again
     returns-2)

@@ -13,9 +13,6 @@ returns c = sym (no-row-outside (c .before .args .type-code) (λ l h. omega (ari
 returns-2 : tie.Need-returns-2
 returns-2 c = sym (no-row-outside (c .before .before .args .type-code) (λ l h. omega (arith, h)))
 
-cast-line : tie.Need-cast-line
-cast-line c = search needs
-
 mul-line : tie.Need-mul-line
 mul-line c = search needs
 
@@ -27,4 +24,4 @@ unfolding rows codeTable
 returns-3 c = at-code _ (c .before .before .before .args .type-code) (omega arith) (omega arith)
 
 pub row-of-spec : {M : Type 1} → statement M
-row-of-spec = tie.close (tie.spec returns returns-2 cast-line mul-line array-copy-out-line returns-3)
+row-of-spec = tie.close (tie.spec returns returns-2 mul-line array-copy-out-line returns-3)
