@@ -1,18 +1,16 @@
--- What the contracts of `fields` cite: the bounds that callers need. Assumes nothing.
+-- What the contracts of the field readers cite: the bounds that callers need.
 use Prim.Native.Nat.{ℕ, _≤_}
 use mathlib.Core.List.{List}
 use Rattle.io.specs.Counts.{Counts}
 use Rattle.probe.specs.declared.fields.Number.{Number}
-use Rattle.probe.specs.declared.fields.Number.the-variants.{Of as Value, Bad as NoNumber}
 use Rattle.probe.specs.declared.fields.Words.{Words}
-use Rattle.probe.specs.declared.fields.Words.the-variants.{Of as Count, Bad as NoWords}
 
--- a number that was read is at most the bound
+-- A number that was read is at most the bound.
 abbrev pub AtMost : ℕ → Number → Type 0
-AtMost bound (Value value next) = value ≤ bound
-AtMost bound NoNumber = Unit {0}
+AtMost bound (Number.Of value next) = value ≤ bound
+AtMost bound Number.Bad = Unit {0}
 
--- the words stored are at the start of out
+-- The words that were stored are at the start of the list.
 abbrev pub Stored : List ℕ → Words → Type 0
-Stored out (Count count next) = Counts count out
-Stored out NoWords = Unit {0}
+Stored out (Words.Of count next) = Counts count out
+Stored out Words.Bad = Unit {0}

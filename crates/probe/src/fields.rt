@@ -47,20 +47,6 @@ pub(crate) fn find(s: &[u8], start: usize, byte: u8) -> usize
     s.len()
 }
 
-pub(crate) fn same(a: &[u8], b: &[u8]) -> bool {
-    if a.len() != b.len() {
-        return false;
-    }
-    let mut i = 0;
-    while i < a.len() {
-        if a[i] != b[i] {
-            return false;
-        }
-        i += 1;
-    }
-    true
-}
-
 pub(crate) fn nothing_left(line: &[u8], at: usize) -> bool {
     at == line.len()
 }
@@ -140,7 +126,7 @@ pub(crate) fn words_field(line: &[u8], at: usize, out: &mut [u16]) -> Words
     if start == end {
         return Words::Bad;
     }
-    if same(&line[start..end], b"-") {
+    if check::same(&line[start..end], b"-") {
         return Words::Of {
             count: 0,
             next: end,

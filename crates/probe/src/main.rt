@@ -1,5 +1,6 @@
 // Runs one call of the libraries for each line of standard input, and writes one answer line for
-// each, in order. A line is a command's word and its fields, with one space before each field.
+// each, in order. A line is a command's word and its fields, with one space before each field. What
+// lies past the first 524,288 bytes is not read.
 mod decode;
 mod fields;
 mod output;
@@ -27,8 +28,8 @@ fn answer_lines(input: &[u8]) {
     }
 }
 
-// Whether the line that ends at `end` goes on past what was read. Only a further byte tells an
-// input that fills the buffer to the last byte from a longer one.
+// Whether the line that ends at `end` goes on past what was read. Where the buffer is full to its last
+// byte only the next one tells: the line is whole if the input ends there, or the line does.
 fn is_cut(input: &[u8], end: usize) -> bool {
     if end < input.len() {
         return false;
@@ -37,7 +38,10 @@ fn is_cut(input: &[u8], end: usize) -> bool {
         return false;
     }
     let mut next = [0u8; 1];
-    0 < io::read_full(STDIN_FILENO, &mut next)
+    if io::read_full(STDIN_FILENO, &mut next) == 0 {
+        return false;
+    }
+    next[0] != b'\n'
 }
 
 fn answer(line: &[u8]) {
@@ -51,7 +55,7 @@ fn answer(line: &[u8]) {
 fn run(line: &[u8]) -> bool {
     let at = fields::find(line, 0, b' ');
     let word = &line[..at];
-    if fields::same(word, b"decode") {
+    if check::same(word, b"decode") {
         return decode::run(line, at);
     }
     false

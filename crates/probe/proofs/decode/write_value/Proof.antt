@@ -1,4 +1,4 @@
--- `probe::decode::write_value` is safe: a float's bits are asked for only where it is no NaN, which is what `values::decode` says of its answer. Assumes nothing.
+-- `probe::decode::write_value` is safe: a float's bits are asked for only where it is no NaN, which is what `values::decode` says of its answer.
 use mathlib.Core.Path.{sym, ap, _∙_}
 use borrow.Author.Needs.{needs}
 use Rattle.values.specs.Answers.{answer}

@@ -1,4 +1,4 @@
--- `probe::fields::decimal_field` meets its contract. The loop's invariant: the number of the digits so far is at most the bound. Assumes nothing.
+-- `probe::fields::decimal_field` meets its contract. The loop's invariant: the number of the digits so far is at most the bound.
 use Prim.Native.Nat.{_≤_, _-_}
 use native.Mathlib.Omega.{arith}
 use borrow.Author.Tests.{ltb-false}

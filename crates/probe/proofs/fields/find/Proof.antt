@@ -1,4 +1,4 @@
--- `probe::fields::find` meets its contract. The loop's invariant: `i` is not below `start`. Assumes nothing.
+-- `probe::fields::find` meets its contract. The loop's invariant: `i` is not below `start`.
 use Prim.Native.Nat.{_≤_, _-_}
 use borrow.Author.Needs.{needs}
 use lib.ListN.{length}

@@ -1,4 +1,4 @@
--- `probe::fields::store_words` meets its contract. The loop's invariant: a store keeps the length, and `k` is at most the count. Assumes nothing.
+-- `probe::fields::store_words` meets its contract. The loop's invariant: a store keeps the length, and `k` is at most the count.
 use Prim.Native.Nat.{_≤_, _-_}
 use mathlib.Core.Path.{_≡_}
 use borrow.Author.Needs.{needs}

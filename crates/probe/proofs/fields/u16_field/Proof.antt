@@ -1,4 +1,4 @@
--- `probe::fields::u16_field` is safe: what `decimal_field` says of its answer is read at the number that the answer holds. Assumes nothing.
+-- `probe::fields::u16_field` is safe: what `decimal_field` says of its answer is read at the number that the answer holds.
 use native.Mathlib.Omega.{arith}
 use mathlib.Core.Path.{subst}
 use borrow.Author.Needs.{needs}

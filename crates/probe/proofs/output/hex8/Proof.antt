@@ -1,4 +1,4 @@
--- `probe::output::hex8` is safe and ends. The loop's invariant: there are eight digits, and `i` is at most 8. Assumes nothing.
+-- `probe::output::hex8` is safe and ends. The loop's invariant: there are eight digits, and `i` is at most 8.
 use Prim.Native.Nat.{_≤_}
 use mathlib.Core.Path.{_≡_}
 use borrow.Author.Needs.{needs}

@@ -1,4 +1,4 @@
--- `probe::output::signed` meets its contract: -1 less a number below 0 is a number from 0 on. Assumes nothing.
+-- `probe::output::signed` meets its contract: -1 less a number below 0 is a number from 0 on.
 use Prim.Native.Nat.{ℕ, suc, _-_, _<_, _^_}
 use native.Mathlib.Omega.{arith}
 use mathlib.Core.Path.{_≡_}
