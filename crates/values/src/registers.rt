@@ -15,11 +15,17 @@ pub fn raw_value(registers: &[u16]) -> u64
     let mut raw: u64 = 0;
     let mut left = registers.len();
     while 0 < left {
-        let register = registers[registers.len() - left] as u64;
-        raw = raw * 65536 + register;
+        raw = raw * 65536 + wide(registers[registers.len() - left]);
         left -= 1;
     }
     raw
+}
+
+// A register as a 64-bit number. A function, so that its bound is at hand where the sum is proved to fit.
+fn wide(register: u16) -> u64
+    ensures { λ r. ⌜ (r ≡ register) × (r < 65536) ⌝ }
+{
+    register as u64
 }
 
 // Is the raw number too wide for so many registers?

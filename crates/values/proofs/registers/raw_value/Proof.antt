@@ -5,7 +5,7 @@ use Prim.Native.Nat.{suc, _+_, _-_, _*_, _^_, _≤_, _<_}
 use native.Mathlib.Omega.{arith}
 use borrow.Author.Needs.{needs}
 use borrow.Author.Tests.{le-leb, lt-leb}
-use lib.ListN.{length, drop, getD}
+use lib.ListN.{length, drop}
 use Rattle.values.specs.Registers.{join, shownRaw}
 use Rattle.values.proofs.Joining.{join-start, join-step, join-end, one-more, room, positive}
 use Rattle.values.proofs.registers.raw_value.Statement.{statement}
@@ -23,38 +23,36 @@ abbrev μ-loop : tie.MeasureT-loop
 
 returns : tie.Need-returns Inv-loop μ-loop
 unfolding shownRaw
-returns c = (simp (shownRaw, lt-leb _ _ (c .if1 .taken)), positive (length (c .before .args .registers .now)))
+returns c = (simp (shownRaw, lt-leb _ _ (c .if1 .taken)), positive (length (c .before .before .args .registers .now)))
 
 loop-holds : tie.Need-loop-holds Inv-loop μ-loop
 loop-holds c =
-    let rs = c .before .args .registers .now in
+    let rs = c .before .before .args .registers .now in
     (omega arith, omega arith, positive (length rs - length rs), join-start rs)
-
-sub-register : tie.Need-sub-register Inv-loop μ-loop
-sub-register c = search needs
-
-mul-register : tie.Need-mul-register Inv-loop μ-loop
-mul-register c = search needs
-
-shared-slice-read-register : tie.Need-shared-slice-read-register Inv-loop μ-loop
-shared-slice-read-register c = search needs
-
-cast-register : tie.Need-cast-register Inv-loop μ-loop
-cast-register c =
-    let rs = c .before .before .before .before .args .registers .now in
-    omega (arith, c .shared-slice-known .given (length rs - c .before .before .loop .left))
 
 mul-raw : tie.Need-mul-raw Inv-loop μ-loop
 mul-raw c =
-    let l = c .before .before .loop in
-    let i = length (c .before .before .before .before .args .registers .now) - l .left in
-    omega (arith, c .shared-slice-known .given i, room i (l .raw) (omega arith) (l .inv .2))
+    let l = c .before .loop in
+    let rs = c .before .before .before .before .args .registers .now in
+    omega (arith, room (length rs - l .left) (l .raw) (omega arith) (l .inv .2))
+
+sub-wide : tie.Need-sub-wide Inv-loop μ-loop
+sub-wide c = search needs
+
+mul-wide : tie.Need-mul-wide Inv-loop μ-loop
+mul-wide c = search needs
+
+shared-slice-read-wide : tie.Need-shared-slice-read-wide Inv-loop μ-loop
+shared-slice-read-wide c = search needs
+
+wide-requires : tie.Need-wide-requires Inv-loop μ-loop
+wide-requires c κs = search needs
 
 add-raw : tie.Need-add-raw Inv-loop μ-loop
 add-raw c =
-    let l = c .before .before .loop in
-    let i = length (c .before .before .before .before .args .registers .now) - l .left in
-    omega (arith, c .shared-slice-known .given i, room i (l .raw) (omega arith) (l .inv .2))
+    let l = c .before .before .before .loop in
+    let rs = c .before .before .before .before .before .before .args .registers .now in
+    omega (arith, c .wide .ensures .1, room (length rs - l .left) (l .raw) (omega arith) (l .inv .2))
 
 sub-left : tie.Need-sub-left Inv-loop μ-loop
 sub-left c = search needs
@@ -64,21 +62,21 @@ loop-less c = search needs
 
 loop-again : tie.Need-loop-again Inv-loop μ-loop
 loop-again c =
-    let l = c .before .before .loop in
-    let rs = c .before .before .before .before .args .registers .now in
+    let l = c .before .before .before .loop in
+    let rs = c .before .before .before .before .before .before .args .registers .now in
     let i = length rs - l .left in
     let e : length rs - (l .left - 1) ≡ suc i = omega arith in (
       omega arith,
       omega arith,
-      rw e (one-more i (l .raw) (getD rs i 0) (l .inv .2) (c .shared-slice-known .given i .fits)),
-      sym (join-step rs (l .left) (l .raw) (omega arith) (l .inv .0)) ∙ l .inv .3,
+      rw e (one-more i (l .raw) (c .wide .result) (l .inv .2) (c .wide .ensures .1)),
+      rw (c .wide .ensures .0) (sym (join-step rs (l .left) (l .raw) (omega arith) (l .inv .0)) ∙ l .inv .3),
     )
 
 returns-2 : tie.Need-returns-2 Inv-loop μ-loop
 unfolding shownRaw
 returns-2 c =
     let l = c .before .loop in
-    let rs = c .before .before .before .args .registers .now in
+    let rs = c .before .before .before .before .args .registers .now in
     let e : l .left ≡ 0 = omega (arith, c .loop-test .left) in
     let all : length rs - l .left ≡ length rs = omega arith in
     (simp (shownRaw, le-leb _ _ (l .inv .1)) (sym (join-end rs (l .raw)) ∙ (rw e at (l .inv .3))), rw all at (l .inv .2))
@@ -91,11 +89,11 @@ raw-value-spec =
     μ-loop
     returns
     loop-holds
-    sub-register
-    mul-register
-    shared-slice-read-register
-    cast-register
     mul-raw
+    sub-wide
+    mul-wide
+    shared-slice-read-wide
+    wide-requires
     add-raw
     sub-left
     loop-less
