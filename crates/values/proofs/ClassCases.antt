@@ -12,7 +12,7 @@ use lib.Ieee.{binary32, ofBits}
 use Rattle.values.specs.Rows.{TypeRow, Kind, rowOf}
 use Rattle.values.specs.Registers as registers
 use Rattle.values.specs.Registers.{join}
-use Rattle.values.specs.Classes.{width, twosComplement, isMarker, inRange, Class, value, unimplemented, outOfRange, classOf, classified, ofClass, tooWide, unknownType}
+use Rattle.values.specs.Classes.{width, twosComplement, isMarker, inRange, value, unimplemented, outOfRange, classOf, classified, ofClass, tooWide, unknownType}
 use Rattle.values.specs.Decoding as decoding
 use Rattle.values.proofs.Table.{from-one}
 use Rattle.values.specs.Decoding.{numberOf, valueOf, decodable, decoded, refused}

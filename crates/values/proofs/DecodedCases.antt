@@ -1,5 +1,5 @@
 -- Every answer of `decoded` with what it came from: the laws about decoded numbers go by these cases.
-use mathlib.Core.Path.{_≡_, refl, sym, subst}
+use mathlib.Core.Path.{_≡_, refl}
 use mathlib.Core.List.{List}
 use mathlib.Core.Option.{Option, none, some}
 use Prim.Native.Nat.{ℕ}

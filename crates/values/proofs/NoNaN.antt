@@ -1,23 +1,22 @@
 -- A decoded float is never a NaN.
-use mathlib.Core.Path.{_≡_, refl, sym, subst, _∙_}
-use mathlib.Core.Bool.{true, false, not}
+use mathlib.Core.Path.{_≡_, sym, subst, _∙_}
+use mathlib.Core.Bool.{false, not}
 use mathlib.Core.List.{List}
-use mathlib.Core.Option.{some}
 use Prim.Native.Nat.{ℕ}
 use borrow.Author.Tests.{not-true}
 use lib.Dec.{T}
-use lib.Ieee.{Float, isNan, binary32, nanBits, ofBits}
+use lib.Ieee.{Float, isNan, binary32, nanBits}
 use lib.Ieee.Bits.{nanBits-is}
 use lib.ListN.{take}
 use Rattle.values.specs.Rows.{TypeRow, Kind, Listed}
 use Rattle.values.specs.Registers.{join}
-use Rattle.values.specs.Classes.{Class, classOf, inRange}
-use Rattle.values.specs.Decoding.{Decoded, float, decodable, decoded}
+use Rattle.values.specs.Classes.{Class, classOf}
+use Rattle.values.specs.Decoding.{float, decoded}
 use Rattle.values.proofs.Table.{float-row, listed}
 use Rattle.values.proofs.Ranges.{in-not-nan}
 use Rattle.values.proofs.ClassCases.{row-of-decodable}
 use Rattle.values.proofs.ThreeClasses.{class-is-its-tests}
-use Rattle.values.proofs.DecodedCases.{Answered, asFloat, Cases, byRow, cases}
+use Rattle.values.proofs.DecodedCases.{asFloat, Cases, byRow, cases}
 
 -- A value of a float type is no NaN's pattern.
 pub no-nan-pattern : (row : TypeRow) (raw : ℕ) → Listed row → row .kind ≡ Kind.float → classOf row raw ≡ Class.value → nanBits binary32 raw ≡ false

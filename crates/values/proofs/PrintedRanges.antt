@@ -3,21 +3,19 @@ use mathlib.Core.Path.{_≡_, refl, sym, ap, subst, _∙_}
 use mathlib.Core.Bool.{Bool, true, false, _&&_}
 use mathlib.Core.List.{List, [], _∷_}
 use mathlib.Core.Option.{Option, none, some}
-use Prim.Native.Nat.{ℕ, zero, suc, _-_, _*_, _^_, _≤_, _<_}
-use native.Mathlib.Nat.{le-trans}
+use Prim.Native.Nat.{ℕ, suc, _-_, _^_, _≤_}
 use native.Mathlib.Omega.{arith}
 use native.Mathlib.Decide.{decLe}
-use borrow.Author.Tests.{eqb-false, eq-eqb}
-use lib.Dec.{T, eqb, leb→le, le→leb, eqb→eq}
-use lib.IntN.{ℤ, pos, negsuc, negℤ}
-use lib.ListN.{length, take}
-use lib.Pow.{pow-pos}
+use borrow.Author.Tests.{eqb-false}
+use lib.Dec.{T, le→leb, eqb→eq}
+use lib.IntN.{ℤ, pos, negℤ}
+use lib.ListN.{length}
 use lib.Signed.{leZ, _≤ℤ_}
 use Rattle.values.specs.Each.{Each}
-use Rattle.values.specs.Rows.{TypeRow, Kind, signed, unsigned, float, Marker, never, pattern, Range, whole, between, notNaN, rows, rowAmong, rowOf}
-use Rattle.values.specs.Registers.{AreRegisters, join}
+use Rattle.values.specs.Rows.{TypeRow, Kind, signed, unsigned, float, Marker, never, pattern, Range, whole, between, notNaN, rows, rowAmong}
+use Rattle.values.specs.Registers.{AreRegisters}
 use Rattle.values.specs.Classes as classes
-use Rattle.values.specs.Classes.{width, twosComplement, integer, isMarker, inRange, classOf, PatternOf}
+use Rattle.values.specs.Classes.{width, twosComplement, integer, isMarker, isBetween, inRange, classOf, PatternOf}
 use Rattle.values.specs.Decoding.{Decoded, decoded, decodable}
 use Rattle.values.specs.Printed.{PrintedRange, printed, Within}
 use lib.Ieee.Fits.{and-l, and-r}
@@ -28,8 +26,7 @@ use Rattle.values.proofs.Ranges.{in-between, plain-integer, signed-inte
 use Rattle.values.proofs.TwosComplement.{lower-half, upper-half}
 use Rattle.values.proofs.MachineIntegers.{halves}
 use Rattle.values.proofs.Table.{signed-width, edgeTest, edges}
-use Rattle.values.proofs.ClassCases.{row-of-decodable}
-use Rattle.values.proofs.DecodedCases.{Answered, asSigned, asUnsigned, asFloat, asUnimplemented, asOutOfRange, Cases, byRow, noRow, cases}
+use Rattle.values.proofs.DecodedCases.{asSigned, asUnsigned, asFloat, asUnimplemented, asOutOfRange, Cases, byRow, noRow, cases}
 use Rattle.values.proofs.RoundTrip.{holds-pattern}
 
 -- The least and the greatest integer that a row leaves a value.
@@ -77,7 +74,7 @@ module _ (row : TypeRow) (raw : ℕ) (p : PatternOf row raw) (v : classOf row ra
   -- A row's own range bounds the integer.
   inside : (low high z : ℤ) → row .range ≡ between low high → integer row raw ≡ z → T (leZ low z) × T (leZ z high)
   inside low high z e y =
-      let t : T (leZ low z && leZ z high) = passes _ (sym (in-between row raw low high e ∙ ap (λ (x : ℤ). leZ low x && leZ x high) y) ∙ in-range) in
+      let t = passes (isBetween low high z) (sym (in-between row raw low high e ∙ ap (isBetween low high) y) ∙ in-range) in
       (and-l (leZ low z) (leZ z high) t, and-r (leZ low z) (leZ z high) t)
 
   -- Else a signed type's marker takes the least pattern away.

@@ -1,16 +1,15 @@
 -- The code's tests of a range are the definition's, at each row of the table.
-use mathlib.Core.Path.{_≡_, refl, sym, ap, _∙_}
-use mathlib.Core.Bool.{Bool, true, false, not, _&&_}
+use mathlib.Core.Path.{_≡_, refl, ap, _∙_}
+use mathlib.Core.Bool.{true, not, _&&_}
 use Prim.Native.Nat.{ℕ, _≤_, _<_, _^_, _*_}
 use native.Mathlib.Omega.{arith}
 use native.Mathlib.Decide.{decLe}
 use borrow.Author.Tests.{le-leb, lt-leb, eq-eqb, ne-eqb}
 use lib.Dec.{leb, eqb, leb·zero}
-use lib.IntN.{ℤ, pos, negsuc, negℤ}
-use lib.Signed.{leZ}
+use lib.IntN.{ℤ, pos, negℤ}
 use lib.Ieee.{binary32, nanBits}
-use Rattle.values.specs.Rows.{TypeRow, Kind, signed, unsigned, float, whole, between, notNaN, Listed}
-use Rattle.values.specs.Classes.{twosComplement, integer, inRange, PatternOf}
+use Rattle.values.specs.Rows.{TypeRow, Kind, signed, unsigned, float, whole, between, notNaN}
+use Rattle.values.specs.Classes.{twosComplement, integer, isBetween, inRange, PatternOf}
 use Rattle.values.proofs.Table.{counts-from-zero, signed-range}
 
 module _ (row : TypeRow) (raw : ℕ) where
@@ -18,7 +17,7 @@ module _ (row : TypeRow) (raw : ℕ) where
   unfolding inRange
   in-whole e = rw e
 
-  pub in-between : (low high : ℤ) → row .range ≡ between low high → inRange row raw ≡ (leZ low (integer row raw) && leZ (integer row raw) high)
+  pub in-between : (low high : ℤ) → row .range ≡ between low high → inRange row raw ≡ isBetween low high (integer row raw)
   unfolding inRange
   in-between low high e = rw e
 
@@ -62,7 +61,7 @@ module _ (row : TypeRow) (raw : ℕ) where
           let m : row .most ≡ 1 = signed-range row (p .listed) 9 (pos 10) e .1 in
           rw (ap (λ (k : ℕ). 2 ^ (16 * k)) m) at (p .fits)
 
-      pub in-scale-factor : inRange row raw ≡ (leZ (negℤ (pos 10)) (twosComplement 16 raw) && leZ (twosComplement 16 raw) (pos 10))
+      pub in-scale-factor : inRange row raw ≡ isBetween (negℤ (pos 10)) (pos 10) (twosComplement 16 raw)
       in-scale-factor =
           let s = signed-range row (p .listed) 9 (pos 10) e in
           in-between (negℤ (pos 10)) (pos 10) e ∙ rw (signed-integer (s .0), s .1)

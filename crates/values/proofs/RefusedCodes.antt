@@ -1,15 +1,15 @@
 -- Refusal 40 is for the codes outside 1–18, and for no other.
-use mathlib.Core.Path.{_≡_, refl, sym, subst, _∙_}
+use mathlib.Core.Path.{_≡_, refl, subst}
 use mathlib.Core.Bool.{Bool, true, false, _&&_}
 use mathlib.Core.List.{List}
 use mathlib.Core.Option.{Option, none, some}
-use Prim.Native.Nat.{ℕ, zero, suc, _≤_, _<_}
+use Prim.Native.Nat.{ℕ, zero, suc, _≤_}
 use native.Mathlib.Omega.{arith}
 use native.Mathlib.Decide.{decLe}
 use borrow.Author.Tests.{le-leb}
-use lib.Dec.{T, leb}
+use lib.Dec.{T}
 use Rattle.values.specs.Rows.{TypeRow, rows, rowAmong, rowOf}
-use Rattle.values.specs.Decoding.{Decoded, refused, decodable, decoded}
+use Rattle.values.specs.Decoding.{refused, decodable, decoded}
 use lib.Ieee.Fits.{and-l, and-r}
 use Rattle.values.proofs.ClassCases.{beyond, no-row}
 use Rattle.values.proofs.DecodedCases.{Cases, noRow, cases}

@@ -1,23 +1,20 @@
 -- A decoded number, written back as registers, is the registers that it came from.
-use mathlib.Core.Path.{_≡_, refl, sym, ap, subst, _∙_}
+use mathlib.Core.Path.{_≡_, refl, ap, subst, _∙_}
 use mathlib.Core.List.{List, [], _∷_}
 use mathlib.Core.Bool.{not}
-use mathlib.Core.Option.{Option, none, some}
-use Prim.Native.Nat.{ℕ, zero, suc, _*_, _^_, _≤_, _<_}
-use native.Mathlib.Omega.{arith}
+use mathlib.Core.Option.{some}
+use Prim.Native.Nat.{ℕ, zero, suc, _*_, _^_, _<_}
 use lib.Dec.{T}
-use lib.Ieee.{binary32, ofBits, toBits, isNan}
+use lib.Ieee.{binary32, ofBits, isNan}
 use lib.Ieee.Bits.{toBits-ofBits, nanBits-is}
 use lib.ListN.{length, take}
-use lib.Seq.{length-take-le}
 use Rattle.values.specs.Rows.{TypeRow}
 use Rattle.values.specs.Registers.{AreRegisters, join, split}
 use Rattle.values.specs.Classes.{Class, width, classOf, PatternOf}
-use Rattle.values.specs.Decoding.{Decoded, refused, decodable, decoded}
+use Rattle.values.specs.Decoding.{Decoded, decodable, decoded}
 use Rattle.values.specs.Encoding.{rawNumber, encoded}
-use Rattle.values.proofs.Table.{float-row, listed, four-registers}
+use Rattle.values.proofs.Table.{float-row, listed}
 use Rattle.values.proofs.TwosComplement.{pattern-back}
-use Rattle.values.proofs.Joining.{sixteen-each}
 use Rattle.values.proofs.Splitting.{join-bound, split-join}
 use Rattle.values.proofs.ClassCases.{row-of-decodable, decodable-up-to}
 use Rattle.values.proofs.DecodedCases.{Answered, asSigned, asUnsigned, asFloat, asUnimplemented, asOutOfRange, Cases, byRow, noRow, cases}

@@ -4,7 +4,7 @@ use mathlib.Core.Path.{_≡_, refl, sym, ap, subst, _∙_}
 use mathlib.Core.Logic.{_⊎_, inl, inr}
 use mathlib.Core.List.{List}
 use mathlib.Core.Option.{some}
-use Prim.Native.Nat.{ℕ, zero, suc, _-_, _^_, _≤_, _<_}
+use Prim.Native.Nat.{ℕ, suc, _-_, _^_, _≤_, _<_}
 use native.Mathlib.Omega.{arith}
 use native.Mathlib.Decide.{decLe}
 use lib.Dec.{lt→ltb, ltb→lt}
@@ -14,7 +14,7 @@ use lib.Signed.{_≤ℤ_, _<ℤ_}
 use Rattle.values.specs.Rows.{TypeRow, Kind}
 use Rattle.values.specs.Registers.{AreRegisters, join}
 use Rattle.values.specs.Classes.{width, twosComplement}
-use Rattle.values.specs.Decoding.{Decoded, signed, decodable, decoded}
+use Rattle.values.specs.Decoding.{signed, decodable, decoded}
 use Rattle.values.proofs.IntegerOrder.{negative-le, negative-le-negative, negative-below}
 use Rattle.values.proofs.Table.{listed, signed-width}
 use Rattle.values.proofs.ClassCases.{row-of-decodable}

@@ -24,6 +24,7 @@ answer Value.Unimplemented = Decoding.unimplemented
 answer Value.OutOfRange = Decoding.outOfRange
 answer Value.NotDecodable = Decoding.refused 40
 
+-- The class in an answer of `classify`.
 abbrev pub classAnswer : Class → Classes.Class
 classAnswer Class.Value = Classes.value
 classAnswer Class.Unimplemented = Classes.unimplemented

@@ -1,15 +1,15 @@
 -- What a raw number is under its type (document 01, "The value rows"): a value, unimplemented or out of range.
 use mathlib.Core.Bool.{Bool, true, false, not, _&&_}
-use mathlib.Core.Option.{Option, none, some}
+use mathlib.Core.Option.{none, some}
 use Prim.Native.Nat.{ℕ, _-_, _*_, _^_, _<_}
 use lib.Dec.{eqb, ltb}
 use lib.IntN.{ℤ, pos, _-ℤ_}
 use lib.Signed.{leZ}
 use lib.Ieee.{binary32, nanBits}
 use Rattle.values.specs.Registers as registers
-use Rattle.values.specs.Rows.{TypeRow, rowOf, Listed, Kind, signed, unsigned, float, Marker, never, pattern, Range, whole, between, notNaN}
+use Rattle.values.specs.Rows.{TypeRow, rowOf, Listed, signed, unsigned, float, Marker, never, pattern, whole, between, notNaN}
 
--- The number that a pattern of so many bits stands for in two's complement.
+-- The number that a pattern of so many bits stands for in two's complement (document 000, 6.4).
 unfoldable pub twosComplement : ℕ → ℕ → ℤ
 twosComplement bits raw =
     elim (ltb raw (2 ^ (bits - 1))) [ true ↦ pos raw | false ↦ pos raw -ℤ pos (2 ^ bits) ]
@@ -23,20 +23,25 @@ unfoldable pub integer : TypeRow → ℕ → ℤ
 integer row raw =
     elim (row .kind) [ signed ↦ twosComplement (width row) raw | unsigned ↦ pos raw | float ↦ pos raw ]
 
--- Is the raw number the type's unimplemented pattern?
+-- Is the raw number the type's unimplemented pattern (document 01: "not given")?
 abbrev pub isMarker : Marker → ℕ → Bool
 isMarker never raw = false
 isMarker (pattern p) raw = eqb raw p
+
+-- Is an integer from the first to the second?
+abbrev pub isBetween : ℤ → ℤ → ℤ → Bool
+isBetween low high z = leZ low z && leZ z high
 
 -- Is the raw number in its type's range? float32: every pattern but a NaN's, so infinities and negative zero too.
 unfoldable pub inRange : TypeRow → ℕ → Bool
 inRange row raw =
     elim (row .range) [
       | whole ↦ true
-      | between low high ↦ leZ low (integer row raw) && leZ (integer row raw) high
+      | between low high ↦ isBetween low high (integer row raw)
       | notNaN ↦ not (nanBits binary32 raw)
     ]
 
+-- Document 01's three kinds of pattern: a value, not given, out of range.
 pub data Class : Type 0 where
   value unimplemented outOfRange : Class
 

@@ -1,5 +1,5 @@
 -- Document 01, "One value": a type code and four registers give one answer with data, or refusal 40.
-use mathlib.Core.Bool.{Bool, true, false, _&&_}
+use mathlib.Core.Bool.{true, false, _&&_}
 use mathlib.Core.List.{List}
 use mathlib.Core.Option.{Option, none, some}
 use Prim.Native.Nat.{ℕ}

@@ -7,7 +7,7 @@ use lib.Ieee.{binary32, toBits}
 use Rattle.values.specs.Rows.{TypeRow}
 use Rattle.values.specs.Registers.{split}
 use Rattle.values.specs.Classes.{width}
-use Rattle.values.specs.Decoding.{Decoded, signed, unsigned, float, unimplemented, outOfRange, refused, decodable}
+use Rattle.values.specs.Decoding.{Decoded, signed, unsigned, float, unimplemented, outOfRange, refused}
 
 -- The pattern of an integer in two's complement of so many bits.
 abbrev pub twosPattern : ℕ → ℤ → ℕ

@@ -1,10 +1,10 @@
 -- The type rows of document 01, "The value rows": one table. All that is known of a type is read from its row.
 use mathlib.Core.Path.{_≡_}
-use mathlib.Core.Bool.{Bool, true, false, _&&_}
+use mathlib.Core.Bool.{Bool, true, false}
 use mathlib.Core.List.{List, [], _∷_}
 use mathlib.Core.Option.{Option, none, some}
 use Prim.Native.Nat.{ℕ}
-use lib.Dec.{eqb, leb}
+use lib.Dec.{eqb}
 use lib.IntN.{ℤ, pos, negℤ}
 
 -- How the bits of a value are read: "Signed: 1, 8, 9, 16", float32 as IEEE 754's binary32, all others unsigned.
@@ -16,7 +16,8 @@ pub data Marker : Type 0 where
   never : Marker
   pattern : ℕ → Marker
 
--- The values in range: all, the integers from the first to the second, or all floats but NaN.
+-- The values in range, where document 01 names what is out of it: all of them, the integers from the first to the second, or
+-- all floats but NaN.
 pub data Range : Type 0 where
   whole : Range
   between : ℤ → ℤ → Range
@@ -32,7 +33,14 @@ pub record TypeRow : Type 0 where
   pub marker : Marker
   pub range : Range
 
--- A row, written on one line: code, fewest and most registers, s (may carry a scale factor), kind, unimplemented, range.
+-- Document 01's s: a point of the type may carry a scale factor, or may not.
+abbrev scaled : Bool
+scaled = true
+
+abbrev unscaled : Bool
+unscaled = false
+
+-- A row, written on one line: code, fewest and most registers, may it carry a scale factor, kind, unimplemented, range.
 abbrev pub row : ℕ → ℕ → ℕ → Bool → Kind → Marker → Range → TypeRow
 row c f m s k u r =
     record { code = c; fewest = f; most = m; scalable = s; kind = k; marker = u; range = r }
@@ -44,29 +52,29 @@ upTo n = between (pos 0) (pos n)
 -- Document 01, "The value rows", row by row.
 unfoldable pub rows : List TypeRow
 rows =
-    row 1 1 1 true signed (pattern 0x8000) whole  -- int16
-    ∷ row 2 1 1 true unsigned (pattern 0xFFFF) whole  -- uint16
-    ∷ row 3 1 1 true unsigned (pattern 0) whole  -- acc16
-    ∷ row 4 1 1 false unsigned (pattern 0xFFFF) whole  -- enum16
-    ∷ row 5 1 1 false unsigned (pattern 0xFFFF) (upTo 0x7FFF)  -- bitfield16
-    ∷ row 6 1 1 false unsigned never (between (pos 0x8000) (pos 0x8000))  -- pad
-    ∷ row 7 1 1 false unsigned never whole  -- raw16
-    ∷ row 8 1 1 false signed (pattern 0x8000) (between (negℤ (pos 10)) (pos 10))  -- sunssf
-    ∷ row 9 2 2 true signed (pattern 0x80000000) whole  -- int32
-    ∷ row 10 2 2 true unsigned (pattern 0xFFFFFFFF) whole  -- uint32
-    ∷ row 11 2 2 true unsigned (pattern 0) whole  -- acc32
-    ∷ row 12 2 2 false unsigned (pattern 0xFFFFFFFF) whole  -- enum32
-    ∷ row 13 2 2 false unsigned (pattern 0xFFFFFFFF) (upTo 0x7FFFFFFF)  -- bitfield32
-    ∷ row 14 2 2 false float (pattern 0x7FC00000) notNaN  -- float32
-    ∷ row 15 2 2 false unsigned (pattern 0) whole  -- ipaddr
-    ∷ row 16 4 4 true signed (pattern 0x8000000000000000) whole  -- int64
-    ∷ row 17 4 4 true unsigned (pattern 0xFFFFFFFFFFFFFFFF) whole  -- uint64
-    ∷ row 18 4 4 true unsigned (pattern 0) (upTo 9223372036854775807)  -- acc64
-    ∷ row 19 1 64 false unsigned (pattern 0) whole  -- string
-    ∷ row 20 8 8 false unsigned (pattern 0) whole  -- ipv6addr
+    row 1 1 1 scaled signed (pattern 0x8000) whole  -- int16
+    ∷ row 2 1 1 scaled unsigned (pattern 0xFFFF) whole  -- uint16
+    ∷ row 3 1 1 scaled unsigned (pattern 0) whole  -- acc16
+    ∷ row 4 1 1 unscaled unsigned (pattern 0xFFFF) whole  -- enum16
+    ∷ row 5 1 1 unscaled unsigned (pattern 0xFFFF) (upTo 0x7FFF)  -- bitfield16
+    ∷ row 6 1 1 unscaled unsigned never (between (pos 0x8000) (pos 0x8000))  -- pad
+    ∷ row 7 1 1 unscaled unsigned never whole  -- raw16
+    ∷ row 8 1 1 unscaled signed (pattern 0x8000) (between (negℤ (pos 10)) (pos 10))  -- sunssf
+    ∷ row 9 2 2 scaled signed (pattern 0x80000000) whole  -- int32
+    ∷ row 10 2 2 scaled unsigned (pattern 0xFFFFFFFF) whole  -- uint32
+    ∷ row 11 2 2 scaled unsigned (pattern 0) whole  -- acc32
+    ∷ row 12 2 2 unscaled unsigned (pattern 0xFFFFFFFF) whole  -- enum32
+    ∷ row 13 2 2 unscaled unsigned (pattern 0xFFFFFFFF) (upTo 0x7FFFFFFF)  -- bitfield32
+    ∷ row 14 2 2 unscaled float (pattern 0x7FC00000) notNaN  -- float32
+    ∷ row 15 2 2 unscaled unsigned (pattern 0) whole  -- ipaddr
+    ∷ row 16 4 4 scaled signed (pattern 0x8000000000000000) whole  -- int64
+    ∷ row 17 4 4 scaled unsigned (pattern 0xFFFFFFFFFFFFFFFF) whole  -- uint64
+    ∷ row 18 4 4 scaled unsigned (pattern 0) (upTo 9223372036854775807)  -- acc64
+    ∷ row 19 1 64 unscaled unsigned (pattern 0) whole  -- string
+    ∷ row 20 8 8 unscaled unsigned (pattern 0) whole  -- ipv6addr
     ∷ []
 
--- The first row of a list with this type code, or none.
+-- The first row of a list with a type code, or none.
 unfoldable pub rowAmong : List TypeRow → ℕ → Option TypeRow
 rowAmong [] c = none
 rowAmong (r ∷ rs) c = elim (eqb c (r .code)) [ true ↦ some r | false ↦ rowAmong rs c ]

@@ -1,11 +1,10 @@
 // What a raw number is under its type.
 ghost use mathlib.Core.Path.{_≡_};
-ghost use mathlib.Core.Bool.{not, _&&_};
+ghost use mathlib.Core.Bool.{not};
 ghost use Prim.Native.Nat.{_<_};
 ghost use lib.IntN.{pos, negℤ};
-ghost use lib.Signed.{leZ};
 ghost use lib.Ieee.{binary32, nanBits};
-ghost use Rattle.values.specs.Classes.{PatternOf, twosComplement, isMarker, inRange, classOf, classified};
+ghost use Rattle.values.specs.Classes.{PatternOf, twosComplement, isMarker, isBetween, inRange, classOf, classified};
 ghost use Rattle.values.specs.Answers.{classAnswer, classifiedAnswer, markerMeans, rowMeans};
 use crate::Class;
 use crate::Classified;
@@ -75,7 +74,7 @@ fn in_range(row: TypeRow, raw: u64) -> bool
 // -10 to 10 in two's complement of one register.
 fn scale_factor_in_range(raw: u64) -> bool
     requires { ⌜ raw < 65536 ⌝ }
-    ensures { λ r. ⌜ r ≡ (leZ (negℤ (pos 10)) (twosComplement 16 raw) && leZ (twosComplement 16 raw) (pos 10)) ⌝ }
+    ensures { λ r. ⌜ r ≡ isBetween (negℤ (pos 10)) (pos 10) (twosComplement 16 raw) ⌝ }
 {
     if raw <= 10 {
         return true;

@@ -46,6 +46,7 @@ pub(crate) struct TypeRow {
     pub(crate) range: Range,
 }
 
+// What looking a type code up finds.
 pub(crate) enum Found {
     Row(TypeRow),
     Nothing,

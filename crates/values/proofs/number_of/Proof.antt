@@ -1,7 +1,6 @@
 -- `number_of` reads the pattern by the type's kind; the table says that a signed type takes at most four registers and a float
 -- two, and a value of a float type is no NaN.
 use mathlib.Core.Path.{sym, ap, _∙_}
-use mathlib.Core.Bool.{not}
 use Prim.Native.Nat.{ℕ, _*_, _^_}
 use mir.Facts.{toZ-ofZ}
 use borrow.Author.Needs.{needs}
