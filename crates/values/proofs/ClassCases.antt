@@ -7,15 +7,13 @@ use Prim.Native.Nat.{ℕ, _≤_, _<_}
 use native.Mathlib.Omega.{arith}
 use borrow.Author.Tests.{le-leb, lt-leb, leb-true}
 use lib.Dec.{leb}
-use lib.ListN.{take}
 use lib.Ieee.{binary32, ofBits}
 use Rattle.values.specs.Rows.{TypeRow, Kind, rowOf}
 use Rattle.values.specs.Registers as registers
-use Rattle.values.specs.Registers.{join}
 use Rattle.values.specs.Classes.{width, twosComplement, isMarker, inRange, value, unimplemented, outOfRange, classOf, classified, ofClass, tooWide, unknownType}
 use Rattle.values.specs.Decoding as decoding
 use Rattle.values.proofs.Table.{from-one}
-use Rattle.values.specs.Decoding.{numberOf, valueOf, decodable, decoded, refused}
+use Rattle.values.specs.Decoding.{patternIn, numberOf, valueOf, decodable, decoded, refused}
 
 module _ (row : TypeRow) (raw : ℕ) where
   pub marked : isMarker (row .marker) raw ≡ true → classOf row raw ≡ unimplemented
@@ -64,7 +62,8 @@ module _ (code raw : ℕ) where
   unfolding classified
   too-wide row e w = simp (classified, e, w)
 
-  pub of-class : (row : TypeRow) → rowOf code ≡ some row → registers.tooWide (row .most) raw ≡ false → classified code raw ≡ ofClass (classOf row raw)
+  pub of-class : (row : TypeRow) → rowOf code ≡ some row → registers.tooWide (row .most) raw ≡ false
+      → classified code raw ≡ ofClass (classOf row raw)
   unfolding classified
   of-class row e w = simp (classified, e, w)
 
@@ -90,7 +89,7 @@ module _ (code : ℕ) (registers : List ℕ) where
   unfolding decodable
   decodes row h e = simp (decodable, le-leb _ _ (from-one code row e), le-leb _ _ h, e)
 
-  pub by-row : (row : TypeRow) → decodable code ≡ some row → decoded code registers ≡ valueOf row (join (take (row .most) registers))
+  pub by-row : (row : TypeRow) → decodable code ≡ some row → decoded code registers ≡ valueOf row (patternIn row registers)
   unfolding decoded
   by-row row e = simp (decoded, e)
 
@@ -107,7 +106,8 @@ pub decodable-up-to : (code : ℕ) (row : TypeRow) → decodable code ≡ some r
 unfolding decodable
 decodable-up-to code row e = go (leb 1 code) (leb code 18) refl e
   where
-    go : (a b : Bool) → leb code 18 ≡ b → _≡_ {A = Option TypeRow} (elim (a && b) [ true ↦ rowOf code | false ↦ none ]) (some row) → code ≤ 18
+    go : (a b : Bool) → leb code 18 ≡ b → _≡_ {A = Option TypeRow} (elim (a && b) [ true ↦ rowOf code | false ↦ none ]) (some row)
+        → code ≤ 18
     go true true t q = leb-true code 18 t
     go true false t q = let z : _≡_ {A = ℕ} 0 1 = cc in absurd (omega arith)
     go false b t q = let z : _≡_ {A = ℕ} 0 1 = cc in absurd (omega arith)

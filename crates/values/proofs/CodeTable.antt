@@ -42,7 +42,16 @@ rangeOf (Rows.between (negsuc n) high) = Range.ScaleFactor
 rangeOf Rows.notNaN = Range.NotNan
 
 abbrev pub lineOf : TypeRow → Line
-lineOf r = record { 0 = r .code; 1 = r .fewest; 2 = r .most; 3 = r .scalable; 4 = kindOf (r .kind); 5 = markerOf (r .marker); 6 = rangeOf (r .range) }
+lineOf r =
+    record {
+      0 = r .code;
+      1 = r .fewest;
+      2 = r .most;
+      3 = r .scalable;
+      4 = kindOf (r .kind);
+      5 = markerOf (r .marker);
+      6 = rangeOf (r .range);
+    }
 
 -- The rows of a list carry the codes from c on, in order.
 abbrev numbered : ℕ → List TypeRow → Bool
@@ -50,10 +59,13 @@ numbered c [] = true
 numbered c (r ∷ rs) = eqb (r .code) c && numbered (suc c) rs
 
 -- The row with the i-th code is the i-th row.
-by-place : (c : ℕ) (rs : List TypeRow) (d : TypeRow) (i : ℕ) → T (numbered c rs) → i < length rs → rowAmong rs (c + i) ≡ some (getD rs i d)
+by-place : (c : ℕ) (rs : List TypeRow) (d : TypeRow) (i : ℕ) → T (numbered c rs) → i < length rs
+    → rowAmong rs (c + i) ≡ some (getD rs i d)
 unfolding rowAmong
 by-place c [] d i t h = absurd (omega arith)
-by-place c (r ∷ rs) d zero t h = simp (rowAmong, eq-eqb (c + 0) (r .code) (add-zero c ∙ sym (eqb→eq (r .code) c (and-l (eqb (r .code) c) (numbered (suc c) rs) t))))
+by-place c (r ∷ rs) d zero t h =
+    let e = eqb→eq (r .code) c (and-l (eqb (r .code) c) (numbered (suc c) rs) t) in
+    simp (rowAmong, eq-eqb (c + 0) (r .code) (add-zero c ∙ sym e))
 by-place c (r ∷ rs) d (suc i) t h =
     let e = eqb→eq (r .code) c (and-l (eqb (r .code) c) (numbered (suc c) rs) t) in
     let n : c + suc i ≡ r .code → ⊥ = λ q. omega (arith, e, q) in
@@ -82,7 +94,8 @@ at-code d c l h =
     ∙ ap rowOf n
 
 -- No row has a code below 1 or above 20.
-none-outside : (rs : List TypeRow) (c : ℕ) → T (every (λ r. leb 1 (r .code) && leb (r .code) 20) rs) → (1 ≤ c → c ≤ 20 → ⊥) → rowAmong rs c ≡ none
+none-outside : (rs : List TypeRow) (c : ℕ) → T (every (λ r. leb 1 (r .code) && leb (r .code) 20) rs) → (1 ≤ c → c ≤ 20 → ⊥)
+    → rowAmong rs c ≡ none
 unfolding rowAmong
 none-outside [] c t n = refl
 none-outside (r ∷ rs) c t n =

@@ -4,11 +4,9 @@ use mathlib.Core.List.{List}
 use mathlib.Core.Option.{Option, none, some}
 use Prim.Native.Nat.{ℕ}
 use lib.Ieee.{binary32, ofBits}
-use lib.ListN.{take}
 use Rattle.values.specs.Rows.{TypeRow, Kind}
-use Rattle.values.specs.Registers.{join}
 use Rattle.values.specs.Classes.{Class, classOf, width, twosComplement}
-use Rattle.values.specs.Decoding.{Decoded, signed, unsigned, float, unimplemented, outOfRange, refused, numberOf, valueOf, decodable, decoded}
+use Rattle.values.specs.Decoding.{patternIn, Decoded, signed, unsigned, float, unimplemented, outOfRange, refused, numberOf, valueOf, decodable, decoded}
 
 -- A pattern's answer: a number by the type's kind where the pattern is a value.
 pub data Answered (row : TypeRow) (raw : ℕ) : Decoded → Type 0 where
@@ -41,7 +39,7 @@ answered row raw = by-class (classOf row raw) refl (row .kind) refl
 
 -- The answer for a code and registers: by the code's row, or refusal 40.
 pub data Cases (code : ℕ) (registers : List ℕ) : Decoded → Type 0 where
-  byRow : {d : Decoded} (row : TypeRow) → decodable code ≡ some row → Answered row (join (take (row .most) registers)) d → Cases code registers d
+  byRow : {d : Decoded} (row : TypeRow) → decodable code ≡ some row → Answered row (patternIn row registers) d → Cases code registers d
   noRow : decodable code ≡ none → Cases code registers (refused 40)
 
 pub cases : (code : ℕ) (registers : List ℕ) → Cases code registers (decoded code registers)
@@ -49,6 +47,6 @@ unfolding decoded
 cases code registers = go (decodable code) refl
   where
     go : (o : Option TypeRow) → decodable code ≡ o
-        → Cases code registers (elim o [ none ↦ refused 40 | some row ↦ valueOf row (join (take (row .most) registers)) ])
+        → Cases code registers (elim o [ none ↦ refused 40 | some row ↦ valueOf row (patternIn row registers) ])
     go none e = noRow e
-    go (some row) e = byRow row e (answered row (join (take (row .most) registers)))
+    go (some row) e = byRow row e (answered row (patternIn row registers))

@@ -32,9 +32,12 @@ join-step rs left raw h l =
     let n : left ≡ suc k = omega arith in
     let next : length rs - k ≡ suc i = omega arith in
     let m : length (drop (suc i) rs) ≡ k = length-drop (suc i) rs ∙ omega arith in
-    let e : raw * 65536 ^ left + join (drop i rs) ≡ raw * (65536 ^ k * 65536) + (getD rs i 0 * 65536 ^ k + join (drop (suc i) rs)) =
-    rw (drop-cons rs i 0 (omega arith), join-cons (getD rs i 0) (drop (suc i) rs), m, ← pow-suc 65536 k) (ap (λ (p : ℕ). raw * 65536 ^ p + (getD rs i 0 * 65536 ^ k + join (drop (suc i) rs))) n) in
-    e ∙ rw next (lower-register raw (65536 ^ k) (getD rs i 0) (join (drop (suc i) rs)))
+    let r = getD rs i 0 in
+    let rest = drop (suc i) rs in
+    let e : raw * 65536 ^ left + join (drop i rs) ≡ raw * (65536 ^ k * 65536) + (r * 65536 ^ k + join rest) =
+    rw (drop-cons rs i 0 (omega arith), join-cons r rest, m, ← pow-suc 65536 k)
+    (ap (λ (p : ℕ). raw * 65536 ^ p + (r * 65536 ^ k + join rest)) n) in
+    e ∙ rw next (lower-register raw (65536 ^ k) r (join rest))
 
 -- All are left.
 pub join-start : (rs : List ℕ) → 0 * 65536 ^ length rs + join (drop (length rs - length rs) rs) ≡ join rs

@@ -87,7 +87,8 @@ module _ (row : TypeRow) (raw : ℕ) (p : PatternOf row raw) (v : classOf row ra
       off-edge (pattern x) e t q = eqb-false raw x (rw e at unmarked) (q ∙ sym (eqb→eq x (2 ^ (width row - 1)) t))
 
       half : (raw ≡ 2 ^ (width row - 1) → ⊥) → Dec (2 ^ (width row - 1) ≤ raw)
-          → T (leZ (leastIn whole signed (width row)) (twosComplement (width row) raw)) × T (leZ (twosComplement (width row) raw) (pos (2 ^ (width row - 1) - 1)))
+          → T (leZ (leastIn whole signed (width row)) (twosComplement (width row) raw))
+          × T (leZ (twosComplement (width row) raw) (pos (2 ^ (width row - 1) - 1)))
       half n (yes u) =
           let h = halves (width row) (omega (arith, signed-width row (p .listed) k)) in
           rw (upper-half (width row) raw u (p .fits))
@@ -139,14 +140,16 @@ module _ (registers : List ℕ) (four : length registers ≡ 4) (all : AreRegist
     bounds : (row : TypeRow) → decodable (r .code) ≡ some row → (z : ℤ) → Bounded row z → (r .least ≤ℤ z) × (z ≤ℤ r .greatest)
     unfolding rowInside
     bounds row e z b =
-        let s = and-r (integral (row .kind)) _ (rw e at t) in (
-          record { le = le-le (r .least) (least row) z (and-l (leZ (r .least) (least row)) (leZ (greatest row) (r .greatest)) s) (b .0) },
-          record { le = le-le z (greatest row) (r .greatest) (b .1) (and-r (leZ (r .least) (least row)) (leZ (greatest row) (r .greatest)) s) },
+        let low = leZ (r .least) (least row) in
+        let high = leZ (greatest row) (r .greatest) in
+        let s = and-r (integral (row .kind)) (low && high) (rw e at t) in (
+          record { le = le-le (r .least) (least row) z (and-l low high s) (b .0) },
+          record { le = le-le z (greatest row) (r .greatest) (b .1) (and-r low high s) },
         )
 
-    inside-row : (row : TypeRow) → decodable (r .code) ≡ some row → T (integral (row .kind) && (leZ (r .least) (least row) && leZ (greatest row) (r .greatest)))
+    is-integral : (row : TypeRow) → decodable (r .code) ≡ some row → T (integral (row .kind))
     unfolding rowInside
-    inside-row row e = rw e at t
+    is-integral row e = and-l (integral (row .kind)) (leZ (r .least) (least row) && leZ (greatest row) (r .greatest)) (rw e at t)
 
     no-row-inside : T (rowInside r none) → ⊥
     unfolding rowInside
@@ -154,9 +157,11 @@ module _ (registers : List ℕ) (four : length registers ≡ 4) (all : AreRegist
 
     in-printed : (d : Decoded) → Cases (r .code) registers d → Within r d
     unfolding integral
-    in-printed d (byRow row e (asSigned k v)) = bounds row e _ (signed-bounded row _ (holds-pattern (r .code) registers four all row e) v k)
-    in-printed d (byRow row e (asUnsigned k v)) = bounds row e _ (unsigned-bounded row _ (holds-pattern (r .code) registers four all row e) v k)
-    in-printed d (byRow row e (asFloat k v)) = rw k at (and-l (integral (row .kind)) _ (inside-row row e))
+    in-printed d (byRow row e (asSigned k v)) =
+        bounds row e _ (signed-bounded row _ (holds-pattern (r .code) registers four all row e) v k)
+    in-printed d (byRow row e (asUnsigned k v)) =
+        bounds row e _ (unsigned-bounded row _ (holds-pattern (r .code) registers four all row e) v k)
+    in-printed d (byRow row e (asFloat k v)) = rw k at (is-integral row e)
     in-printed d (byRow row e (asUnimplemented v)) = tt
     in-printed d (byRow row e (asOutOfRange v)) = tt
     in-printed d (noRow e) = no-row-inside (rw e at t)
@@ -165,8 +170,10 @@ module _ (registers : List ℕ) (four : length registers ≡ 4) (all : AreRegist
   pub within-printed : Each (λ r. Within r (decoded (r .code) registers)) printed
   within-printed = go printed printed-rows
     where
-      go : (rs : List PrintedRange) → T (every (λ r. rowInside r (decodable (r .code))) rs) → Each (λ r. Within r (decoded (r .code) registers)) rs
+      go : (rs : List PrintedRange) → T (every (λ r. rowInside r (decodable (r .code))) rs)
+          → Each (λ r. Within r (decoded (r .code) registers)) rs
       go [] t = tt
       go (r ∷ rs) t =
           let test : PrintedRange → Bool = λ x. rowInside x (decodable (x .code)) in
-          (in-printed r (and-l (test r) (every test rs) t) (decoded (r .code) registers) (cases (r .code) registers), go rs (and-r (test r) (every test rs) t))
+          let here = in-printed r (and-l (test r) (every test rs) t) (decoded (r .code) registers) (cases (r .code) registers) in
+          (here, go rs (and-r (test r) (every test rs) t))

@@ -9,9 +9,9 @@ use lib.Ieee.{binary32, ofBits, isNan}
 use lib.Ieee.Bits.{toBits-ofBits, nanBits-is}
 use lib.ListN.{length, take}
 use Rattle.values.specs.Rows.{TypeRow}
-use Rattle.values.specs.Registers.{AreRegisters, join, split}
+use Rattle.values.specs.Registers.{AreRegisters, split}
 use Rattle.values.specs.Classes.{Class, width, classOf, PatternOf}
-use Rattle.values.specs.Decoding.{Decoded, decodable, decoded}
+use Rattle.values.specs.Decoding.{patternIn, Decoded, decodable, decoded}
 use Rattle.values.specs.Encoding.{rawNumber, encoded}
 use Rattle.values.proofs.Table.{float-row, listed}
 use Rattle.values.proofs.TwosComplement.{pattern-back}
@@ -27,7 +27,8 @@ first-registers (suc k) [] a = tt
 first-registers (suc k) (r ∷ rs) a = (a .0, first-registers k rs (a .1))
 
 -- The raw number of a value's answer is the pattern.
-raw-back : (row : TypeRow) (raw : ℕ) (d : Decoded) → PatternOf row raw → Answered row raw d → classOf row raw ≡ Class.value → rawNumber row d ≡ some raw
+raw-back : (row : TypeRow) (raw : ℕ) (d : Decoded) → PatternOf row raw → Answered row raw d → classOf row raw ≡ Class.value
+    → rawNumber row d ≡ some raw
 raw-back row raw d p (asSigned k v) e = ap some (pattern-back (width row) raw (p .fits))
 raw-back row raw d p (asUnsigned k v) e = refl
 raw-back row raw d p (asFloat k v) e =
@@ -38,27 +39,27 @@ raw-back row raw d p (asUnimplemented v) e = cc
 raw-back row raw d p (asOutOfRange v) e = cc
 
 module _ (code : ℕ) (registers : List ℕ) (four : length registers ≡ 4) (all : AreRegisters registers) where
-  pub holds-pattern : (row : TypeRow) → decodable code ≡ some row → PatternOf row (join (take (row .most) registers))
+  pub holds-pattern : (row : TypeRow) → decodable code ≡ some row → PatternOf row (patternIn row registers)
   holds-pattern row e =
-      pattern-of code registers row four (decodable-up-to code row e) (row-of-decodable code row e) (join (take (row .most) registers))
+      pattern-of code registers row four (decodable-up-to code row e) (row-of-decodable code row e) (patternIn row registers)
       (join-bound (take (row .most) registers) (first-registers (row .most) registers all))
 
   -- The claim: where the registers hold a value, what is written for the answer is the registers that were read.
-  pub round-trip : (row : TypeRow) → decodable code ≡ some row → classOf row (join (take (row .most) registers)) ≡ Class.value
+  pub round-trip : (row : TypeRow) → decodable code ≡ some row → classOf row (patternIn row registers) ≡ Class.value
       → encoded row (decoded code registers) ≡ some (take (row .most) registers)
   unfolding encoded
   round-trip row e v = go (cases code registers)
     where
-      back : split (row .most) (join (take (row .most) registers)) ≡ take (row .most) registers
+      back : split (row .most) (patternIn row registers) ≡ take (row .most) registers
       back =
-          ap (λ (k : ℕ). split k (join (take (row .most) registers)))
+          ap (λ (k : ℕ). split k (patternIn row registers))
           (first-length code registers row four (decodable-up-to code row e) (row-of-decodable code row e))
           ∙ split-join (take (row .most) registers) (first-registers (row .most) registers all)
 
       go : {d : Decoded} → Cases code registers d → encoded row d ≡ some (take (row .most) registers)
       go {d} (byRow other is a) =
           let s : other ≡ row = cc in
-          let r = raw-back row (join (take (row .most) registers)) d (holds-pattern row e)
-          (subst (λ (r : TypeRow). Answered r (join (take (r .most) registers)) d) s a) v in
+          let r = raw-back row (patternIn row registers) d (holds-pattern row e)
+          (subst (λ (r : TypeRow). Answered r (patternIn r registers) d) s a) v in
           simp (encoded, r) (ap some back)
       go (noRow is) = cc

@@ -9,12 +9,12 @@ use native.Mathlib.Omega.{arith}
 use native.Mathlib.Decide.{decLe}
 use lib.Dec.{lt→ltb, ltb→lt}
 use lib.IntN.{ℤ, pos, negsuc, negℤ, _+ℤ_, _-ℤ_, -ℤ-+ℤ-cancel, +ℤ-negℤ-cancel}
-use lib.ListN.{length, take}
+use lib.ListN.{length}
 use lib.Signed.{_≤ℤ_, _<ℤ_}
 use Rattle.values.specs.Rows.{TypeRow, Kind}
-use Rattle.values.specs.Registers.{AreRegisters, join}
+use Rattle.values.specs.Registers.{AreRegisters}
 use Rattle.values.specs.Classes.{width, twosComplement}
-use Rattle.values.specs.Decoding.{signed, decodable, decoded}
+use Rattle.values.specs.Decoding.{patternIn, signed, decodable, decoded}
 use Rattle.values.proofs.IntegerOrder.{negative-le, negative-le-negative, negative-below}
 use Rattle.values.proofs.Table.{listed, signed-width}
 use Rattle.values.proofs.ClassCases.{row-of-decodable}
@@ -23,6 +23,7 @@ use Rattle.values.proofs.MachineIntegers.{halves}
 use Rattle.values.proofs.DecodedCases.{asSigned, Cases, byRow, cases}
 use Rattle.values.proofs.RoundTrip.{holds-pattern}
 
+-- An integer is the two's complement of a raw number of so many bits.
 pub record TwosComplementOf (width raw : ℕ) (z : ℤ) : Type 0 where
   pub low : negℤ (pos (2 ^ (width - 1))) ≤ℤ z
   pub high : z <ℤ pos (2 ^ (width - 1))
@@ -35,7 +36,11 @@ module _ (width raw : ℕ) (wide : 1 ≤ width) (fits : raw < 2 ^ width) where
       lower : raw < 2 ^ (width - 1) → TwosComplementOf width raw (twosComplement width raw)
       lower l =
           rw (lower-half width raw l)
-          (record { low = record { le = negative-le (2 ^ (width - 1)) raw }; high = record { lt = lt→ltb raw (2 ^ (width - 1)) l }; same = inl refl })
+          (record {
+            low = record { le = negative-le (2 ^ (width - 1)) raw };
+            high = record { lt = lt→ltb raw (2 ^ (width - 1)) l };
+            same = inl refl;
+          })
 
       upper : 2 ^ (width - 1) ≤ raw → TwosComplementOf width raw (twosComplement width raw)
       upper u =
@@ -48,7 +53,8 @@ module _ (width raw : ℕ) (wide : 1 ≤ width) (fits : raw < 2 ^ width) where
 
 -- No other integer is: the pattern and 2 ^ width less cannot both lie in the range.
 module _ (width raw : ℕ) (wide : 1 ≤ width) where
-  not-both : (z y : ℤ) → TwosComplementOf width raw z → TwosComplementOf width raw y → z ≡ pos raw → y +ℤ pos (2 ^ width) ≡ pos raw → ⊥
+  not-both : (z y : ℤ) → TwosComplementOf width raw z → TwosComplementOf width raw y → z ≡ pos raw
+      → y +ℤ pos (2 ^ width) ≡ pos raw → ⊥
   not-both z y a b p q =
       let l : raw < 2 ^ (width - 1) = ltb→lt raw (2 ^ (width - 1)) (rw p at (a .high .lt)) in
       let f : raw < 2 ^ width = omega (arith, halves width wide) in
@@ -65,21 +71,23 @@ module _ (width raw : ℕ) (wide : 1 ≤ width) where
       go (inl p) (inr q) = absurd (not-both z y a b p q)
       go (inr p) (inl q) = absurd (not-both y z b a q p)
       go (inr p) (inr q) =
-          sym (+ℤ-negℤ-cancel z (pos (2 ^ width))) ∙ ap (λ (x : ℤ). x -ℤ pos (2 ^ width)) (p ∙ sym q) ∙ +ℤ-negℤ-cancel y (pos (2 ^ width))
+          sym (+ℤ-negℤ-cancel z (pos (2 ^ width)))
+          ∙ ap (λ (x : ℤ). x -ℤ pos (2 ^ width)) (p ∙ sym q)
+          ∙ +ℤ-negℤ-cancel y (pos (2 ^ width))
 
 module _ (code : ℕ) (registers : List ℕ) (four : length registers ≡ 4) (all : AreRegisters registers) where
   pub signed-number : (row : TypeRow) → decodable code ≡ some row → (z : ℤ) → decoded code registers ≡ signed z
-      → TwosComplementOf (width row) (join (take (row .most) registers)) z
+      → TwosComplementOf (width row) (patternIn row registers) z
   signed-number row e z q = go z (subst (Cases code registers) q (cases code registers))
     where
       at : (r : TypeRow) → decodable code ≡ some r → r .kind ≡ Kind.signed
-          → TwosComplementOf (width r) (join (take (r .most) registers)) (twosComplement (width r) (join (take (r .most) registers)))
+          → TwosComplementOf (width r) (patternIn r registers) (twosComplement (width r) (patternIn r registers))
       at r is k =
-          twos-complement (width r) (join (take (r .most) registers))
+          twos-complement (width r) (patternIn r registers)
           (omega (arith, signed-width r (listed code r (row-of-decodable code r is)) k)) (holds-pattern code registers four all r is .fits)
 
-      go : (y : ℤ) → Cases code registers (signed y) → TwosComplementOf (width row) (join (take (row .most) registers)) y
+      go : (y : ℤ) → Cases code registers (signed y) → TwosComplementOf (width row) (patternIn row registers) y
       go y (byRow other is (asSigned k v)) =
           let s : other ≡ row = cc in
-          subst (λ (r : TypeRow). TwosComplementOf (width r) (join (take (r .most) registers)) (twosComplement (width other) (join (take (other .most) registers)))) s
-          (at other is k)
+          let z = twosComplement (width other) (patternIn other registers) in
+          subst (λ (r : TypeRow). TwosComplementOf (width r) (patternIn r registers) z) s (at other is k)

@@ -2,7 +2,7 @@
 use mathlib.Core.Path.{_≡_, refl, sym, ap, _∙_}
 use mathlib.Core.List.{List, [], _∷_}
 use Prim.Native.Nat.{ℕ, zero, suc, _+_, _*_, _/_, _^_, _<_}
-use native.Mathlib.Nat.{pow-suc, mul-assoc, mul-comm, mul-add-div-right, mul-add-mod-self-right, mod-eq-of-lt, div-eq-of-lt, mul-le-mul-right, add-zero}
+use native.Mathlib.Nat.{pow-suc, mul-assoc, mul-comm, mul-add-div-right, mul-add-mod-self-right, mod-eq-of-lt, div-eq-of-lt, mul-le-mul-right}
 use native.Mathlib.Omega.{arith}
 use lib.ListN.{length}
 use Rattle.values.specs.Registers.{AreRegisters, join, split}
@@ -31,5 +31,6 @@ unfolding split
 split-join [] a = refl
 split-join (r ∷ rs) a =
     let n = length rs in
-    let d : (r * 65536 ^ n + join rs) / 65536 ^ n ≡ r = mul-add-div-right (positive n) r (join rs) ∙ ap (λ (k : ℕ). r + k) (div-eq-of-lt (join-bound rs (a .1))) ∙ add-zero r in
+    let b : join rs / 65536 ^ n ≡ 0 = div-eq-of-lt (join-bound rs (a .1)) in
+    let d : (r * 65536 ^ n + join rs) / 65536 ^ n ≡ r = mul-add-div-right (positive n) r (join rs) ∙ omega (arith, b) in
     rw (join-cons r rs, d, mod-eq-of-lt (a .0), low-registers n r (join rs), split-join rs (a .1))

@@ -38,6 +38,10 @@ valueOf row raw =
       | Class.outOfRange ↦ outOfRange
     ]
 
+-- The pattern in the first registers, as many as the type takes.
+abbrev pub patternIn : TypeRow → List ℕ → ℕ
+patternIn row registers = join (take (row .most) registers)
+
 -- The rows that one value is decoded by: those of the codes 1–18.
 unfoldable pub decodable : ℕ → Option TypeRow
 decodable code = elim (leb 1 code && leb code 18) [ true ↦ rowOf code | false ↦ none ]
@@ -45,4 +49,4 @@ decodable code = elim (leb 1 code && leb code 18) [ true ↦ rowOf code | false 
 -- One value of four registers, the first ones used. 40: the code is not 1–18.
 unfoldable pub decoded : ℕ → List ℕ → Decoded
 decoded code registers =
-    elim (decodable code) [ none ↦ refused 40 | some row ↦ valueOf row (join (take (row .most) registers)) ]
+    elim (decodable code) [ none ↦ refused 40 | some row ↦ valueOf row (patternIn row registers) ]
