@@ -10,21 +10,21 @@ use lib.Dec.{leb}
 use lib.Ieee.{binary32, ofBits}
 use Rattle.values.specs.Rows.{TypeRow, Kind, rowOf}
 use Rattle.values.specs.Registers as registers
-use Rattle.values.specs.Classes.{width, twosComplement, isMarker, inRange, value, unimplemented, outOfRange, classOf, classified, ofClass, tooWide, unknownType}
+use Rattle.values.specs.Classes.{width, twosComplement, isUnimplemented, inRange, value, unimplemented, outOfRange, classOf, classified, ofClass, tooWide, unknownType}
 use Rattle.values.specs.Decoding as decoding
 use Rattle.values.proofs.Table.{from-one}
 use Rattle.values.specs.Decoding.{patternIn, numberOf, valueOf, decodable, decoded, refused}
 
 module _ (row : TypeRow) (raw : ℕ) where
-  pub marked : isMarker (row .marker) raw ≡ true → classOf row raw ≡ unimplemented
+  pub unimplemented-pattern : isUnimplemented (row .unimplemented) raw ≡ true → classOf row raw ≡ unimplemented
   unfolding classOf
-  marked m = simp (classOf, m)
+  unimplemented-pattern m = simp (classOf, m)
 
-  pub in-range : isMarker (row .marker) raw ≡ false → inRange row raw ≡ true → classOf row raw ≡ value
+  pub in-range : isUnimplemented (row .unimplemented) raw ≡ false → inRange row raw ≡ true → classOf row raw ≡ value
   unfolding classOf
   in-range m r = simp (classOf, m, r)
 
-  pub not-in-range : isMarker (row .marker) raw ≡ false → inRange row raw ≡ false → classOf row raw ≡ outOfRange
+  pub not-in-range : isUnimplemented (row .unimplemented) raw ≡ false → inRange row raw ≡ false → classOf row raw ≡ outOfRange
   unfolding classOf
   not-in-range m r = simp (classOf, m, r)
 

@@ -13,9 +13,9 @@ use lib.Signed.{mag}
 use lib.ListN.{length, getD}
 use Rattle.values.specs.Rows as Rows
 use Rattle.values.specs.Rows.{TypeRow, row, rows, rowAmong, rowOf}
-use Rattle.values.specs.Answers.{kindMeans, markerMeans, rangeMeans}
+use Rattle.values.specs.Answers.{kindMeans, unimplementedMeans, rangeMeans}
 use Rattle.values.specs.declared.rows.Kind.{Kind}
-use Rattle.values.specs.declared.rows.Marker.{Marker}
+use Rattle.values.specs.declared.rows.Unimplemented.{Unimplemented}
 use Rattle.values.specs.declared.rows.Range.{Range}
 use Rattle.values.specs.declared.rows.Line.{Line}
 use lib.Ieee.Fits.{and-l, and-r}
@@ -23,16 +23,16 @@ use Rattle.values.proofs.ListTests.{every}
 
 -- A line of the code's table as a row, and a row of the table as the code writes it.
 abbrev lineMeans : Line → TypeRow
-lineMeans l = row (l .0) (l .1) (l .2) (l .3) (kindMeans (l .4)) (markerMeans (l .5)) (rangeMeans (l .6))
+lineMeans l = row (l .0) (l .1) (l .2) (l .3) (kindMeans (l .4)) (unimplementedMeans (l .5)) (rangeMeans (l .6))
 
 abbrev kindOf : Rows.Kind → Kind
 kindOf Rows.signed = Kind.Signed
 kindOf Rows.unsigned = Kind.Unsigned
 kindOf Rows.float = Kind.Float
 
-abbrev markerOf : Rows.Marker → Marker
-markerOf Rows.never = Marker.Never
-markerOf (Rows.pattern p) = Marker.At p
+abbrev unimplementedOf : Rows.Unimplemented → Unimplemented
+unimplementedOf Rows.never = Unimplemented.Never
+unimplementedOf (Rows.pattern p) = Unimplemented.At p
 
 abbrev rangeOf : Rows.Range → Range
 rangeOf Rows.whole = Range.Whole
@@ -49,7 +49,7 @@ lineOf r =
       2 = r .most;
       3 = r .scalable;
       4 = kindOf (r .kind);
-      5 = markerOf (r .marker);
+      5 = unimplementedOf (r .unimplemented);
       6 = rangeOf (r .range);
     }
 

@@ -12,10 +12,10 @@ use lib.IntN.{ℤ, pos, negℤ}
 use lib.ListN.{length}
 use lib.Signed.{leZ, _≤ℤ_}
 use Rattle.values.specs.Each.{Each}
-use Rattle.values.specs.Rows.{TypeRow, Kind, signed, unsigned, float, Marker, never, pattern, Range, whole, between, notNaN, rows, rowAmong}
+use Rattle.values.specs.Rows.{TypeRow, Kind, signed, unsigned, float, Unimplemented, never, pattern, Range, whole, between, notNaN, rows, rowAmong}
 use Rattle.values.specs.Registers.{AreRegisters}
 use Rattle.values.specs.Classes as classes
-use Rattle.values.specs.Classes.{width, twosComplement, integer, isMarker, isBetween, inRange, classOf, PatternOf}
+use Rattle.values.specs.Classes.{width, twosComplement, integer, isUnimplemented, isBetween, inRange, classOf, PatternOf}
 use Rattle.values.specs.Decoding.{Decoded, decoded, decodable}
 use Rattle.values.specs.Printed.{PrintedRange, printed, Within}
 use lib.Ieee.Fits.{and-l, and-r}
@@ -38,21 +38,21 @@ leastIn whole float width = pos 0
 leastIn notNaN k width = pos 0
 
 abbrev greatestIn : Range → Kind → ℕ → Bool → ℤ
-greatestIn (between low high) k width onesMarked = high
-greatestIn whole signed width onesMarked = pos (2 ^ (width - 1) - 1)
+greatestIn (between low high) k width onesUnimplemented = high
+greatestIn whole signed width onesUnimplemented = pos (2 ^ (width - 1) - 1)
 greatestIn whole unsigned width true = pos (2 ^ width - 2)
 greatestIn whole unsigned width false = pos (2 ^ width - 1)
-greatestIn whole float width onesMarked = pos 0
-greatestIn notNaN k width onesMarked = pos 0
+greatestIn whole float width onesUnimplemented = pos 0
+greatestIn notNaN k width onesUnimplemented = pos 0
 
-onesMarked : TypeRow → Bool
-onesMarked row = isMarker (row .marker) (2 ^ width row - 1)
+onesUnimplemented : TypeRow → Bool
+onesUnimplemented row = isUnimplemented (row .unimplemented) (2 ^ width row - 1)
 
 least : TypeRow → ℤ
 least row = leastIn (row .range) (row .kind) (width row)
 
 greatest : TypeRow → ℤ
-greatest row = greatestIn (row .range) (row .kind) (width row) (onesMarked row)
+greatest row = greatestIn (row .range) (row .kind) (width row) (onesUnimplemented row)
 
 -- An integer from the row's least to its greatest.
 abbrev Bounded : TypeRow → ℤ → Type 0
@@ -65,8 +65,8 @@ other-kind : unsigned ≡ signed → ⊥
 other-kind e = let z : _≡_ {A = ℕ} 0 1 = cc in omega arith
 
 module _ (row : TypeRow) (raw : ℕ) (p : PatternOf row raw) (v : classOf row raw ≡ classes.value) where
-  unmarked : isMarker (row .marker) raw ≡ false
-  unmarked = class-is-its-tests row raw classes.value .0 v .0
+  implemented : isUnimplemented (row .unimplemented) raw ≡ false
+  implemented = class-is-its-tests row raw classes.value .0 v .0
 
   in-range : inRange row raw ≡ true
   in-range = class-is-its-tests row raw classes.value .0 v .1
@@ -77,14 +77,14 @@ module _ (row : TypeRow) (raw : ℕ) (p : PatternOf row raw) (v : classOf row ra
       let t = passes (isBetween low high z) (sym (in-between row raw low high e ∙ ap (isBetween low high) y) ∙ in-range) in
       (and-l (leZ low z) (leZ z high) t, and-r (leZ low z) (leZ z high) t)
 
-  -- Else a signed type's marker takes the least pattern away.
+  -- Else the least pattern of a signed type is the unimplemented one.
   signed-bounded : row .kind ≡ signed → Bounded row (twosComplement (width row) raw)
-  unfolding least greatest onesMarked
+  unfolding least greatest onesUnimplemented
   signed-bounded k = rw k (go (row .range) refl)
     where
-      off-edge : (m : Marker) → row .marker ≡ m → T (edgeTest whole signed m (width row)) → raw ≡ 2 ^ (width row - 1) → ⊥
+      off-edge : (m : Unimplemented) → row .unimplemented ≡ m → T (edgeTest whole signed m (width row)) → raw ≡ 2 ^ (width row - 1) → ⊥
       off-edge never e t q = t
-      off-edge (pattern x) e t q = eqb-false raw x (rw e at unmarked) (q ∙ sym (eqb→eq x (2 ^ (width row - 1)) t))
+      off-edge (pattern x) e t q = eqb-false raw x (rw e at implemented) (q ∙ sym (eqb→eq x (2 ^ (width row - 1)) t))
 
       half : (raw ≡ 2 ^ (width row - 1) → ⊥) → Dec (2 ^ (width row - 1) ≤ raw)
           → T (leZ (leastIn whole signed (width row)) (twosComplement (width row) raw))
@@ -99,25 +99,25 @@ module _ (row : TypeRow) (raw : ℕ) (p : PatternOf row raw) (v : classOf row ra
 
       go : (r : Range) → row .range ≡ r
           → T (leZ (leastIn r signed (width row)) (twosComplement (width row) raw))
-          × T (leZ (twosComplement (width row) raw) (greatestIn r signed (width row) (onesMarked row)))
-      go whole e = half (off-edge (row .marker) refl (rw (e, k) at (edges row (p .listed)))) (decLe (2 ^ (width row - 1)) raw)
+          × T (leZ (twosComplement (width row) raw) (greatestIn r signed (width row) (onesUnimplemented row)))
+      go whole e = half (off-edge (row .unimplemented) refl (rw (e, k) at (edges row (p .listed)))) (decLe (2 ^ (width row - 1)) raw)
       go (between low high) e = inside low high (twosComplement (width row) raw) e (signed-integer row raw k)
       go notNaN e = absurd (rw (e, k) at (edges row (p .listed)))
 
-  -- And an unsigned type's marker may take the greatest.
+  -- And the greatest of an unsigned type may be.
   unsigned-bounded : row .kind ≡ unsigned → Bounded row (pos raw)
-  unfolding least greatest onesMarked
+  unfolding least greatest onesUnimplemented
   unsigned-bounded k = rw k (go (row .range) refl)
     where
-      top : (b : Bool) → onesMarked row ≡ b → T (leZ (pos raw) (greatestIn whole unsigned (width row) b))
+      top : (b : Bool) → onesUnimplemented row ≡ b → T (leZ (pos raw) (greatestIn whole unsigned (width row) b))
       top true e =
-          let n : raw ≡ 2 ^ width row - 1 → ⊥ = λ q. never-both (sym unmarked ∙ ap (isMarker (row .marker)) q ∙ e) in
+          let n : raw ≡ 2 ^ width row - 1 → ⊥ = λ q. never-both (sym implemented ∙ ap (isUnimplemented (row .unimplemented)) q ∙ e) in
           le→leb raw (2 ^ width row - 2) (omega (arith, p .fits, n))
       top false e = le→leb raw (2 ^ width row - 1) (omega (arith, p .fits))
 
       go : (r : Range) → row .range ≡ r
-          → T (leZ (leastIn r unsigned (width row)) (pos raw)) × T (leZ (pos raw) (greatestIn r unsigned (width row) (onesMarked row)))
-      go whole e = (le→leb 0 raw (omega arith), top (onesMarked row) refl)
+          → T (leZ (leastIn r unsigned (width row)) (pos raw)) × T (leZ (pos raw) (greatestIn r unsigned (width row) (onesUnimplemented row)))
+      go whole e = (le→leb 0 raw (omega arith), top (onesUnimplemented row) refl)
       go (between low high) e = inside low high (pos raw) e (plain-integer row raw (λ q. other-kind (sym k ∙ q)))
       go notNaN e = absurd (rw (e, k) at (edges row (p .listed)))
 
@@ -132,7 +132,7 @@ rowInside r none = false
 rowInside r (some row) = integral (row .kind) && (leZ (r .least) (least row) && leZ (greatest row) (r .greatest))
 
 printed-rows : T (every (λ r. rowInside r (decodable (r .code))) printed)
-unfolding printed rows rowAmong decodable integral rowInside least greatest onesMarked
+unfolding printed rows rowAmong decodable integral rowInside least greatest onesUnimplemented
 printed-rows = tt
 
 module _ (registers : List ℕ) (four : length registers ≡ 4) (all : AreRegisters registers) where

@@ -10,7 +10,7 @@ use lib.Dec.{T, eqb, leb, eqb→eq, leb→le}
 use lib.IntN.{ℤ, pos, negsuc}
 use lib.Ieee.Fits.{and-l, and-r}
 use Rattle.values.proofs.ListTests.{every}
-use Rattle.values.specs.Rows.{TypeRow, Kind, signed, unsigned, float, Marker, never, pattern, Range, whole, between, notNaN, rows, rowAmong, rowOf, Listed}
+use Rattle.values.specs.Rows.{TypeRow, Kind, signed, unsigned, float, Unimplemented, never, pattern, Range, whole, between, notNaN, rows, rowAmong, rowOf, Listed}
 
 -- The row found is one of the list, with the code looked for.
 found-among : (test : TypeRow → Bool) (rs : List TypeRow) (c : ℕ) (r : TypeRow) → T (every test rs) → rowAmong rs c ≡ some r
@@ -106,8 +106,8 @@ module _ (r : TypeRow) (l : Listed r) where
       go unsigned q t = absurd t
       go float q t = absurd t
 
--- A signed type without a narrower range leaves its least pattern to the marker, and only a float's range is that of a float.
-abbrev pub edgeTest : Range → Kind → Marker → ℕ → Bool
+-- A signed type without a narrower range is unimplemented at its least pattern, and only a float's range is that of a float.
+abbrev pub edgeTest : Range → Kind → Unimplemented → ℕ → Bool
 edgeTest (between low high) k m width = true
 edgeTest whole signed never width = false
 edgeTest whole signed (pattern p) width = eqb p (2 ^ (width - 1))
@@ -117,6 +117,6 @@ edgeTest notNaN signed m width = false
 edgeTest notNaN unsigned m width = false
 edgeTest notNaN float m width = true
 
-pub edges : (r : TypeRow) → Listed r → T (edgeTest (r .range) (r .kind) (r .marker) (16 * r .most))
+pub edges : (r : TypeRow) → Listed r → T (edgeTest (r .range) (r .kind) (r .unimplemented) (16 * r .most))
 unfolding rows
-edges r l = found (λ x. edgeTest (x .range) (x .kind) (x .marker) (16 * x .most)) tt (r .code) r l .1
+edges r l = found (λ x. edgeTest (x .range) (x .kind) (x .unimplemented) (16 * x .most)) tt (r .code) r l .1

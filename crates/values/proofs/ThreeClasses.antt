@@ -8,28 +8,28 @@ use Prim.Native.Nat.{ℕ, _^_, _≤_, _<_}
 use borrow.Author.Tests.{le-leb, lt-leb}
 use Rattle.values.specs.Rows.{TypeRow, rowOf}
 use Rattle.values.specs.Registers as registers
-use Rattle.values.specs.Classes.{width, isMarker, inRange, Class, value, unimplemented, outOfRange, classOf, classified, ofClass, tooWide}
+use Rattle.values.specs.Classes.{width, isUnimplemented, inRange, Class, value, unimplemented, outOfRange, classOf, classified, ofClass, tooWide}
 use Rattle.values.proofs.ClassCases as cases
 
 module _ (row : TypeRow) (raw : ℕ) where
-  -- The tests behind a class: the marker first, then the range.
+  -- The tests behind a class: the unimplemented pattern first, then the range.
   abbrev pub Tests : Class → Type 0
-  Tests unimplemented = isMarker (row .marker) raw ≡ true
-  Tests outOfRange = (isMarker (row .marker) raw ≡ false) × (inRange row raw ≡ false)
-  Tests value = (isMarker (row .marker) raw ≡ false) × (inRange row raw ≡ true)
+  Tests unimplemented = isUnimplemented (row .unimplemented) raw ≡ true
+  Tests outOfRange = (isUnimplemented (row .unimplemented) raw ≡ false) × (inRange row raw ≡ false)
+  Tests value = (isUnimplemented (row .unimplemented) raw ≡ false) × (inRange row raw ≡ true)
 
   tested : Tests (classOf row raw)
   unfolding classOf
-  tested = go (isMarker (row .marker) raw) refl (inRange row raw) refl
+  tested = go (isUnimplemented (row .unimplemented) raw) refl (inRange row raw) refl
     where
-      go : (m : Bool) → isMarker (row .marker) raw ≡ m → (r : Bool) → inRange row raw ≡ r
+      go : (m : Bool) → isUnimplemented (row .unimplemented) raw ≡ m → (r : Bool) → inRange row raw ≡ r
           → Tests (elim m [ true ↦ unimplemented | false ↦ elim r [ true ↦ value | false ↦ outOfRange ] ])
       go true e r q = e
       go false e true q = (e, q)
       go false e false q = (e, q)
 
   of-tests : (c : Class) → Tests c → classOf row raw ≡ c
-  of-tests unimplemented t = cases.marked row raw t
+  of-tests unimplemented t = cases.unimplemented-pattern row raw t
   of-tests outOfRange t = cases.not-in-range row raw (t .0) (t .1)
   of-tests value t = cases.in-range row raw (t .0) (t .1)
 

@@ -10,7 +10,7 @@ use Rattle.values.specs.declared.Class.{Class}
 use Rattle.values.specs.declared.Classified.{Classified}
 use Rattle.values.specs.declared.RegisterCount.{RegisterCount}
 use Rattle.values.specs.declared.rows.Kind.{Kind}
-use Rattle.values.specs.declared.rows.Marker.{Marker}
+use Rattle.values.specs.declared.rows.Unimplemented.{Unimplemented}
 use Rattle.values.specs.declared.rows.Range.{Range}
 use Rattle.values.specs.declared.rows.TypeRow.{TypeRow}
 use Rattle.values.specs.declared.rows.Found.{Found}
@@ -47,9 +47,9 @@ kindMeans Kind.Signed = Rows.signed
 kindMeans Kind.Unsigned = Rows.unsigned
 kindMeans Kind.Float = Rows.float
 
-abbrev pub markerMeans : Marker → Rows.Marker
-markerMeans Marker.Never = Rows.never
-markerMeans (Marker.At p) = Rows.pattern p
+abbrev pub unimplementedMeans : Unimplemented → Rows.Unimplemented
+unimplementedMeans Unimplemented.Never = Rows.never
+unimplementedMeans (Unimplemented.At p) = Rows.pattern p
 
 abbrev pub rangeMeans : Range → Rows.Range
 rangeMeans Range.Whole = Rows.whole
@@ -66,7 +66,7 @@ rowMeans r =
       most = r .most;
       scalable = r .scalable;
       kind = kindMeans (r .kind);
-      marker = markerMeans (r .marker);
+      unimplemented = unimplementedMeans (r .unimplemented);
       range = rangeMeans (r .range);
     }
 

@@ -7,7 +7,7 @@ use lib.IntN.{ℤ, pos, _-ℤ_}
 use lib.Signed.{leZ}
 use lib.Ieee.{binary32, nanBits}
 use Rattle.values.specs.Registers as registers
-use Rattle.values.specs.Rows.{TypeRow, rowOf, Listed, signed, unsigned, float, Marker, never, pattern, whole, between, notNaN}
+use Rattle.values.specs.Rows.{TypeRow, rowOf, Listed, signed, unsigned, float, Unimplemented, never, pattern, whole, between, notNaN}
 
 -- The number that a pattern of so many bits stands for in two's complement (document 000, 6.4).
 unfoldable pub twosComplement : ℕ → ℕ → ℤ
@@ -24,9 +24,9 @@ integer row raw =
     elim (row .kind) [ signed ↦ twosComplement (width row) raw | unsigned ↦ pos raw | float ↦ pos raw ]
 
 -- Is the raw number the type's unimplemented pattern (document 01: "not given")?
-abbrev pub isMarker : Marker → ℕ → Bool
-isMarker never raw = false
-isMarker (pattern p) raw = eqb raw p
+abbrev pub isUnimplemented : Unimplemented → ℕ → Bool
+isUnimplemented never raw = false
+isUnimplemented (pattern p) raw = eqb raw p
 
 -- Is an integer from the first to the second?
 abbrev pub isBetween : ℤ → ℤ → ℤ → Bool
@@ -48,7 +48,7 @@ pub data Class : Type 0 where
 -- The class of a raw number under a type: unimplemented wins over out of range.
 unfoldable pub classOf : TypeRow → ℕ → Class
 classOf row raw =
-    elim (isMarker (row .marker) raw) [
+    elim (isUnimplemented (row .unimplemented) raw) [
       | true ↦ unimplemented
       | false ↦ elim (inRange row raw) [ true ↦ value | false ↦ outOfRange ]
     ]

@@ -12,9 +12,9 @@ pub data Kind : Type 0 where
   signed unsigned float : Kind
 
 -- The pattern that marks a point as unimplemented (document 01: "not given"), or none.
-pub data Marker : Type 0 where
-  never : Marker
-  pattern : ℕ → Marker
+pub data Unimplemented : Type 0 where
+  never : Unimplemented
+  pattern : ℕ → Unimplemented
 
 -- The values in range, where document 01 names what is out of it: all of them, the integers from the first to the second, or
 -- all floats but NaN.
@@ -30,7 +30,7 @@ pub record TypeRow : Type 0 where
   pub most : ℕ
   pub scalable : Bool
   pub kind : Kind
-  pub marker : Marker
+  pub unimplemented : Unimplemented
   pub range : Range
 
 -- Document 01's s: a point of the type may carry a scale factor, or may not.
@@ -41,9 +41,9 @@ abbrev unscaled : Bool
 unscaled = false
 
 -- A row, written on one line: code, fewest and most registers, may it carry a scale factor, kind, unimplemented, range.
-abbrev pub row : ℕ → ℕ → ℕ → Bool → Kind → Marker → Range → TypeRow
+abbrev pub row : ℕ → ℕ → ℕ → Bool → Kind → Unimplemented → Range → TypeRow
 row c f m s k u r =
-    record { code = c; fewest = f; most = m; scalable = s; kind = k; marker = u; range = r }
+    record { code = c; fewest = f; most = m; scalable = s; kind = k; unimplemented = u; range = r }
 
 -- The integers from 0 to n.
 abbrev upTo : ℕ → Range

@@ -4,15 +4,15 @@ ghost use mathlib.Core.Bool.{not};
 ghost use Prim.Native.Nat.{_<_};
 ghost use lib.IntN.{pos, negℤ};
 ghost use lib.Ieee.{binary32, nanBits};
-ghost use Rattle.values.specs.Classes.{PatternOf, twosComplement, isMarker, isBetween, inRange, classOf, classified};
-ghost use Rattle.values.specs.Answers.{classAnswer, classifiedAnswer, markerMeans, rowMeans};
+ghost use Rattle.values.specs.Classes.{PatternOf, twosComplement, isUnimplemented, isBetween, inRange, classOf, classified};
+ghost use Rattle.values.specs.Answers.{classAnswer, classifiedAnswer, unimplementedMeans, rowMeans};
 use crate::Class;
 use crate::Classified;
 use crate::registers::too_wide;
 use crate::rows::Found;
-use crate::rows::Marker;
 use crate::rows::Range;
 use crate::rows::TypeRow;
+use crate::rows::Unimplemented;
 use crate::rows::row_of;
 
 // The class of a raw number under a type code.
@@ -36,8 +36,8 @@ pub(crate) fn class_in(row: TypeRow, raw: u64) -> Class
     requires { ⌜ PatternOf (rowMeans row) raw ⌝ }
     ensures { λ r. ⌜ classAnswer r ≡ classOf (rowMeans row) raw ⌝ }
 {
-    let marker = row.marker;
-    if is_marker(marker, raw) {
+    let unimplemented = row.unimplemented;
+    if is_unimplemented(unimplemented, raw) {
         return Class::Unimplemented;
     }
     if in_range(row, raw) {
@@ -47,12 +47,12 @@ pub(crate) fn class_in(row: TypeRow, raw: u64) -> Class
 }
 
 // Is it the type's unimplemented pattern?
-fn is_marker(marker: Marker, raw: u64) -> bool
-    ensures { λ r. ⌜ r ≡ isMarker (markerMeans marker) raw ⌝ }
+fn is_unimplemented(unimplemented: Unimplemented, raw: u64) -> bool
+    ensures { λ r. ⌜ r ≡ isUnimplemented (unimplementedMeans unimplemented) raw ⌝ }
 {
-    match marker {
-        Marker::Never => false,
-        Marker::At(pattern) => raw == pattern,
+    match unimplemented {
+        Unimplemented::Never => false,
+        Unimplemented::At(pattern) => raw == pattern,
     }
 }
 

@@ -5,13 +5,13 @@ ghost use Rattle.values.specs.Answers.{foundMeans};
 use crate::rows::Kind::Float;
 use crate::rows::Kind::Signed;
 use crate::rows::Kind::Unsigned;
-use crate::rows::Marker::At;
-use crate::rows::Marker::Never;
 use crate::rows::Range::NotNan;
 use crate::rows::Range::Only;
 use crate::rows::Range::ScaleFactor;
 use crate::rows::Range::UpTo;
 use crate::rows::Range::Whole;
+use crate::rows::Unimplemented::At;
+use crate::rows::Unimplemented::Never;
 
 // How the bits of a value are read.
 pub(crate) enum Kind {
@@ -21,7 +21,7 @@ pub(crate) enum Kind {
 }
 
 // The pattern that says that a point is not implemented.
-pub(crate) enum Marker {
+pub(crate) enum Unimplemented {
     Never,
     At(u64),
 }
@@ -42,7 +42,7 @@ pub(crate) struct TypeRow {
     pub(crate) most: u16,
     pub(crate) scalable: bool,
     pub(crate) kind: Kind,
-    pub(crate) marker: Marker,
+    pub(crate) unimplemented: Unimplemented,
     pub(crate) range: Range,
 }
 
@@ -54,7 +54,7 @@ pub(crate) enum Found {
 
 // A row as the table writes it, on one line: code, fewest and most registers, may it carry a scale
 // factor, kind, unimplemented pattern, range.
-struct Line(u16, u16, u16, bool, Kind, Marker, Range);
+struct Line(u16, u16, u16, bool, Kind, Unimplemented, Range);
 
 // How many types there are: their codes count from 1.
 const TYPES: usize = 20;
@@ -96,7 +96,7 @@ pub(crate) fn row_of(type_code: u16) -> Found
     }
     let line = TABLE[code - 1];
     let kind = line.4;
-    let marker = line.5;
+    let unimplemented = line.5;
     let range = line.6;
     Found::Row(TypeRow {
         code: line.0,
@@ -104,7 +104,7 @@ pub(crate) fn row_of(type_code: u16) -> Found
         most: line.2,
         scalable: line.3,
         kind,
-        marker,
+        unimplemented,
         range,
     })
 }
