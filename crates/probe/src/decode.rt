@@ -26,6 +26,7 @@ pub(crate) fn run(line: &[u8], at: usize) -> bool {
     true
 }
 
+// Writes what `decode` answers.
 fn write_value(type_code: u16, registers: [u16; 4]) {
     let value = values::decode(type_code, registers);
     match value {

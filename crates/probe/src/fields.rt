@@ -47,6 +47,7 @@ pub(crate) fn find(s: &[u8], start: usize, byte: u8) -> usize
     s.len()
 }
 
+// Is the line read to its end? What is left would be a surplus field.
 pub(crate) fn nothing_left(line: &[u8], at: usize) -> bool {
     at == line.len()
 }
@@ -172,6 +173,7 @@ fn word_at(line: &[u8], at: usize) -> u32
         + hex_digit(line[at + 3])
 }
 
+// The value of a hexadecimal digit of either case, and NO_DIGIT for any other byte.
 fn hex_digit(b: u8) -> u32
     ensures { λ r. ⌜ r ≤ 65536 ⌝ }
 {

@@ -44,6 +44,7 @@ fn is_cut(input: &[u8], end: usize) -> bool {
     next[0] != b'\n'
 }
 
+// Writes the line's one answer.
 fn answer(line: &[u8]) {
     if !run(line) {
         output::text(b"bad line");

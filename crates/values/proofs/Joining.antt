@@ -1,6 +1,6 @@
 -- Laws of joining registers high first.
 use mathlib.Core.Path.{_≡_, refl, sym, ap, _∙_}
-use mathlib.Core.List.{List, [], _∷_}
+use mathlib.Core.List.{List, _∷_}
 use Prim.Native.Nat.{ℕ, zero, suc, _+_, _-_, _*_, _^_, _≤_, _<_, min}
 use native.Mathlib.Nat.{zero-mul, zero-add, pow-suc, mul-assoc, mul-comm, add-mul, add-assoc, mul-le-mul-right, pow-le-pow-right}
 use native.Mathlib.Omega.{arith}

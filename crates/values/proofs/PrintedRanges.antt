@@ -3,9 +3,8 @@ use mathlib.Core.Path.{_≡_, refl, sym, ap, subst, _∙_}
 use mathlib.Core.Bool.{Bool, true, false, _&&_}
 use mathlib.Core.List.{List, [], _∷_}
 use mathlib.Core.Option.{Option, none, some}
-use Prim.Native.Nat.{ℕ, suc, _-_, _^_, _≤_}
+use Prim.Native.Nat.{ℕ, suc, _-_, _^_}
 use native.Mathlib.Omega.{arith}
-use native.Mathlib.Decide.{decLe}
 use borrow.Author.Tests.{eqb-false}
 use lib.Dec.{T, le→leb, eqb→eq}
 use lib.IntN.{ℤ, pos, negℤ}
@@ -23,7 +22,7 @@ use Rattle.values.proofs.ListTests.{passes, every}
 use Rattle.values.proofs.IntegerOrder.{le-le, negative-le, negative-le-negative}
 use Rattle.values.proofs.ThreeClasses.{class-is-its-tests}
 use Rattle.values.proofs.Ranges.{in-between, plain-integer, signed-integer}
-use Rattle.values.proofs.TwosComplement.{lower-half, upper-half}
+use Rattle.values.proofs.TwosComplement.{by-half}
 use Rattle.values.proofs.MachineIntegers.{halves}
 use Rattle.values.proofs.Table.{signed-width, edgeTest, edges}
 use Rattle.values.proofs.DecodedCases.{asSigned, asUnsigned, asFloat, asUnimplemented, asOutOfRange, Cases, byRow, noRow, cases}
@@ -86,21 +85,19 @@ module _ (row : TypeRow) (raw : ℕ) (p : PatternOf row raw) (v : classOf row ra
       off-edge never e t q = t
       off-edge (pattern x) e t q = eqb-false raw x (rw e at implemented) (q ∙ sym (eqb→eq x (2 ^ (width row - 1)) t))
 
-      half : (raw ≡ 2 ^ (width row - 1) → ⊥) → Dec (2 ^ (width row - 1) ≤ raw)
+      inner : (raw ≡ 2 ^ (width row - 1) → ⊥)
           → T (leZ (leastIn whole signed (width row)) (twosComplement (width row) raw))
           × T (leZ (twosComplement (width row) raw) (pos (2 ^ (width row - 1) - 1)))
-      half n (yes u) =
+      inner n =
           let h = halves (width row) (omega (arith, signed-width row (p .listed) k)) in
-          rw (upper-half (width row) raw u (p .fits))
-          (negative-le-negative (2 ^ (width row - 1) - 1) (2 ^ width row - suc raw) (omega (arith, h, p .fits, n)), tt)
-      half n (no u) =
-          rw (lower-half (width row) raw (omega arith))
-          (negative-le (2 ^ (width row - 1) - 1) raw, le→leb raw (2 ^ (width row - 1) - 1) (omega arith))
+          by-half (width row) raw (λ z. T (leZ (leastIn whole signed (width row)) z) × T (leZ z (pos (2 ^ (width row - 1) - 1)))) (p .fits)
+          (λ l. (negative-le (2 ^ (width row - 1) - 1) raw, le→leb raw (2 ^ (width row - 1) - 1) (omega arith)))
+          (λ u. (negative-le-negative (2 ^ (width row - 1) - 1) (2 ^ width row - suc raw) (omega (arith, h, p .fits, n)), tt))
 
       go : (r : Range) → row .range ≡ r
           → T (leZ (leastIn r signed (width row)) (twosComplement (width row) raw))
           × T (leZ (twosComplement (width row) raw) (greatestIn r signed (width row) (onesUnimplemented row)))
-      go whole e = half (off-edge (row .unimplemented) refl (rw (e, k) at (edges row (p .listed)))) (decLe (2 ^ (width row - 1)) raw)
+      go whole e = inner (off-edge (row .unimplemented) refl (rw (e, k) at (edges row (p .listed))))
       go (between low high) e = inside low high (twosComplement (width row) raw) e (signed-integer row raw k)
       go notNaN e = absurd (rw (e, k) at (edges row (p .listed)))
 

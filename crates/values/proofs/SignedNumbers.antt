@@ -6,7 +6,6 @@ use mathlib.Core.List.{List}
 use mathlib.Core.Option.{some}
 use Prim.Native.Nat.{ℕ, suc, _-_, _^_, _≤_, _<_}
 use native.Mathlib.Omega.{arith}
-use native.Mathlib.Decide.{decLe}
 use lib.Dec.{lt→ltb, ltb→lt}
 use lib.IntN.{ℤ, pos, negsuc, negℤ, _+ℤ_, _-ℤ_, -ℤ-+ℤ-cancel, +ℤ-negℤ-cancel}
 use lib.ListN.{length}
@@ -18,7 +17,7 @@ use Rattle.values.specs.Decoding.{patternIn, signed, decodable, decoded}
 use Rattle.values.proofs.IntegerOrder.{negative-le, negative-le-negative, negative-below}
 use Rattle.values.proofs.Table.{listed, signed-width}
 use Rattle.values.proofs.ClassCases.{row-of-decodable}
-use Rattle.values.proofs.TwosComplement.{lower-half, upper-half, less}
+use Rattle.values.proofs.TwosComplement.{by-half, less}
 use Rattle.values.proofs.MachineIntegers.{halves}
 use Rattle.values.proofs.DecodedCases.{asSigned, Cases, byRow, cases}
 use Rattle.values.proofs.RoundTrip.{holds-pattern}
@@ -31,25 +30,23 @@ pub record TwosComplementOf (width raw : ℕ) (z : ℤ) : Type 0 where
 
 module _ (width raw : ℕ) (wide : 1 ≤ width) (fits : raw < 2 ^ width) where
   pub twos-complement : TwosComplementOf width raw (twosComplement width raw)
-  twos-complement = elim (decLe (2 ^ (width - 1)) raw) [ yes u ↦ upper u | no u ↦ lower (omega arith) ]
+  twos-complement = by-half width raw (TwosComplementOf width raw) fits lower upper
     where
-      lower : raw < 2 ^ (width - 1) → TwosComplementOf width raw (twosComplement width raw)
+      lower : raw < 2 ^ (width - 1) → TwosComplementOf width raw (pos raw)
       lower l =
-          rw (lower-half width raw l)
-          (record {
+          record {
             low = record { le = negative-le (2 ^ (width - 1)) raw };
             high = record { lt = lt→ltb raw (2 ^ (width - 1)) l };
             same = inl refl;
-          })
+          }
 
-      upper : 2 ^ (width - 1) ≤ raw → TwosComplementOf width raw (twosComplement width raw)
+      upper : 2 ^ (width - 1) ≤ raw → TwosComplementOf width raw (negsuc (2 ^ width - suc raw))
       upper u =
-          rw (upper-half width raw u fits)
-          (record {
+          record {
             low = record { le = negative-le-negative (2 ^ (width - 1)) (2 ^ width - suc raw) (omega (arith, halves width wide)) };
             high = record { lt = tt };
             same = inr (ap (λ (y : ℤ). y +ℤ pos (2 ^ width)) (sym (less raw (2 ^ width) fits)) ∙ -ℤ-+ℤ-cancel (pos raw) (pos (2 ^ width)));
-          })
+          }
 
 -- No other integer is: the pattern and 2 ^ width less cannot both lie in the range.
 module _ (width raw : ℕ) (wide : 1 ≤ width) where

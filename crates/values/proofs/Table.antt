@@ -2,12 +2,14 @@
 use mathlib.Core.Path.{_≡_, refl, sym, ap, subst, _∙_}
 use mathlib.Core.Bool.{Bool, true, false, not, _&&_, _||_}
 use mathlib.Core.List.{List, [], _∷_}
-use mathlib.Core.Option.{some}
-use Prim.Native.Nat.{ℕ, _-_, _*_, _^_, _≤_}
+use mathlib.Core.Option.{none, some}
+use Prim.Native.Nat.{ℕ, zero, suc, _+_, _-_, _*_, _^_, _≤_, _<_}
+use native.Mathlib.Nat.{add-zero, add-suc, suc-add}
 use native.Mathlib.Omega.{arith}
-use borrow.Author.Tests.{eqb-true, le-leb}
+use borrow.Author.Tests.{eqb-true, le-leb, eq-eqb, ne-eqb}
 use lib.Dec.{T, eqb, leb, eqb→eq, leb→le}
 use lib.IntN.{ℤ, pos, negsuc}
+use lib.ListN.{length, getD}
 use lib.Ieee.Fits.{and-l, and-r}
 use Rattle.values.proofs.ListTests.{every}
 use Rattle.values.specs.Rows.{TypeRow, Kind, signed, unsigned, float, Unimplemented, never, pattern, Range, whole, between, notNaN, rows, rowAmong, rowOf, Listed}
@@ -34,6 +36,45 @@ found test t c r e = found-among test rows c r t e
 pub listed : (c : ℕ) (r : TypeRow) → rowOf c ≡ some r → Listed r
 unfolding rows
 listed c r e = sym (ap rowOf (found (λ x. true) tt c r e .0)) ∙ e
+
+-- The rows of a list carry the codes from c on, in order.
+abbrev numbered : ℕ → List TypeRow → Bool
+numbered c [] = true
+numbered c (r ∷ rs) = eqb (r .code) c && numbered (suc c) rs
+
+-- The row with the i-th code is the i-th row.
+by-place : (c : ℕ) (rs : List TypeRow) (d : TypeRow) (i : ℕ) → T (numbered c rs) → i < length rs
+    → rowAmong rs (c + i) ≡ some (getD rs i d)
+unfolding rowAmong
+by-place c [] d i t h = absurd (omega arith)
+by-place c (r ∷ rs) d zero t h =
+    let e = eqb→eq (r .code) c (and-l (eqb (r .code) c) (numbered (suc c) rs) t) in
+    simp (rowAmong, eq-eqb (c + 0) (r .code) (add-zero c ∙ sym e))
+by-place c (r ∷ rs) d (suc i) t h =
+    let e = eqb→eq (r .code) c (and-l (eqb (r .code) c) (numbered (suc c) rs) t) in
+    let n : c + suc i ≡ r .code → ⊥ = λ q. omega (arith, e, q) in
+    simp (rowAmong, ne-eqb (c + suc i) (r .code) n)
+    (rw (add-suc c i, ← suc-add c i) (by-place (suc c) rs d i (and-r (eqb (r .code) c) (numbered (suc c) rs) t) (omega arith)))
+
+pub row-at : (d : TypeRow) (c : ℕ) → 1 ≤ c → c ≤ 20 → rowOf c ≡ some (getD rows (c - 1) d)
+unfolding rows
+row-at d c l h = let n : 1 + (c - 1) ≡ c = omega arith in sym (ap rowOf n) ∙ by-place 1 rows d (c - 1) tt (omega arith)
+
+-- No row has a code below 1 or above 20.
+none-outside : (rs : List TypeRow) (c : ℕ) → T (every (λ r. leb 1 (r .code) && leb (r .code) 20) rs) → (1 ≤ c → c ≤ 20 → ⊥)
+    → rowAmong rs c ≡ none
+unfolding rowAmong
+none-outside [] c t n = refl
+none-outside (r ∷ rs) c t n =
+    let test : TypeRow → Bool = λ x. leb 1 (x .code) && leb (x .code) 20 in
+    let here = and-l (test r) (every test rs) t in
+    let low = leb→le 1 (r .code) (and-l (leb 1 (r .code)) (leb (r .code) 20) here) in
+    let high = leb→le (r .code) 20 (and-r (leb 1 (r .code)) (leb (r .code) 20) here) in
+    simp (rowAmong, ne-eqb c (r .code) (λ q. n (rw q low) (rw q high))) (none-outside rs c (and-r (test r) (every test rs) t) n)
+
+pub no-row-outside : (c : ℕ) → (1 ≤ c → c ≤ 20 → ⊥) → rowOf c ≡ none
+unfolding rows
+no-row-outside c n = none-outside rows c tt n
 
 -- ---- What holds of each row
 

@@ -1,11 +1,12 @@
 -- Two's complement by halves: the lower half of the patterns stands for itself, the upper half for what is missing to 2 ^ bits, negated.
-use mathlib.Core.Path.{_≡_}
+use mathlib.Core.Path.{_≡_, refl}
+use mathlib.Core.Bool.{true, _&&_}
 use Prim.Native.Nat.{ℕ, zero, suc, _-_, _^_, _≤_, _<_}
 use native.Mathlib.Omega.{arith}
 use native.Mathlib.Decide.{decLe}
 use borrow.Author.Tests.{lt-ltb, le-ltb, le-leb, lt-leb}
 use lib.Dec.{leb}
-use lib.IntN.{pos, negsuc, negℤ, _-ℤ_}
+use lib.IntN.{ℤ, pos, negsuc, negℤ, _-ℤ_}
 use Rattle.values.specs.Classes.{twosComplement, isBetween}
 use Rattle.values.specs.Encoding.{twosPattern}
 
@@ -23,23 +24,26 @@ module _ (bits raw : ℕ) where
   unfolding twosComplement
   upper-half h k = simp (twosComplement, le-ltb _ _ h) (less raw (2 ^ bits) k)
 
+  -- What holds of the number in either half of the patterns holds of it.
+  pub by-half : (P : ℤ → Type 0) → raw < 2 ^ bits → (raw < 2 ^ (bits - 1) → P (pos raw))
+      → (2 ^ (bits - 1) ≤ raw → P (negsuc (2 ^ bits - suc raw))) → P (twosComplement bits raw)
+  by-half P k lower upper =
+      elim (decLe (2 ^ (bits - 1)) raw) [
+        | yes u ↦ rw (upper-half u k) (upper u)
+        | no u ↦ let l : raw < 2 ^ (bits - 1) = omega arith in rw (lower-half l) (lower l)
+      ]
+
   -- The pattern of the number is the pattern it came from.
   pub pattern-back : raw < 2 ^ bits → twosPattern bits (twosComplement bits raw) ≡ raw
-  pattern-back k = elim (decLe (2 ^ (bits - 1)) raw) [ yes u ↦ upper u | no u ↦ lower (omega arith) ]
-    where
-      lower : raw < 2 ^ (bits - 1) → twosPattern bits (twosComplement bits raw) ≡ raw
-      lower l = rw (lower-half l)
-
-      upper : 2 ^ (bits - 1) ≤ raw → twosPattern bits (twosComplement bits raw) ≡ raw
-      upper u = rw (upper-half u k) (omega arith)
+  pattern-back k = by-half (λ z. twosPattern bits z ≡ raw) k (λ l. refl) (λ u. omega arith)
 
 -- From 11 on a register is a number from -10 to 10 exactly from FFF6 on.
 pub scale-factor-tail : (raw : ℕ) → 10 < raw → raw < 65536 → leb 0xFFF6 raw ≡ isBetween (negℤ (pos 10)) (pos 10) (twosComplement 16 raw)
-scale-factor-tail raw h k = elim (decLe 32768 raw) [ yes u ↦ up u (decLe 0xFFF6 raw) | no u ↦ down (omega arith) ]
+scale-factor-tail raw h k = by-half 16 raw (λ z. leb 0xFFF6 raw ≡ isBetween (negℤ (pos 10)) (pos 10) z) k down (λ u. up (decLe 0xFFF6 raw))
   where
-    down : raw < 32768 → leb 0xFFF6 raw ≡ isBetween (negℤ (pos 10)) (pos 10) (twosComplement 16 raw)
-    down l = rw (lower-half 16 raw l, lt-leb 0xFFF6 raw (omega arith)) (simp (lt-leb raw 10 h))
+    down : raw < 32768 → leb 0xFFF6 raw ≡ leb raw 10
+    down l = rw (lt-leb 0xFFF6 raw (omega arith), lt-leb raw 10 h)
 
-    up : 32768 ≤ raw → Dec (0xFFF6 ≤ raw) → leb 0xFFF6 raw ≡ isBetween (negℤ (pos 10)) (pos 10) (twosComplement 16 raw)
-    up u (yes a) = rw (upper-half 16 raw u k, le-leb 0xFFF6 raw a) (simp (le-leb (65536 - suc raw) 9 (omega arith)))
-    up u (no a) = rw (upper-half 16 raw u k, lt-leb 0xFFF6 raw (omega arith)) (simp (lt-leb (65536 - suc raw) 9 (omega arith)))
+    up : Dec (0xFFF6 ≤ raw) → leb 0xFFF6 raw ≡ (leb (65536 - suc raw) 9 && true)
+    up (yes a) = rw (le-leb 0xFFF6 raw a, le-leb (65536 - suc raw) 9 (omega arith))
+    up (no a) = rw (lt-leb 0xFFF6 raw (omega arith), lt-leb (65536 - suc raw) 9 (omega arith))

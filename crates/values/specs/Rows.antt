@@ -7,7 +7,8 @@ use Prim.Native.Nat.{ℕ}
 use lib.Dec.{eqb}
 use lib.IntN.{ℤ, pos, negℤ}
 
--- How the bits of a value are read: "Signed: 1, 8, 9, 16", float32 as IEEE 754's binary32, all others unsigned.
+-- How the bits of a value are read: signed by document 01's list (codes 1, 8, 9, 16), float32 as IEEE 754's binary32, all others
+-- unsigned.
 pub data Kind : Type 0 where
   signed unsigned float : Kind
 

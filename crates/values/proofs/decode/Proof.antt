@@ -2,6 +2,7 @@
 -- takes its registers from the four.
 use mathlib.Core.Path.{_≡_, sym, ap, _∙_}
 use mathlib.Core.Option.{some}
+use native.Mathlib.Omega.{arith}
 use borrow.Author.Needs.{needs}
 use Rattle.values.specs.Rows.{rowOf}
 use Rattle.values.specs.Answers.{foundMeans, rowMeans}
@@ -11,7 +12,7 @@ use Rattle.values.proofs.decode.Statement.{statement}
 use Rattle.values.proofs.decode.Tie as tie
 
 returns : tie.Need-returns
-returns c = sym (cases.beyond (c .before .args .type-code) (c .before .args .t2) (c .if1 .taken))
+returns c = sym (cases.beyond (c .before .args .type-code) (c .before .args .t2) (omega arith))
 
 row-of-requires : tie.Need-row-of-requires
 row-of-requires c κs = search needs

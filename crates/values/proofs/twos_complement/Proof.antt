@@ -22,7 +22,7 @@ returns : tie.Need-returns
 returns c =
     let d = c .before in
     let a = d .before .args in
-    lower-pattern (16 * a .count) (a .raw) (d .all-ones .result) (omega arith) (omega arith) (ones d) (c .if1 .taken)
+    lower-pattern (16 * a .count) (a .raw) (d .all-ones .result) (omega arith) (omega arith) (ones d) (omega arith)
 
 sub-result : tie.Need-sub-result
 sub-result c = search needs

@@ -3,7 +3,8 @@ use mathlib.Core.Path.{sym}
 use native.Mathlib.Omega.{arith}
 use borrow.Author.Needs.{needs}
 use Rattle.values.specs.Rows.{rows}
-use Rattle.values.proofs.CodeTable.{codeTable, at-code, no-row-outside}
+use Rattle.values.proofs.Table.{no-row-outside}
+use Rattle.values.proofs.CodeTable.{codeTable, at-code}
 use Rattle.values.proofs.rows.row_of.Statement.{statement}
 use Rattle.values.proofs.rows.row_of.Tie as tie
 
