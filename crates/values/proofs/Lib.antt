@@ -5,6 +5,7 @@ pub mod SignedNumbers
 pub mod PrintedRanges
 pub mod NoNaN
 pub mod RefusedCodes
+pub mod UnscaledRange
 -- Laws of the definitions, and what the proofs of the functions cite
 pub mod Table
 pub mod CodeTable
@@ -16,5 +17,6 @@ pub mod IntegerOrder
 pub mod Ranges
 pub mod ClassCases
 pub mod DecodedCases
+pub mod UnscaledCases
 pub mod FoundRow
 pub mod ListTests

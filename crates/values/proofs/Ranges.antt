@@ -9,7 +9,7 @@ use lib.Dec.{leb, eqb, leb·zero}
 use lib.IntN.{ℤ, pos, negℤ}
 use lib.Ieee.{binary32, nanBits}
 use Rattle.values.specs.Rows.{TypeRow, Kind, signed, unsigned, float, whole, between, notNaN}
-use Rattle.values.specs.Classes.{twosComplement, integer, isBetween, inRange, PatternOf}
+use Rattle.values.specs.Classes.{twosComplement, integer, isBetween, isScaleFactor, inRange, PatternOf}
 use Rattle.values.proofs.Table.{counts-from-zero, signed-range}
 
 module _ (row : TypeRow) (raw : ℕ) where
@@ -28,6 +28,14 @@ module _ (row : TypeRow) (raw : ℕ) where
   pub signed-integer : row .kind ≡ signed → integer row raw ≡ twosComplement (16 * row .most) raw
   unfolding integer
   signed-integer e = rw e
+
+  pub unsigned-integer : row .kind ≡ unsigned → integer row raw ≡ pos raw
+  unfolding integer
+  unsigned-integer e = rw e
+
+  pub float-integer : row .kind ≡ float → integer row raw ≡ pos raw
+  unfolding integer
+  float-integer e = rw e
 
   pub plain-integer : (row .kind ≡ signed → ⊥) → integer row raw ≡ pos raw
   unfolding integer
@@ -61,7 +69,7 @@ module _ (row : TypeRow) (raw : ℕ) where
           let m : row .most ≡ 1 = signed-range row (p .listed) 9 (pos 10) e .1 in
           rw (ap (λ (k : ℕ). 2 ^ (16 * k)) m) at (p .fits)
 
-      pub in-scale-factor : inRange row raw ≡ isBetween (negℤ (pos 10)) (pos 10) (twosComplement 16 raw)
+      pub in-scale-factor : inRange row raw ≡ isScaleFactor (twosComplement 16 raw)
       in-scale-factor =
           let s = signed-range row (p .listed) 9 (pos 10) e in
           in-between (negℤ (pos 10)) (pos 10) e ∙ rw (signed-integer (s .0), s .1)

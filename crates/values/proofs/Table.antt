@@ -94,6 +94,13 @@ four-registers c r h e =
     let k : r .code ≤ 18 = omega (arith, f .0) in
     leb→le (r .most) 4 (rw (le-leb (r .code) 18 k) at (f .1))
 
+-- A type that may carry a scale takes at most four registers.
+pub scalable-width : (r : TypeRow) → Listed r → r .scalable ≡ true → r .most ≤ 4
+unfolding rows
+scalable-width r l s =
+    let t = found (λ x. not (x .scalable) || leb (x .most) 4) tt (r .code) r l .1 in
+    leb→le (r .most) 4 (rw s at t)
+
 -- A signed type takes one to four registers; a float takes two, and no NaN is in its range.
 abbrev kindTest : Kind → ℕ → Range → Bool
 kindTest signed m r = leb 1 m && leb m 4

@@ -7,7 +7,7 @@ use native.Mathlib.Decide.{decLe}
 use borrow.Author.Tests.{lt-ltb, le-ltb, le-leb, lt-leb}
 use lib.Dec.{leb}
 use lib.IntN.{ℤ, pos, negsuc, negℤ, _-ℤ_}
-use Rattle.values.specs.Classes.{twosComplement, isBetween}
+use Rattle.values.specs.Classes.{twosComplement, isBetween, isScaleFactor}
 use Rattle.values.specs.Encoding.{twosPattern}
 
 -- A difference below 0.
@@ -38,7 +38,7 @@ module _ (bits raw : ℕ) where
   pattern-back k = by-half (λ z. twosPattern bits z ≡ raw) k (λ l. refl) (λ u. omega arith)
 
 -- From 11 on a register is a number from -10 to 10 exactly from FFF6 on.
-pub scale-factor-tail : (raw : ℕ) → 10 < raw → raw < 65536 → leb 0xFFF6 raw ≡ isBetween (negℤ (pos 10)) (pos 10) (twosComplement 16 raw)
+pub scale-factor-tail : (raw : ℕ) → 10 < raw → raw < 65536 → leb 0xFFF6 raw ≡ isScaleFactor (twosComplement 16 raw)
 scale-factor-tail raw h k = by-half 16 raw (λ z. leb 0xFFF6 raw ≡ isBetween (negℤ (pos 10)) (pos 10) z) k down (λ u. up (decLe 0xFFF6 raw))
   where
     down : raw < 32768 → leb 0xFFF6 raw ≡ leb raw 10

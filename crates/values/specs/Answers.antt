@@ -1,14 +1,18 @@
 -- What the code's types stand for: the answers of the public calls in document 01's terms, and the code's rows as the table's.
+use mathlib.Core.Bool.{not}
 use mathlib.Core.Option.{Option, none, some}
 use Prim.Native.Nat.{ℕ}
-use lib.IntN.{pos, negℤ}
+use lib.IntN.{ℤ, pos, negℤ, natAbs}
+use lib.Signed.{nonNeg}
 use Rattle.values.specs.Rows as Rows
 use Rattle.values.specs.Classes as Classes
 use Rattle.values.specs.Decoding as Decoding
+use Rattle.values.specs.Unscaled as Unscaled
 use Rattle.values.specs.declared.Value.{Value}
 use Rattle.values.specs.declared.Class.{Class}
 use Rattle.values.specs.declared.Classified.{Classified}
 use Rattle.values.specs.declared.RegisterCount.{RegisterCount}
+use Rattle.values.specs.declared.UnscaledValue.{UnscaledValue}
 use Rattle.values.specs.declared.rows.Kind.{Kind}
 use Rattle.values.specs.declared.rows.Unimplemented.{Unimplemented}
 use Rattle.values.specs.declared.rows.Range.{Range}
@@ -40,6 +44,16 @@ classifiedAnswer Classified.UnknownType = Classes.unknownType
 abbrev pub countAnswer : RegisterCount → Option (ℕ × ℕ)
 countAnswer (RegisterCount.Between fewest most) = some (fewest, most)
 countAnswer RegisterCount.UnknownType = none
+
+-- An integer by its sign and magnitude.
+abbrev pub bySign : ℤ → UnscaledValue
+bySign z = UnscaledValue.Of (not (nonNeg z)) (natAbs z)
+
+-- What `unscaled_value` answers: with no value a call refuses with 44, for a type without a scale factor with 43.
+abbrev pub unscaledForm : Unscaled.Unscaled → UnscaledValue
+unscaledForm (Unscaled.number z) = bySign z
+unscaledForm Unscaled.noValue = UnscaledValue.NoValue
+unscaledForm Unscaled.notScalable = UnscaledValue.NotScalable
 
 -- The code's row as a row of the table.
 abbrev pub kindMeans : Kind → Rows.Kind

@@ -3,7 +3,7 @@ use mathlib.Core.Bool.{Bool, true, false, not, _&&_}
 use mathlib.Core.Option.{none, some}
 use Prim.Native.Nat.{ℕ, _-_, _*_, _^_, _<_}
 use lib.Dec.{eqb, ltb}
-use lib.IntN.{ℤ, pos, _-ℤ_}
+use lib.IntN.{ℤ, pos, negℤ, _-ℤ_}
 use lib.Signed.{leZ}
 use lib.Ieee.{binary32, nanBits}
 use Rattle.values.specs.Registers as registers
@@ -31,6 +31,10 @@ isUnimplemented (pattern p) raw = eqb raw p
 -- Is an integer from the first to the second?
 abbrev pub isBetween : ℤ → ℤ → ℤ → Bool
 isBetween low high z = leZ low z && leZ z high
+
+-- Is an integer a scale factor: from −10 to 10?
+abbrev pub isScaleFactor : ℤ → Bool
+isScaleFactor z = isBetween (negℤ (pos 10)) (pos 10) z
 
 -- Is the raw number in its type's range? float32: every pattern but a NaN's, so infinities and negative zero too.
 unfoldable pub inRange : TypeRow → ℕ → Bool
@@ -71,3 +75,11 @@ classified code raw =
       | none ↦ unknownType
       | some row ↦ elim (registers.tooWide (row .most) raw) [ true ↦ tooWide | false ↦ ofClass (classOf row raw) ]
     ]
+
+-- Is a raw number a value of its type? Not where it is unimplemented, out of range or too wide, or the type is unknown.
+abbrev pub isValue : Classified → Bool
+isValue (ofClass value) = true
+isValue (ofClass unimplemented) = false
+isValue (ofClass outOfRange) = false
+isValue tooWide = false
+isValue unknownType = false

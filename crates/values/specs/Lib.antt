@@ -1,5 +1,6 @@
 pub mod Each
 pub mod Rows
+pub mod Unscaled
 pub mod Registers
 pub mod Classes
 pub mod Decoding

@@ -1,10 +1,8 @@
 // What a raw number is under its type.
 ghost use mathlib.Core.Path.{_≡_};
 ghost use mathlib.Core.Bool.{not};
-ghost use Prim.Native.Nat.{_<_};
-ghost use lib.IntN.{pos, negℤ};
 ghost use lib.Ieee.{binary32, nanBits};
-ghost use Rattle.values.specs.Classes.{PatternOf, twosComplement, isUnimplemented, isBetween, inRange, classOf, classified};
+ghost use Rattle.values.specs.Classes.{PatternOf, ofClass, twosComplement, isUnimplemented, inRange, isScaleFactor, isValue, classOf, classified};
 ghost use Rattle.values.specs.Answers.{classAnswer, classifiedAnswer, unimplementedMeans, rowMeans};
 use crate::Class;
 use crate::Classified;
@@ -28,6 +26,28 @@ pub fn classify(type_code: u16, raw: u64) -> Classified
             Classified::Of(class_in(row, raw))
         }
         Found::Nothing => Classified::UnknownType,
+    }
+}
+
+// Is a raw number a value of its type?
+pub fn is_value(type_code: u16, raw: u64) -> bool
+    ensures { λ r. ⌜ r ≡ isValue (classified «type_code» raw) ⌝ }
+{
+    let classified = classify(type_code, raw);
+    match classified {
+        Classified::Of(class) => is_value_class(class),
+        Classified::TooWide => false,
+        Classified::UnknownType => false,
+    }
+}
+
+pub(crate) fn is_value_class(class: Class) -> bool
+    ensures { λ r. ⌜ r ≡ isValue (ofClass (classAnswer class)) ⌝ }
+{
+    match class {
+        Class::Value => true,
+        Class::Unimplemented => false,
+        Class::OutOfRange => false,
     }
 }
 
@@ -66,20 +86,19 @@ fn in_range(row: TypeRow, raw: u64) -> bool
         Range::Whole => true,
         Range::UpTo(high) => raw <= high,
         Range::Only(pattern) => raw == pattern,
-        Range::ScaleFactor => scale_factor_in_range(raw),
+        Range::ScaleFactor => scale_factor_in_range(raw as u16),
         Range::NotNan => not_nan(raw),
     }
 }
 
-// -10 to 10 in two's complement of one register.
-fn scale_factor_in_range(raw: u64) -> bool
-    requires { ⌜ raw < 65536 ⌝ }
-    ensures { λ r. ⌜ r ≡ isBetween (negℤ (pos 10)) (pos 10) (twosComplement 16 raw) ⌝ }
+// Is a scale factor, two's complement of one register, from -10 to 10?
+pub fn scale_factor_in_range(scale: u16) -> bool
+    ensures { λ r. ⌜ r ≡ isScaleFactor (twosComplement 16 scale) ⌝ }
 {
-    if raw <= 10 {
+    if scale <= 10 {
         return true;
     }
-    0xFFF6 <= raw
+    0xFFF6 <= scale
 }
 
 // A binary32 pattern is a NaN's if its exponent is all ones and its fraction is not 0.

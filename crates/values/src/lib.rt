@@ -3,9 +3,12 @@
 mod classes;
 mod registers;
 mod rows;
+mod unscaled;
 
 use classes::class_in;
 pub use classes::classify;
+pub use classes::is_value;
+pub use classes::scale_factor_in_range;
 use registers::all_ones;
 pub use registers::raw_value;
 pub use registers::too_wide;
@@ -13,6 +16,7 @@ use rows::Found;
 use rows::Kind;
 use rows::TypeRow;
 use rows::row_of;
+pub use unscaled::unscaled_value;
 ghost use mathlib.Core.Path.{_≡_};
 ghost use Prim.Native.Nat.{_*_, _-_, _^_, _≤_, _<_};
 ghost use Rattle.values.specs.Rows.{mayScale, registersOf};
@@ -50,6 +54,14 @@ pub enum Value {
     Unimplemented,
     OutOfRange,
     NotDecodable,
+}
+
+// The integer that a scale factor multiplies, by its sign and magnitude; negative is below 0. Or why there
+// is none: the raw number is no value of its type, or the type may carry no scale factor.
+pub enum UnscaledValue {
+    Of { negative: bool, magnitude: u64 },
+    NoValue,
+    NotScalable,
 }
 
 // How many registers a point of this type takes.

@@ -18,10 +18,13 @@ enum-known-range-2 c = search needs
 enum-told-2 : tie.Need-enum-told-2
 enum-told-2 c = search needs
 
-scale-factor-in-range-requires : tie.Need-scale-factor-in-range-requires
-scale-factor-in-range-requires c κs =
+cast-scale-factor-in-range : tie.Need-cast-scale-factor-in-range
+cast-scale-factor-in-range c =
     let s = c .before .before in
-    ranges.one-register (rowMeans (s .args .row)) (s .args .raw) (s .pre) (ap rangeMeans (c .enum-told2 .given .1))
+    record { fits = ranges.one-register (rowMeans (s .args .row)) (s .args .raw) (s .pre) (ap rangeMeans (c .enum-told2 .given .1)) }
+
+scale-factor-in-range-requires : tie.Need-scale-factor-in-range-requires
+scale-factor-in-range-requires c κs = search needs
 
 enum-told-3 : tie.Need-enum-told-3
 enum-told-3 c = search needs
@@ -65,6 +68,7 @@ in-range-spec =
     enum-known-range
     enum-known-range-2
     enum-told-2
+    cast-scale-factor-in-range
     scale-factor-in-range-requires
     enum-told-3
     not-nan-requires

@@ -6,10 +6,10 @@ use Rattle.values.proofs.classes.scale_factor_in_range.Statement.{state
 use Rattle.values.proofs.classes.scale_factor_in_range.Tie as tie
 
 returns : tie.Need-returns
-returns c = rw (lower-half 16 (c .before .args .raw) (omega arith)) (simp (le-leb _ _ (c .if1 .taken)))
+returns c = rw (lower-half 16 (c .before .args .scale) (omega arith)) (simp (le-leb _ _ (c .if1 .taken)))
 
 returns-2 : tie.Need-returns-2
-returns-2 c = scale-factor-tail (c .before .args .raw) (c .if1 .left) (c .before .pre)
+returns-2 c = scale-factor-tail (c .before .args .scale) (c .if1 .left) (omega arith)
 
 pub scale-factor-in-range-spec : {M : Type 1} → statement M
 scale-factor-in-range-spec = tie.close (tie.spec returns returns-2)

@@ -1,0 +1,96 @@
+-- The ways to an amount or its refusal, and what an amount that was accepted is bounded by.
+use mathlib.Core.Path.{_≡_, refl, sym, ap, _∙_}
+use mathlib.Core.Bool.{Bool, true, false, not}
+use mathlib.Core.Logic.{_⊎_}
+use Prim.Native.Nat.{ℕ, _≤_}
+use native.Mathlib.Omega.{arith}
+use lib.IntN.{ℤ, natAbs}
+use lib.Signed.{nonNeg}
+use Rattle.values.specs.Classes.{isScaleFactor}
+use Rattle.values.specs.Unscaled.{Unscaled, number, noValue, notScalable, unscaled}
+use Rattle.values.proofs.UnscaledRange.{Within64, unscaled-range}
+use Rattle.display.specs.Amounts.{Amount, amount, refused, amountOf, zeros, places}
+use Rattle.display.specs.Parts.{partsOf, acceptedForm, TenAtMost}
+use Rattle.display.specs.declared.quantities.ScaledNumber.{ScaledNumber}
+use Rattle.display.specs.declared.quantities.Accepted.{Accepted}
+use Rattle.display.proofs.ScaleFactors.{TenOf, ten-at-most}
+
+module _ (code raw : ℕ) (scale : ℤ) where
+  pub type-refused : unscaled code raw ≡ notScalable → amountOf code raw scale ≡ refused 43
+  unfolding amountOf
+  type-refused e = simp (amountOf, e)
+
+  pub value-refused : unscaled code raw ≡ noValue → amountOf code raw scale ≡ refused 44
+  unfolding amountOf
+  value-refused e = simp (amountOf, e)
+
+  module _ (z : ℤ) (is : unscaled code raw ≡ number z) where
+    pub scale-refused : isScaleFactor scale ≡ false → amountOf code raw scale ≡ refused 45
+    unfolding amountOf
+    scale-refused s = simp (amountOf, is, s)
+
+    pub accepted : isScaleFactor scale ≡ true → amountOf code raw scale ≡ amount z scale
+    unfolding amountOf
+    accepted s = simp (amountOf, is, s)
+
+  -- An amount has the value and the scale factor that it was made of.
+  pub record AmountOf (value s : ℤ) : Type 0 where
+    pub is : unscaled code raw ≡ number value
+    pub same-scale : scale ≡ s
+    pub in-range : isScaleFactor scale ≡ true
+
+  pub amount-of : (value s : ℤ) → amountOf code raw scale ≡ amount value s → AmountOf value s
+  unfolding amountOf
+  amount-of value s e = by-value (unscaled code raw) refl e
+    where
+      by-scale : (z : ℤ) → unscaled code raw ≡ number z → (b : Bool) → isScaleFactor scale ≡ b
+          → _≡_ {A = Amount} (elim b [ true ↦ amount z scale | false ↦ refused 45 ]) (amount value s) → AmountOf value s
+      by-scale z u true b q =
+          let v : z ≡ value = cc in
+          record { is = u ∙ ap number v; same-scale = cc; in-range = b }
+      by-scale z u false b q = let z : _≡_ {A = ℕ} 0 1 = cc in absurd (omega arith)
+
+      by-value : (u : Unscaled) → unscaled code raw ≡ u
+          → _≡_ {A = Amount}
+          (elim u [
+            | notScalable ↦ refused 43
+            | noValue ↦ refused 44
+            | number z ↦ elim (isScaleFactor scale) [ true ↦ amount z scale | false ↦ refused 45 ]
+          ])
+          (amount value s) → AmountOf value s
+      by-value (number z) u q = by-scale z u (isScaleFactor scale) refl q
+      by-value noValue u q = let z : _≡_ {A = ℕ} 0 1 = cc in absurd (omega arith)
+      by-value notScalable u q = let z : _≡_ {A = ℕ} 0 1 = cc in absurd (omega arith)
+
+  pub value-within : (value s : ℤ) → amountOf code raw scale ≡ amount value s → Within64 value
+  value-within value s e = unscaled-range code raw value (amount-of value s e .is)
+
+  pub scale-within : (value s : ℤ) → amountOf code raw scale ≡ amount value s → TenOf s
+  scale-within value s e = let a = amount-of value s e in rw (← a .same-scale) (ten-at-most scale (a .in-range))
+
+-- What the code's reading of a quantity tells of its amount.
+pub was-refused : (a : Amount) (n : ℕ) → Accepted.Refused n ≡ acceptedForm a → a ≡ refused n
+was-refused (amount value scale) n e = cc
+was-refused (refused m) n e = cc
+
+pub record WasAmount (a : Amount) (parts : ScaledNumber) : Type 0 where
+  pub value : ℤ
+  pub scale : ℤ
+  pub is : a ≡ amount value scale
+  pub form : parts ≡ partsOf value scale
+
+pub was-amount : (a : Amount) (parts : ScaledNumber) → Accepted.Of parts ≡ acceptedForm a → WasAmount a parts
+was-amount (amount value scale) parts e = record { value = value; scale = scale; is = refl; form = cc }
+was-amount (refused m) parts e = let z : _≡_ {A = ℕ} 0 1 = cc in absurd (omega arith)
+
+-- The parts are bounded by the scale factor's range.
+pub parts-within : (code raw : ℕ) (s : ℤ) (parts : ScaledNumber) → Accepted.Of parts ≡ acceptedForm (amountOf code raw s) → TenAtMost parts
+parts-within code raw s parts e =
+    let w = was-amount (amountOf code raw s) parts e in
+    let t = scale-within code raw s (w .value) (w .scale) (w .is) in
+    rw (w .form) (record { zeros-bound = t .zeros-bound; places-bound = t .places-bound; not-both = t .not-both })
+
+-- Parts that agree one by one are the same.
+pub same-parts : (value scale : ℤ) (parts : ScaledNumber) → parts .negative ≡ not (nonNeg value) → parts .magnitude ≡ natAbs value
+    → parts .zeros ≡ zeros scale → parts .places ≡ places scale → parts ≡ partsOf value scale
+same-parts value scale parts n m z p = rw (← n, ← m, ← z, ← p)

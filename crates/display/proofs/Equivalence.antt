@@ -1,0 +1,72 @@
+-- On quantities that are accepted, being the same amount is reflexive, symmetric and transitive; and it is what the integers say.
+use mathlib.Core.Path.{_≡_, refl, sym, ap, _∙_}
+use mathlib.Core.Bool.{Bool, true, false}
+use Prim.Native.Nat.{ℕ, _^_, _<_}
+use lib.IntN.{ℤ, pos, _*ℤ_}
+use Rattle.display.specs.Amounts.{Amount, amount, refused, zeros, places, Fraction, fractionOf}
+use Rattle.display.specs.Equality as Equality
+use Rattle.display.specs.Equality.{isSameInteger, isSameFraction, equalIf, equal, equality}
+use Rattle.display.proofs.PowersOfTen.{positive}
+use Rattle.display.proofs.ScaledIntegers.{swap, cancel, same-integer, integer-same}
+
+-- The quantity has an amount.
+abbrev pub Accepted : Amount → Type 0
+Accepted (amount value scale) = Unit {0}
+Accepted (refused n) = ⊥
+
+is-equal : (b : Bool) → equalIf b ≡ equal → b ≡ true
+is-equal true e = refl
+is-equal false e = cc
+
+-- value × 10 ^ scale is equal, cross-multiplied.
+abbrev pub SameNumber : Fraction → Fraction → Type 0
+SameNumber p q = p .numerator *ℤ pos (q .denominator) ≡ q .numerator *ℤ pos (p .denominator)
+
+module _ (v s w t : ℤ) where
+  pub equal-means : equality (amount v s) (amount w t) ≡ equal → SameNumber (fractionOf v s) (fractionOf w t)
+  unfolding equality
+  equal-means e =
+      let p = fractionOf v s in
+      let q = fractionOf w t in
+      same-integer (p .numerator *ℤ pos (q .denominator)) (q .numerator *ℤ pos (p .denominator)) (is-equal (isSameFraction p q) e)
+
+  pub means-equal : SameNumber (fractionOf v s) (fractionOf w t) → equality (amount v s) (amount w t) ≡ equal
+  unfolding equality
+  means-equal e =
+      let p = fractionOf v s in
+      let q = fractionOf w t in
+      ap equalIf (integer-same (p .numerator *ℤ pos (q .denominator)) (q .numerator *ℤ pos (p .denominator)) e)
+
+pub reflexive : (a : Amount) → Accepted a → equality a a ≡ equal
+reflexive (amount v s) h = means-equal v s v s refl
+reflexive (refused n) h = absurd h
+
+pub symmetric : (a b : Amount) → equality a b ≡ equal → equality b a ≡ equal
+unfolding equality
+symmetric (amount v s) (amount w t) e = means-equal w t v s (sym (equal-means v s w t e))
+symmetric (amount v s) (refused n) e = cc
+symmetric (refused n) b e = cc
+
+-- With a common denominator in between.
+through : (a b c : Fraction) → 0 < a .denominator → 0 < b .denominator → 0 < c .denominator → SameNumber a b → SameNumber b c
+    → SameNumber a c
+through a b c h k l p q =
+    let da = a .denominator in
+    let db = b .denominator in
+    let dc = c .denominator in
+    cancel (a .numerator *ℤ pos dc) (c .numerator *ℤ pos da) db k
+    (swap (a .numerator) dc db l k
+    ∙ ap (λ (z : ℤ). z *ℤ pos dc) p
+    ∙ swap (b .numerator) da dc h l
+    ∙ ap (λ (z : ℤ). z *ℤ pos da) q
+    ∙ swap (c .numerator) db da k h)
+
+pub transitive : (a b c : Amount) → equality a b ≡ equal → equality b c ≡ equal → equality a c ≡ equal
+unfolding equality
+transitive (amount v s) (amount w t) (amount x u) p q =
+    means-equal v s x u
+    (through (fractionOf v s) (fractionOf w t) (fractionOf x u) (positive (places s)) (positive (places t)) (positive (places u))
+    (equal-means v s w t p) (equal-means w t x u q))
+transitive (amount v s) (amount w t) (refused n) p q = cc
+transitive (amount v s) (refused n) c p q = cc
+transitive (refused n) b c p q = cc

@@ -1,0 +1,44 @@
+-- Texts that are stored one behind another are stored as one.
+use mathlib.Core.Path.{_≡_, refl, sym, ap, _∙_}
+use mathlib.Core.List.{List, [], _∷_, _++_}
+use Prim.Native.Nat.{ℕ, suc, _+_, _≤_}
+use native.Mathlib.Nat.{add-zero, add-suc, suc-add, add-assoc}
+use native.Mathlib.Numerals.{add-one}
+use native.Mathlib.Omega.{arith}
+use lib.ListN.{length, set, drop}
+use lib.Seq.{sets, length-sets, sets-eq}
+use Rattle.display.specs.Parts.{Put}
+
+behind-sets : (out : List ℕ) (i : ℕ) (xs ys : List ℕ) → sets (sets out i xs) (i + length xs) ys ≡ sets out i (xs ++ ys)
+behind-sets out i [] ys = ap (λ (k : ℕ). sets out k ys) (add-zero i)
+behind-sets out i (x ∷ xs) ys =
+    ap (λ (k : ℕ). sets (sets (set out i x) (suc i) xs) k ys) (add-suc i (length xs) ∙ sym (suc-add i (length xs)))
+    ∙ behind-sets (set out i x) (suc i) xs ys
+
+length-both : (xs ys : List ℕ) → length (xs ++ ys) ≡ length xs + length ys
+length-both [] ys = omega arith
+length-both (x ∷ xs) ys = omega (arith, length-both xs ys)
+
+-- One byte.
+pub put-byte : (out : List ℕ) (position byte : ℕ) → Put out (set out position byte) position (byte ∷ []) (position + 1)
+put-byte out position byte = record { stored = refl; behind = refl }
+
+pub put-both : {a b c : List ℕ} {i j k : ℕ} {xs ys : List ℕ} → Put a b i xs j → Put b c j ys k → Put a c i (xs ++ ys) k
+put-both {a} {b} {c} {i} {j} {k} {xs} {ys} p q =
+    record {
+      stored = q .stored ∙ rw (p .stored, p .behind) (behind-sets a i xs ys);
+      behind = omega (arith, p .behind, q .behind, length-both xs ys);
+    }
+
+-- The same text in other words.
+pub put-same : {a b : List ℕ} {i j : ℕ} {xs ys : List ℕ} → xs ≡ ys → Put a b i xs j → Put a b i ys j
+put-same e p = rw (← e) p
+
+pub put-length : {a b : List ℕ} {i j : ℕ} {xs : List ℕ} → Put a b i xs j → length b ≡ length a
+put-length {a} {b} {i} {j} {xs} p = ap length (p .stored) ∙ length-sets a i xs
+
+-- A text at the start of a buffer that it fits: the later bytes stay.
+pub put-start : {a b : List ℕ} {j : ℕ} {xs : List ℕ} → Put a b 0 xs j → j ≤ length a → b ≡ xs ++ drop (length xs) a
+put-start {a} {b} {j} {xs} p h =
+    let e : 0 + length xs ≡ length xs = omega arith in
+    p .stored ∙ sets-eq xs a 0 (omega (arith, p .behind)) ∙ ap (λ (k : ℕ). xs ++ drop k a) e

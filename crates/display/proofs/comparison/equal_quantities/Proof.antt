@@ -1,0 +1,96 @@
+-- `equal_quantities` tries the first quantity, then the second, then compares the amounts.
+use mathlib.Core.Path.{_≡_, sym, ap, _∙_}
+use borrow.Author.Needs.{needs}
+use Rattle.display.specs.Amounts.{Amount}
+use Rattle.display.specs.Answers.{scaleFactor, quantityAmount}
+use Rattle.display.specs.Equality.{equality, equalIf}
+use Rattle.display.specs.Parts.{isSameByParts}
+use Rattle.display.proofs.AmountCases.{WasAmount, was-refused, was-amount, parts-within}
+use Rattle.display.proofs.EqualityCases.{first-refused, second-refused, both-accepted}
+use Rattle.display.proofs.comparison.equal_quantities.Statement.{statement}
+use Rattle.display.proofs.comparison.equal_quantities.Tie as tie
+
+accept-requires : tie.Need-accept-requires
+accept-requires c κs = search needs
+
+accept-requires-2 : tie.Need-accept-requires-2
+accept-requires-2 c κs = search needs
+
+enum-known-first : tie.Need-enum-known-first
+enum-known-first c = search needs
+
+enum-known-first-2 : tie.Need-enum-known-first-2
+enum-known-first-2 c = search needs
+
+enum-known-second : tie.Need-enum-known-second
+enum-known-second c = search needs
+
+enum-known-second-2 : tie.Need-enum-known-second-2
+enum-known-second-2 c = search needs
+
+is-same-requires : tie.Need-is-same-requires
+is-same-requires c κs =
+    let y = c .before in
+    let x = y .before .before .before in
+    let b = x .before .before in
+    let a = b .before in
+    let p = a .before .args .a in
+    let q = a .before .args .b in (
+      parts-within (p .«type_code») (p .raw) (scaleFactor (p .scale)) (x .first2 .given .0 .0) (sym (x .first2 .given .1) ∙ a .accept .ensures),
+      parts-within (q .«type_code») (q .raw) (scaleFactor (q .scale)) (y .second2 .given .0 .0) (sym (y .second2 .given .1) ∙ b .accept2 .ensures),
+    )
+
+told-requires : tie.Need-told-requires
+told-requires c κs = search needs
+
+returns : tie.Need-returns
+returns c =
+    let f = c .before in
+    let a = f .before .before .before in
+    let p = quantityAmount (a .before .args .a) in
+    let q = quantityAmount (a .before .args .b) in
+    sym (first-refused p q (f .first .given .0 .0) (was-refused p (f .first .given .0 .0) (sym (f .first .given .1) ∙ a .accept .ensures)))
+
+returns-2 : tie.Need-returns-2
+returns-2 c =
+    let y = c .before in
+    let x = y .before .before .before in
+    let b = x .before .before in
+    let a = b .before in
+    let p = quantityAmount (a .before .args .a) in
+    let q = quantityAmount (a .before .args .b) in
+    sym
+    (second-refused p q (x .first2 .given .0 .0) (y .second .given .0 .0)
+    (was-amount p (x .first2 .given .0 .0) (sym (x .first2 .given .1) ∙ a .accept .ensures))
+    (was-refused q (y .second .given .0 .0) (sym (y .second .given .1) ∙ b .accept2 .ensures)))
+
+returns-3 : tie.Need-returns-3
+returns-3 c =
+    let y = c .before .before .before in
+    let x = y .before .before .before in
+    let b = x .before .before in
+    let a = b .before in
+    let p = quantityAmount (a .before .args .a) in
+    let q = quantityAmount (a .before .args .b) in
+    c .told .ensures
+    ∙ ap equalIf (c .before .is-same .ensures)
+    ∙ sym
+    (both-accepted p q (x .first2 .given .0 .0) (y .second2 .given .0 .0)
+    (was-amount p (x .first2 .given .0 .0) (sym (x .first2 .given .1) ∙ a .accept .ensures))
+    (was-amount q (y .second2 .given .0 .0) (sym (y .second2 .given .1) ∙ b .accept2 .ensures)))
+
+pub equal-quantities-spec : {M : Type 1} → statement M
+equal-quantities-spec =
+    tie.close
+    (tie.spec
+    accept-requires
+    accept-requires-2
+    enum-known-first
+    enum-known-first-2
+    enum-known-second
+    enum-known-second-2
+    is-same-requires
+    told-requires
+    returns
+    returns-2
+    returns-3)

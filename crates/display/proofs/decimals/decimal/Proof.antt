@@ -1,0 +1,90 @@
+-- `decimal` tries the amount, then the buffer, then stores the text.
+use mathlib.Core.Path.{_≡_, sym, ap, _∙_}
+use native.Mathlib.Omega.{arith}
+use borrow.Author.Needs.{needs}
+use lib.ListN.{length}
+use Rattle.display.specs.Amounts.{amountOf}
+use Rattle.display.specs.Decimals.{Decimal, text, stored}
+use Rattle.display.specs.Answers.{scaleFactor, bytes, lengthOf}
+use Rattle.display.proofs.AmountCases.{WasAmount, was-refused, was-amount, parts-within}
+use Rattle.display.proofs.DecimalCases.{amount-refused, short-buffer, long-buffer}
+use Rattle.display.proofs.StoredTexts.{put-start, put-length}
+use Rattle.display.proofs.decimals.decimal.Statement.{statement}
+use Rattle.display.proofs.decimals.decimal.Tie as tie
+
+accept-requires : tie.Need-accept-requires
+accept-requires c κs = search needs
+
+enum-known-accepted : tie.Need-enum-known-accepted
+enum-known-accepted c = search needs
+
+enum-known-accepted-2 : tie.Need-enum-known-accepted-2
+enum-known-accepted-2 c = search needs
+
+-- The amount that was accepted.
+accepted : (c : tie.After-accepted2)
+    → WasAmount
+    (amountOf
+    (c .before .before .before .before .args .type-code)
+    (c .before .before .before .before .args .raw)
+    (scaleFactor (c .before .before .before .before .args .scale)))
+    (c .accepted2 .given .0 .0)
+accepted c =
+    let a = c .before .before .before .before .args in
+    was-amount (amountOf (a .type-code) (a .raw) (scaleFactor (a .scale))) (c .accepted2 .given .0 .0)
+    (sym (c .accepted2 .given .1) ∙ c .before .before .accept .ensures)
+
+returns : tie.Need-returns
+returns c =
+    let o = c .before .before in
+    let a = o .before .before .before .before .args in
+    let e = short-buffer (a .type-code) (a .raw) (scaleFactor (a .scale)) (length (a .out .now)) (o .accepted2 .given .0 .0) (accepted o) (c .if1 .taken) in
+    (ap lengthOf (sym e), (ap (λ (d : Decimal). stored d (a .out .now)) (sym e), tt))
+
+put-amount-requires : tie.Need-put-amount-requires
+put-amount-requires c κs =
+    let o = c .before .before .before in
+    let a = o .before .before .before .before .args in (
+      c .before .if1 .left,
+      parts-within (a .type-code) (a .raw) (scaleFactor (a .scale)) (o .accepted2 .given .0 .0)
+          (sym (o .accepted2 .given .1) ∙ o .before .before .accept .ensures),
+    )
+
+returns-2 : tie.Need-returns-2
+returns-2 c =
+    let o = c .before in
+    let a = o .before .before .before .before .args in
+    let n = o .accepted .given .0 .0 in
+    let s = scaleFactor (a .scale) in
+    let r = was-refused (amountOf (a .type-code) (a .raw) s) n (sym (o .accepted .given .1) ∙ o .before .before .accept .ensures) in
+    let e = amount-refused (a .type-code) (a .raw) s (length (a .out .now)) n r in
+    (ap lengthOf (sym e), (ap (λ (d : Decimal). stored d (a .out .now)) (sym e), tt))
+
+same-length : tie.Need-same-length
+same-length c = search needs
+
+returns-3 : tie.Need-returns-3
+returns-3 c =
+    let p = c .before .before in
+    let i = p .before .before in
+    let o = i .before .before in
+    let a = o .before .before .before .before .args in
+    let parts = o .accepted2 .given .0 .0 in
+    let e = long-buffer (a .type-code) (a .raw) (scaleFactor (a .scale)) (length (a .out .now)) parts (accepted o) (i .if1 .left) in
+    let put = p .put-amount .ensures .0 in (
+      ap bytes (put .behind ∙ omega arith) ∙ ap lengthOf (sym e),
+      (put-start put (omega arith) ∙ ap (λ (d : Decimal). stored d (a .out .now)) (sym e), omega (arith, put-length put)),
+    )
+
+pub decimal-spec : {M : Type 1} → statement M
+decimal-spec =
+    tie.close
+    (tie.spec
+    accept-requires
+    enum-known-accepted
+    enum-known-accepted-2
+    returns
+    put-amount-requires
+    returns-2
+    same-length
+    returns-3)

@@ -1,0 +1,65 @@
+-- `put_places` stores the whole part, the decimal point and the places.
+use mathlib.Core.Path.{_≡_, ap, _∙_}
+use mathlib.Core.List.{_++_, _∷_}
+use Prim.Native.Nat.{ℕ, _/_}
+use native.Mathlib.Omega.{arith}
+use borrow.Author.Needs.{needs}
+use lib.ListN.{length-set}
+use Rattle.display.specs.Decimals.{decimalPoint, lastDigits, digitsOf}
+use Rattle.display.proofs.PowersOfTen.{positive}
+use Rattle.display.proofs.StoredTexts.{put-byte, put-both, put-same, put-length}
+use Rattle.display.proofs.decimals.put_places.Statement.{statement}
+use Rattle.display.proofs.decimals.put_places.Tie as tie
+
+power-of-ten-requires : tie.Need-power-of-ten-requires
+power-of-ten-requires c κs = search needs
+
+div-put-number : tie.Need-div-put-number
+div-put-number c = rw (c .power-of-ten .ensures) (positive (c .before .before .before .args .places))
+
+put-number-requires : tie.Need-put-number-requires
+put-number-requires c κs = search needs
+
+slice-write-out : tie.Need-slice-write-out
+slice-write-out c = search needs
+
+add-put-digits : tie.Need-add-put-digits
+add-put-digits c = search needs
+
+put-digits-requires : tie.Need-put-digits-requires
+put-digits-requires c κs =
+    let p = c .before .before .before in (
+      omega arith,
+      omega (arith, put-length (p .put-number .ensures .0), length-set (p .put-number .last .0) (p .put-number .result) decimalPoint),
+    )
+
+same-length : tie.Need-same-length
+same-length c =
+    let q = c .before .before in
+    let p = q .before .before .before .before in
+    put-length (q .put-digits .ensures .0)
+    ∙ length-set (p .put-number .last .0) (p .put-number .result) decimalPoint
+    ∙ put-length (p .put-number .ensures .0)
+
+returns : tie.Need-returns
+returns c =
+    let q = c .before .before in
+    let p = q .before .before .before .before in
+    let w = p .before in
+    let a = w .before .before .before .args in
+    let whole = put-same (ap (λ (u : ℕ). digitsOf (a .n / u)) (w .power-of-ten .ensures)) (p .put-number .ensures .0) in
+    let pointed = put-both (put-byte (p .put-number .last .0) (p .put-number .result) decimalPoint) (q .put-digits .ensures .0) in
+    (put-both whole pointed, omega arith)
+
+pub put-places-spec : {M : Type 1} → statement M
+put-places-spec =
+    tie.close
+    (tie.spec
+    power-of-ten-requires
+    div-put-number
+    put-number-requires
+    slice-write-out
+    add-put-digits
+    put-digits-requires
+    same-length
+    returns)

@@ -1,0 +1,23 @@
+-- `put_sign` stores a minus or nothing.
+use mathlib.Core.Path.{_≡_, refl, sym, ap}
+use native.Mathlib.Omega.{arith}
+use borrow.Author.Needs.{needs}
+use Rattle.display.specs.Decimals.{sign, minusSign}
+use Rattle.display.proofs.StoredTexts.{put-byte, put-same}
+use Rattle.display.proofs.decimals.put_sign.Statement.{statement}
+use Rattle.display.proofs.decimals.put_sign.Tie as tie
+
+slice-write-out : tie.Need-slice-write-out
+slice-write-out c = search needs
+
+same-length : tie.Need-same-length
+same-length c = search needs
+
+returns : tie.Need-returns
+returns c = (put-same (ap sign (sym (c .if1 .taken))) (put-byte (c .before .args .out .now) 0 minusSign), omega arith)
+
+returns-2 : tie.Need-returns-2
+returns-2 c = (put-same (ap sign (sym (c .if1 .left))) (record { stored = refl; behind = refl }), omega arith)
+
+pub put-sign-spec : {M : Type 1} → statement M
+put-sign-spec = tie.close (tie.spec slice-write-out same-length returns returns-2)

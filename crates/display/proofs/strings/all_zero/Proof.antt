@@ -1,0 +1,60 @@
+-- `all_zero`: what is left of the string decides.
+use mathlib.Core.Path.{_≡_, sym, _∙_}
+use Prim.Native.Nat.{_-_}
+use borrow.Author.Needs.{needs}
+use lib.ListN.{length, drop}
+use Rattle.display.specs.Text.{allZero}
+use Rattle.display.proofs.TextPart.{zero-on, zero-not, zero-end}
+use Rattle.display.proofs.strings.all_zero.Statement.{statement}
+use Rattle.display.proofs.strings.all_zero.Tie as tie
+
+abbrev Inv-loop : tie.InvT-loop
+Inv-loop string i₀ i = allZero (drop i string) ≡ allZero string
+
+abbrev μ-loop : tie.MeasureT-loop
+μ-loop string i₀ i = length string - i
+
+loop-holds : tie.Need-loop-holds Inv-loop μ-loop
+loop-holds c = search needs
+
+mul-if1 : tie.Need-mul-if1 Inv-loop μ-loop
+mul-if1 c = search needs
+
+shared-slice-read-if1 : tie.Need-shared-slice-read-if1 Inv-loop μ-loop
+shared-slice-read-if1 c = search needs
+
+returns : tie.Need-returns Inv-loop μ-loop
+returns c =
+    let l = c .before .before .before in
+    sym (zero-not (l .before .args .string .now) (l .loop .i) (c .before .before .loop-test .taken) (c .if1 .taken)) ∙ l .loop .inv
+
+add-i : tie.Need-add-i Inv-loop μ-loop
+add-i c = search needs
+
+loop-less : tie.Need-loop-less Inv-loop μ-loop
+loop-less c = search needs
+
+loop-again : tie.Need-loop-again Inv-loop μ-loop
+loop-again c =
+    let l = c .before .before .before in
+    sym (zero-on (l .before .args .string .now) (l .loop .i) (c .before .before .loop-test .taken) (c .if1 .left)) ∙ l .loop .inv
+
+returns-2 : tie.Need-returns-2 Inv-loop μ-loop
+returns-2 c =
+    let l = c .before in
+    sym (zero-end (l .before .args .string .now) (l .loop .i) (c .loop-test .left)) ∙ l .loop .inv
+
+pub all-zero-spec : {M : Type 1} → statement M
+all-zero-spec =
+    tie.close
+    (tie.spec
+    Inv-loop
+    μ-loop
+    loop-holds
+    mul-if1
+    shared-slice-read-if1
+    returns
+    add-i
+    loop-less
+    loop-again
+    returns-2)

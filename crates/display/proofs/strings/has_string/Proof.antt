@@ -1,0 +1,28 @@
+-- `has_string` is the definition's test of the size and the address.
+use mathlib.Core.Path.{_≡_, sym}
+use mathlib.Core.Bool.{_&&_, and-false}
+use Prim.Native.Nat.{_+_}
+use native.Mathlib.Omega.{arith}
+use borrow.Author.Tests.{le-leb, lt-leb}
+use Rattle.display.proofs.TextPart.{string-end}
+use Rattle.display.proofs.strings.has_string.Statement.{statement}
+use Rattle.display.proofs.strings.has_string.Tie as tie
+
+returns : tie.Need-returns
+returns c = simp (lt-leb _ _ (c .if1 .taken))
+
+returns-2 : tie.Need-returns-2
+returns-2 c = simp (lt-leb _ _ (c .if2 .taken), and-false)
+
+returns-3 : tie.Need-returns-3
+returns-3 c =
+    let a = c .before .before .before .args in
+    simp (lt-leb (a .address + a .size) (a .registers) (omega arith), and-false)
+
+returns-4 : tie.Need-returns-4
+returns-4 c =
+    let a = c .before .before .before .args in
+    simp (le-leb _ _ (c .before .before .if1 .left), le-leb _ _ (c .before .if2 .left), string-end (a .registers) (a .address) (a .size) (c .if3 .left))
+
+pub has-string-spec : {M : Type 1} → statement M
+has-string-spec = tie.close (tie.spec returns returns-2 returns-3 returns-4)

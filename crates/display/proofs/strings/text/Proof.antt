@@ -1,0 +1,71 @@
+-- `text` hands out the fallback or the first registers of the string.
+use mathlib.Core.Path.{_≡_, sym, ap, _∙_}
+use Prim.Native.Nat.{ℕ, _≤_}
+use native.Mathlib.Omega.{arith}
+use borrow.Author.Needs.{needs}
+use borrow.Author.Tests.{not-true, not-false}
+use lib.ListN.{length, take}
+use Rattle.display.proofs.TextPart.{no-string, string-of-zeros, string-shown, string-lies, text-prefix, text-shorter}
+use Rattle.display.proofs.strings.text.Statement.{statement}
+use Rattle.display.proofs.strings.text.Tie as tie
+
+has-string-requires : tie.Need-has-string-requires
+has-string-requires c κs = search needs
+
+returns : tie.Need-returns
+returns c =
+    let a = c .before .before .before .before .args in
+    sym (no-string (a .map .now) (a .address) (a .size) (a .fallback .now) (sym (c .before .has-string .ensures) ∙ not-true _ (c .if1 .taken)))
+
+part-requires : tie.Need-part-requires
+part-requires c κs =
+    let a = c .before .before .before .before .args in
+    string-lies (length (a .map .now)) (a .address) (a .size) (sym (c .before .has-string .ensures) ∙ not-false _ (c .if1 .left))
+
+all-zero-requires : tie.Need-all-zero-requires
+all-zero-requires c κs = search needs
+
+returns-2 : tie.Need-returns-2
+returns-2 c =
+    let p = c .before .before in
+    let i = p .before in
+    let a = i .before .before .before .before .args in
+    sym
+    (string-of-zeros (a .map .now) (a .address) (a .size) (a .fallback .now) (p .part .result .now) (p .part .ensures)
+    (sym (i .before .has-string .ensures) ∙ not-false _ (i .if1 .left)) (sym (c .before .all-zero .ensures) ∙ c .if2 .taken))
+
+text-length-requires : tie.Need-text-length-requires
+text-length-requires c κs = search needs
+
+part-requires-2 : tie.Need-part-requires-2
+part-requires-2 c κs =
+    let s = c .before .before .before .part .result .now in
+    omega (arith, c .text-length .ensures, text-shorter s)
+
+returns-3 : tie.Need-returns-3
+returns-3 c =
+    let t = c .before in
+    let z = t .before .before in
+    let p = z .before in
+    let i = p .before in
+    let a = i .before .before .before .before .args in
+    let s = p .part .result .now in
+    c .part2 .ensures
+    ∙ ap (λ (k : ℕ). take k s) (t .text-length .ensures)
+    ∙ sym (text-prefix s)
+    ∙ sym
+    (string-shown (a .map .now) (a .address) (a .size) (a .fallback .now) s (p .part .ensures)
+    (sym (i .before .has-string .ensures) ∙ not-false _ (i .if1 .left)) (sym (z .all-zero .ensures) ∙ t .before .if2 .left))
+
+pub text-spec : {M : Type 1} → statement M
+text-spec =
+    tie.close
+    (tie.spec
+    has-string-requires
+    returns
+    part-requires
+    all-zero-requires
+    returns-2
+    text-length-requires
+    part-requires-2
+    returns-3)

@@ -1,0 +1,52 @@
+-- What the code's types stand for: the answers of the public calls in document 01's terms.
+use mathlib.Core.List.{List}
+use Prim.Native.Nat.{ℕ, _≤_}
+use lib.IntN.{ℤ}
+use lib.ListN.{length}
+use Rattle.values.specs.Classes.{twosComplement}
+use Rattle.display.specs.Events as Events
+use Rattle.display.specs.Amounts as Amounts
+use Rattle.display.specs.Decimals as Decimals
+use Rattle.display.specs.Equality as Equality
+use Rattle.display.specs.declared.EventBits.{EventBits}
+use Rattle.display.specs.declared.DecimalText.{DecimalText}
+use Rattle.display.specs.declared.Equality as declared
+use Rattle.display.specs.declared.Quantity.{Quantity}
+
+-- The scale factor that a register holds.
+abbrev pub scaleFactor : ℕ → ℤ
+scaleFactor register = twosComplement 16 register
+
+-- The amount of a quantity, or its refusal.
+abbrev pub quantityAmount : Quantity → Amounts.Amount
+quantityAmount q = Amounts.amountOf (q .«type_code») (q .raw) (scaleFactor (q .scale))
+
+-- The answer of `event_bits`.
+abbrev pub eventAnswer : EventBits → Events.EventBits
+eventAnswer (EventBits.Of count lowest) = Events.bits count lowest
+eventAnswer (EventBits.Refused n) = Events.refused n
+
+-- What `decimal` answers: the length of the text.
+pub data Length : Type 0 where
+  bytes : ℕ → Length
+  refused : ℕ → Length
+
+abbrev pub lengthOf : Decimals.Decimal → Length
+lengthOf (Decimals.text t) = bytes (length t)
+lengthOf (Decimals.Decimal.refused n) = Length.refused n
+
+abbrev pub decimalAnswer : DecimalText → Length
+decimalAnswer (DecimalText.Length n) = bytes n
+decimalAnswer (DecimalText.Refused n) = Length.refused n
+
+-- The length that is answered is no more than the buffer's, so that a caller may cut the text out of the buffer. (What the buffer
+-- holds is said by `stored`.)
+abbrev pub LengthFits : List ℕ → DecimalText → Type 0
+LengthFits buffer (DecimalText.Length n) = n ≤ length buffer
+LengthFits buffer (DecimalText.Refused n) = Unit {0}
+
+-- The answer of `equal_quantities`.
+abbrev pub equalityAnswer : declared.Equality → Equality.Equality
+equalityAnswer declared.Equality.Equal = Equality.equal
+equalityAnswer declared.Equality.Different = Equality.different
+equalityAnswer (declared.Equality.Refused n) = Equality.Equality.refused n

@@ -1,0 +1,30 @@
+-- Document 01, "Worth": whether two quantities are the same amount.
+use mathlib.Core.Bool.{Bool, true, false}
+use Prim.Native.Nat.{ℕ}
+use lib.Dec.{eqb}
+use lib.IntN.{ℤ, pos, negsuc, _*ℤ_}
+use Rattle.display.specs.Amounts.{Amount, amount, Fraction, fractionOf}
+
+abbrev pub isSameInteger : ℤ → ℤ → Bool
+isSameInteger (pos a) (pos b) = eqb a b
+isSameInteger (pos a) (negsuc b) = false
+isSameInteger (negsuc a) (pos b) = false
+isSameInteger (negsuc a) (negsuc b) = eqb a b
+
+-- Two fractions are the same number: cross-multiplied, over the integers.
+abbrev pub isSameFraction : Fraction → Fraction → Bool
+isSameFraction p q = isSameInteger (p .numerator *ℤ pos (q .denominator)) (q .numerator *ℤ pos (p .denominator))
+
+pub data Equality : Type 0 where
+  equal different : Equality
+  refused : ℕ → Equality
+
+abbrev pub equalIf : Bool → Equality
+equalIf true = equal
+equalIf false = different
+
+-- The answer for two amounts: the first one's refusal, then the second's, else whether value × 10 ^ scale is equal.
+unfoldable pub equality : Amount → Amount → Equality
+equality (Amount.refused n) b = Equality.refused n
+equality (amount value scale) (Amount.refused n) = Equality.refused n
+equality (amount v s) (amount w t) = equalIf (isSameFraction (fractionOf v s) (fractionOf w t))

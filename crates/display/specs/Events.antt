@@ -1,0 +1,46 @@
+-- Document 01, "Events": the bits that are set in the value of a bitfield.
+use mathlib.Core.Bool.{Bool, true, false, _||_}
+use mathlib.Core.List.{List, [], _∷_}
+use Prim.Native.Nat.{ℕ, zero, suc, _/_, _%_, _^_}
+use lib.Dec.{eqb}
+use lib.ListN.{length}
+use Rattle.values.specs.Classes.{isValue, classified}
+
+-- Is the bit at a position set in a number?
+abbrev pub isSet : ℕ → ℕ → Bool
+isSet n position = eqb ((n / 2 ^ position) % 2) 1
+
+-- The set positions of a number, lowest first, among so many from the first on.
+unfoldable pub setAmong : ℕ → ℕ → ℕ → List ℕ
+setAmong zero first n = []
+setAmong (suc count) first n =
+    elim (isSet n first) [ true ↦ first ∷ setAmong count (suc first) n | false ↦ setAmong count (suc first) n ]
+
+-- The set positions of a raw value, which has 64 bits.
+abbrev pub setPositions : ℕ → List ℕ
+setPositions raw = setAmong 64 0 raw
+
+-- The first number of a list (of positions it is the lowest), or another if the list is empty.
+abbrev pub firstOr : ℕ → List ℕ → ℕ
+firstOr other [] = other
+firstOr other (x ∷ xs) = x
+
+-- bitfield16 and bitfield32.
+abbrev pub isBitfield : ℕ → Bool
+isBitfield code = eqb code 5 || eqb code 13
+
+-- The answers: the count of the ones set and the lowest set position, 64 if none; or a refusal.
+pub data EventBits : Type 0 where
+  bits : (count lowest : ℕ) → EventBits
+  refused : ℕ → EventBits
+
+-- 41: the type is not 5 or 13. 42: unimplemented, out of range or too wide.
+unfoldable pub eventBits : ℕ → ℕ → EventBits
+eventBits code raw =
+    elim (isBitfield code) [
+      | false ↦ refused 41
+      | true ↦ elim (isValue (classified code raw)) [
+        | true ↦ bits (length (setPositions raw)) (firstOr 64 (setPositions raw))
+        | false ↦ refused 42
+      ]
+    ]

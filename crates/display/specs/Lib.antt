@@ -1,0 +1,7 @@
+pub mod Text
+pub mod Events
+pub mod Amounts
+pub mod Decimals
+pub mod Equality
+pub mod Parts
+pub mod Answers

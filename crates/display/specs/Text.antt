@@ -1,0 +1,39 @@
+-- Document 01, "Text": what is shown of the registers of a string.
+use mathlib.Core.Bool.{Bool, true, false, _&&_}
+use mathlib.Core.List.{List, [], _∷_}
+use Prim.Native.Nat.{ℕ, _+_, _/_, _%_}
+use lib.Dec.{eqb, leb}
+use lib.ListN.{length, take, drop}
+
+-- The registers before the first with a zero byte, and that one too if only its low byte is zero; all if none has a zero byte.
+unfoldable pub untilZeroByte : List ℕ → List ℕ
+untilZeroByte [] = []
+untilZeroByte (r ∷ rs) =
+    elim (eqb (r / 256) 0) [
+      | true ↦ []
+      | false ↦ elim (eqb (r % 256) 0) [ true ↦ r ∷ [] | false ↦ r ∷ untilZeroByte rs ]
+    ]
+
+unfoldable pub allZero : List ℕ → Bool
+allZero [] = true
+allZero (r ∷ rs) = eqb r 0 && allZero rs
+
+-- Has a map of so many registers a string at the address? Its size is 1–64, and it does not run past the map.
+abbrev pub hasString : ℕ → ℕ → ℕ → Bool
+hasString registers address size = leb 1 size && leb size 64 && leb (address + size) registers
+
+-- The registers of the string.
+abbrev pub stringAt : List ℕ → ℕ → ℕ → List ℕ
+stringAt map address size = take size (drop address map)
+
+-- The part of the map that is shown. The fallback (document 01: "stand-in") comes back instead where all registers of the string
+-- are 0, the size is not 1–64 or it runs past the map.
+unfoldable pub text : List ℕ → ℕ → ℕ → List ℕ → List ℕ
+text map address size fallback =
+    elim (hasString (length map) address size) [
+      | false ↦ fallback
+      | true ↦ elim (allZero (stringAt map address size)) [
+        | true ↦ fallback
+        | false ↦ untilZeroByte (stringAt map address size)
+      ]
+    ]

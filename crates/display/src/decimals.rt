@@ -1,0 +1,139 @@
+// Exact decimal text.
+ghost use mathlib.Core.Path.{_≡_};
+ghost use mathlib.Core.List.{_∷_, _++_};
+ghost use Prim.Native.Nat.{_+_, _*_, _/_, _^_, _≤_, _<_};
+ghost use lib.ListN.{length};
+ghost use Rattle.display.specs.Decimals.{decimalPoint, digitAt, lastDigits, digitCount, digitsOf, sign, decimalOf, stored};
+ghost use Rattle.display.specs.Answers.{scaleFactor, lengthOf, decimalAnswer, LengthFits};
+ghost use Rattle.display.specs.Parts.{TenAtMost, partsText, Put};
+use crate::DecimalText;
+use crate::Quantity;
+use crate::powers::POWERS;
+use crate::powers::power_of_ten;
+use crate::quantities::Accepted;
+use crate::quantities::ScaledNumber;
+use crate::quantities::accept;
+
+// Every buffer must have room for so many bytes, whatever the text.
+const ROOM: usize = 32;
+
+// Writes value × 10 ^ scale, exact, at the start of `out`.
+pub fn decimal(type_code: u16, raw: u64, scale: u16, out: &mut [u8]) -> DecimalText
+    ensures { λ r. ⌜ decimalAnswer r ≡ lengthOf (decimalOf «type_code» raw (scaleFactor scale) (length (now (out .entry)))) ⌝ }
+    ensures { λ _. ⌜ now (out .exit) ≡ stored (decimalOf «type_code» raw (scaleFactor scale) (length (now (out .entry)))) (now (out .entry)) ⌝ }
+    ensures { λ r. ⌜ LengthFits (now (out .exit)) r ⌝ }
+{
+    let accepted = accept(Quantity {
+        type_code,
+        raw,
+        scale,
+    });
+    match accepted {
+        Accepted::Refused { number } => DecimalText::Refused { number },
+        Accepted::Of(amount) => {
+            if out.len() < ROOM {
+                return DecimalText::Refused { number: 46 };
+            }
+            DecimalText::Length(put_amount(out, amount))
+        }
+    }
+}
+
+// The sign, the whole part and the places. Like each of the following it gives the position behind what it stored.
+fn put_amount(out: &mut [u8], amount: ScaledNumber) -> usize
+    requires { ⌜ 32 ≤ length (now out) ⌝ }
+    requires { ⌜ TenAtMost amount ⌝ }
+    ensures { λ r. ⌜ Put (now (out .entry)) (now (out .exit)) 0 (partsText amount) r ⌝ }
+    ensures { λ r. ⌜ r ≤ 32 ⌝ }
+{
+    let at = put_sign(out, amount.negative);
+    if amount.places == 0 {
+        return put_whole(out, at, amount.magnitude, amount.zeros);
+    }
+    put_places(out, at, amount.magnitude, amount.places)
+}
+
+// A minus below 0.
+fn put_sign(out: &mut [u8], negative: bool) -> usize
+    requires { ⌜ 1 ≤ length (now out) ⌝ }
+    ensures { λ r. ⌜ Put (now (out .entry)) (now (out .exit)) 0 (sign negative) r ⌝ }
+    ensures { λ r. ⌜ r ≤ 1 ⌝ }
+{
+    if negative {
+        out[0] = b'-';
+        return 1;
+    }
+    0
+}
+
+// n × 10 ^ zeros: its digits and the zeros, but one 0 for zero.
+fn put_whole(out: &mut [u8], at: usize, n: u64, zeros: usize) -> usize
+    requires { ⌜ (zeros ≤ 10) × (at + 30 ≤ length (now out)) ⌝ }
+    ensures { λ r. ⌜ Put (now (out .entry)) (now (out .exit)) at (digitsOf (n * 10 ^ zeros)) r ⌝ }
+    ensures { λ r. ⌜ r ≤ at + 30 ⌝ }
+{
+    if n == 0 {
+        return put_digits(out, at, 1, 0);
+    }
+    let end = put_number(out, at, n);
+    put_digits(out, end, zeros, 0)
+}
+
+// n by 10 ^ places: the whole part, the point and the last digits.
+fn put_places(out: &mut [u8], at: usize, n: u64, places: usize) -> usize
+    requires { ⌜ (places ≤ 10) × (at + 31 ≤ length (now out)) ⌝ }
+    ensures { λ r. ⌜ Put (now (out .entry)) (now (out .exit)) at (digitsOf (n / 10 ^ places) ++ decimalPoint ∷ lastDigits places n) r ⌝ }
+    ensures { λ r. ⌜ r ≤ at + 31 ⌝ }
+{
+    let point = put_number(out, at, n / power_of_ten(places));
+    out[point] = b'.';
+    put_digits(out, point + 1, places, n)
+}
+
+// The digits of n without a leading zero.
+fn put_number(out: &mut [u8], at: usize, n: u64) -> usize
+    requires { ⌜ at + 20 ≤ length (now out) ⌝ }
+    ensures { λ r. ⌜ Put (now (out .entry)) (now (out .exit)) at (digitsOf n) r ⌝ }
+    ensures { λ r. ⌜ r ≤ at + 20 ⌝ }
+{
+    put_digits(out, at, digit_count(n), n)
+}
+
+// The last `count` digits of n, from `at` on.
+fn put_digits(out: &mut [u8], at: usize, count: usize, n: u64) -> usize
+    requires { ⌜ (count ≤ 20) × (at + count ≤ length (now out)) ⌝ }
+    ensures { λ r. ⌜ Put (now (out .entry)) (now (out .exit)) at (lastDigits count n) r ⌝ }
+    ensures { λ r. ⌜ r ≡ at + count ⌝ }
+{
+    let mut left = count;
+    let mut i = at;
+    while 0 < left {
+        left -= 1;
+        out[i] = digit(n, left);
+        i += 1;
+    }
+    i
+}
+
+// The digit of n at the position k, counted from the last.
+fn digit(n: u64, k: usize) -> u8
+    requires { ⌜ k < 20 ⌝ }
+    ensures { λ r. ⌜ r ≡ digitAt n k ⌝ }
+{
+    b'0' + (n / power_of_ten(k) % 10) as u8
+}
+
+// How many digits n has.
+fn digit_count(n: u64) -> usize
+    ensures { λ r. ⌜ r ≡ digitCount n ⌝ }
+    ensures { λ r. ⌜ r ≤ 20 ⌝ }
+{
+    let mut count = 1;
+    while count < POWERS {
+        if n < power_of_ten(count) {
+            return count;
+        }
+        count += 1;
+    }
+    count
+}

@@ -1,0 +1,31 @@
+// The bits of an event field.
+ghost use mathlib.Core.Path.{_≡_};
+ghost use Rattle.display.specs.Events.{isBitfield, eventBits};
+ghost use Rattle.display.specs.Answers.{eventAnswer};
+use crate::EventBits;
+
+// The bits that are set in a bitfield's value.
+pub fn event_bits(type_code: u16, raw: u64) -> EventBits
+    ensures { λ r. ⌜ eventAnswer r ≡ eventBits «type_code» raw ⌝ }
+{
+    if !is_bitfield(type_code) {
+        return EventBits::Refused { number: 41 };
+    }
+    if !values::is_value(type_code, raw) {
+        return EventBits::Refused { number: 42 };
+    }
+    EventBits::Of {
+        count: u64::count_ones(raw),
+        lowest: u64::trailing_zeros(raw),
+    }
+}
+
+// bitfield16 and bitfield32.
+fn is_bitfield(type_code: u16) -> bool
+    ensures { λ r. ⌜ r ≡ isBitfield «type_code» ⌝ }
+{
+    if type_code == 5 {
+        return true;
+    }
+    type_code == 13
+}

@@ -1,0 +1,75 @@
+// The text in a string's registers.
+ghost use mathlib.Core.Path.{_≡_};
+ghost use Prim.Native.Nat.{_+_, _≤_};
+ghost use lib.ListN.{length, take, drop};
+ghost use Rattle.display.specs.Text.{hasString, allZero, untilZeroByte, text as textSpec};
+
+// The text of `size` registers from `address` on: a part of the map, or the fallback where there is none.
+pub fn text<'a>(map: &'a [u16], address: usize, size: usize, fallback: &'a [u16]) -> &'a [u16]
+    ensures { λ r. ⌜ now r ≡ textSpec (now (map .entry)) address size (now (fallback .entry)) ⌝ }
+{
+    if !has_string(map.len(), address, size) {
+        return fallback;
+    }
+    let string = part(map, address, size);
+    if all_zero(string) {
+        return fallback;
+    }
+    part(string, 0, text_length(string))
+}
+
+// Has a map of so many registers a string at the address, of 1 to 64 registers? The size is taken from what there is: a
+// sum could be more than a usize holds.
+fn has_string(registers: usize, address: usize, size: usize) -> bool
+    ensures { λ r. ⌜ r ≡ hasString registers address size ⌝ }
+{
+    if size < 1 {
+        return false;
+    }
+    if 64 < size {
+        return false;
+    }
+    if registers < size {
+        return false;
+    }
+    address <= registers - size
+}
+
+// `count` registers from `start` on.
+fn part<'a>(s: &'a [u16], start: usize, count: usize) -> &'a [u16]
+    requires { ⌜ start + count ≤ length (now s) ⌝ }
+    ensures { λ r. ⌜ now r ≡ take count (drop start (now (s .entry))) ⌝ }
+{
+    &s[start..start + count]
+}
+
+fn all_zero(string: &[u16]) -> bool
+    ensures { λ r. ⌜ r ≡ allZero (now (string .entry)) ⌝ }
+{
+    let mut i = 0;
+    while i < string.len() {
+        if string[i] != 0 {
+            return false;
+        }
+        i += 1;
+    }
+    true
+}
+
+// How many registers the text takes: up to the first with a zero byte, and that one if only its low byte is zero.
+fn text_length(string: &[u16]) -> usize
+    ensures { λ r. ⌜ r ≡ length (untilZeroByte (now (string .entry))) ⌝ }
+{
+    let mut i = 0;
+    while i < string.len() {
+        let register = string[i];
+        if register < 256 {
+            return i;
+        }
+        i += 1;
+        if register % 256 == 0 {
+            return i;
+        }
+    }
+    i
+}

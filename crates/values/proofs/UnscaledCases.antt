@@ -1,0 +1,68 @@
+-- The ways to the integer that a scale factor multiplies, or to why there is none.
+use mathlib.Core.Path.{_≡_, refl, sym, ap, _∙_}
+use mathlib.Core.Bool.{Bool, true, false, not}
+use mathlib.Core.Option.{none, some}
+use Prim.Native.Nat.{ℕ, suc, _+_, _-_, _/_, _^_, _≤_, _<_}
+use native.Mathlib.Omega.{arith}
+use lib.IntN.{ℤ, natAbs}
+use lib.Pow.{pow-pos}
+use lib.Signed.{nonNeg}
+use Rattle.values.specs.Rows.{TypeRow, rowOf}
+use Rattle.values.specs.Classes.{twosComplement, integer, isValue, classified}
+use Rattle.values.specs.Unscaled.{Unscaled, number, noValue, notScalable, unscaled}
+use Rattle.values.specs.Answers.{bySign, unscaledForm}
+use Rattle.values.specs.declared.UnscaledValue.{UnscaledValue}
+use Rattle.values.proofs.TwosComplement.{lower-half, upper-half}
+use Rattle.values.proofs.MachineIntegers.{halves}
+
+module _ (code raw : ℕ) where
+  pub unknown : rowOf code ≡ none → unscaled code raw ≡ notScalable
+  unfolding unscaled
+  unknown e = simp (unscaled, e)
+
+  module _ (row : TypeRow) (is : rowOf code ≡ some row) where
+    pub not-scalable : row .scalable ≡ false → unscaled code raw ≡ notScalable
+    unfolding unscaled
+    not-scalable s = simp (unscaled, is, s)
+
+    pub no-value : row .scalable ≡ true → isValue (classified code raw) ≡ false → unscaled code raw ≡ noValue
+    unfolding unscaled
+    no-value s v = simp (unscaled, is, s, v)
+
+    pub a-number : row .scalable ≡ true → isValue (classified code raw) ≡ true → unscaled code raw ≡ number (integer row raw)
+    unfolding unscaled
+    a-number s v = simp (unscaled, is, s, v)
+
+-- Two's complement by sign and magnitude, from the largest pattern of the width.
+module _ (bits raw ones : ℕ) (wide : 1 ≤ bits) (is : ones ≡ 2 ^ bits - 1) where
+  pub from-zero : raw ≤ ones / 2 → UnscaledValue.Of false raw ≡ bySign (twosComplement bits raw)
+  from-zero h = ap bySign (sym (lower-half bits raw (omega (arith, halves bits wide, pow-pos (bits - 1)))))
+
+  pub below-zero : ones / 2 < raw → raw < 2 ^ bits → UnscaledValue.Of true (ones - raw + 1) ≡ bySign (twosComplement bits raw)
+  below-zero h k =
+      let m : ones - raw + 1 ≡ suc (2 ^ bits - suc raw) = omega arith in
+      ap (UnscaledValue.Of true) m ∙ ap bySign (sym (upper-half bits raw (omega (arith, halves bits wide)) k))
+
+-- What an answer of `unscaled_value` tells of the definition.
+pub was-not-scalable : (u : Unscaled) → unscaledForm u ≡ UnscaledValue.NotScalable → u ≡ notScalable
+was-not-scalable (number z) e = cc
+was-not-scalable noValue e = cc
+was-not-scalable notScalable e = refl
+
+pub was-no-value : (u : Unscaled) → unscaledForm u ≡ UnscaledValue.NoValue → u ≡ noValue
+was-no-value (number z) e = cc
+was-no-value noValue e = refl
+was-no-value notScalable e = cc
+
+-- An integer with this sign and magnitude.
+pub record NumberOf (u : Unscaled) (negative : Bool) (magnitude : ℕ) : Type 0 where
+  pub value : ℤ
+  pub is : u ≡ number value
+  pub sign : negative ≡ not (nonNeg value)
+  pub size : magnitude ≡ natAbs value
+
+pub was-number : (u : Unscaled) (negative : Bool) (magnitude : ℕ) → unscaledForm u ≡ UnscaledValue.Of negative magnitude
+    → NumberOf u negative magnitude
+was-number (number z) negative magnitude e = record { value = z; is = refl; sign = cc; size = cc }
+was-number noValue negative magnitude e = let z : _≡_ {A = ℕ} 0 1 = cc in absurd (omega arith)
+was-number notScalable negative magnitude e = let z : _≡_ {A = ℕ} 0 1 = cc in absurd (omega arith)

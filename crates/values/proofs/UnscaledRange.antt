@@ -1,0 +1,97 @@
+-- Every integer that a scale factor may multiply lies from -2 ^ 63 up to, not including, 2 ^ 64.
+use mathlib.Core.Path.{_≡_, refl, ap, subst}
+use mathlib.Core.Bool.{Bool, true, false}
+use mathlib.Core.Option.{Option, none, some}
+use Prim.Native.Nat.{ℕ, _-_, _^_, _≤_, _<_}
+use native.Mathlib.Omega.{arith}
+use borrow.Author.Tests.{leb-false}
+use lib.IntN.{ℤ, pos, negsuc}
+use lib.Pow.{pow-mono}
+use Rattle.values.specs.Rows.{TypeRow, Kind, signed, unsigned, float, rowOf, Listed}
+use Rattle.values.specs.Registers.{tooWide}
+use Rattle.values.specs.Classes.{width, twosComplement, integer, isValue, classified}
+use Rattle.values.specs.Unscaled.{Unscaled, number, noValue, notScalable, unscaled}
+use Rattle.values.proofs.Table.{scalable-width, signed-width, listed}
+use Rattle.values.proofs.ClassCases.{too-wide}
+use Rattle.values.proofs.TwosComplement.{by-half}
+use Rattle.values.proofs.MachineIntegers.{halves}
+
+-- The integer is one of 64 bits, with a sign or without.
+abbrev pub Within64 : ℤ → Type 0
+Within64 (pos n) = n < 2 ^ 64
+Within64 (negsuc n) = n < 2 ^ 63
+
+module _ (row : TypeRow) (l : Listed row) (four : row .most ≤ 4) (raw : ℕ) (fits : raw < 2 ^ width row) where
+  within : raw < 2 ^ 64
+  within = omega (arith, pow-mono {i = width row} {j = 64} (omega arith))
+
+  signed-within : row .kind ≡ signed → Within64 (twosComplement (width row) raw)
+  signed-within k =
+      let w = signed-width row l k in
+      let e = halves (width row) (omega arith) in
+      let h = pow-mono {i = width row - 1} {j = 63} (omega arith) in
+      by-half (width row) raw Within64 fits (λ u. within) (λ u. omega (arith, e, h))
+
+  integer-within : Within64 (integer row raw)
+  unfolding integer
+  integer-within = go (row .kind) refl
+    where
+      go : (k : Kind) → row .kind ≡ k
+          → Within64 (elim k [ signed ↦ twosComplement (width row) raw | unsigned ↦ pos raw | float ↦ pos raw ])
+      go signed e = signed-within e
+      go unsigned e = within
+      go float e = within
+
+-- A raw number that is a value of its type is not too wide for it.
+value-fits : (code raw : ℕ) (row : TypeRow) → rowOf code ≡ some row → isValue (classified code raw) ≡ true → raw < 2 ^ width row
+unfolding tooWide
+value-fits code raw row e v = go (tooWide (row .most) raw) refl
+  where
+    go : (b : Bool) → tooWide (row .most) raw ≡ b → raw < 2 ^ width row
+    go true w =
+        let f : isValue (classified code raw) ≡ false = ap isValue (too-wide code raw row e w) in
+        let z : _≡_ {A = ℕ} 0 1 = cc in
+        absurd (omega arith)
+    go false w = leb-false _ _ w
+
+-- What holds of an integer holds of what is unscaled, if that is one.
+abbrev Holds : (ℤ → Type 0) → Unscaled → Type 0
+Holds P (number z) = P z
+Holds P noValue = Unit {0}
+Holds P notScalable = Unit {0}
+
+module _ (code raw : ℕ) where
+  all-within : Holds Within64 (unscaled code raw)
+  unfolding unscaled
+  all-within = by-found (rowOf code) refl
+    where
+      by-class : (row : TypeRow) → rowOf code ≡ some row → row .scalable ≡ true → (b : Bool) → isValue (classified code raw) ≡ b
+          → Holds Within64 (elim b [ true ↦ number (integer row raw) | false ↦ noValue ])
+      by-class row e s true v =
+          integer-within row (listed code row e) (scalable-width row (listed code row e) s) raw (value-fits code raw row e v)
+      by-class row e s false v = tt
+
+      by-scale : (row : TypeRow) → rowOf code ≡ some row → (b : Bool) → row .scalable ≡ b
+          → Holds Within64
+          (elim b [
+            | false ↦ notScalable
+            | true ↦ elim (isValue (classified code raw)) [ true ↦ number (integer row raw) | false ↦ noValue ]
+          ])
+      by-scale row e false s = tt
+      by-scale row e true s = by-class row e s (isValue (classified code raw)) refl
+
+      by-found : (o : Option TypeRow) → rowOf code ≡ o
+          → Holds Within64
+          (elim o [
+            | none ↦ notScalable
+            | some row ↦ elim (row .scalable) [
+              | false ↦ notScalable
+              | true ↦ elim (isValue (classified code raw)) [ true ↦ number (integer row raw) | false ↦ noValue ]
+            ]
+          ])
+      by-found none e = tt
+      by-found (some row) e = by-scale row e (row .scalable) refl
+
+  -- The claim.
+  pub unscaled-range : (z : ℤ) → unscaled code raw ≡ number z → Within64 z
+  unscaled-range z e = subst (Holds Within64) e all-within

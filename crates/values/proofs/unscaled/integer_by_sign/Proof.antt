@@ -1,0 +1,50 @@
+-- `integer_by_sign` reads the pattern by the type's kind.
+use mathlib.Core.Path.{_≡_, sym, ap, _∙_}
+use borrow.Author.Needs.{needs}
+use Rattle.values.specs.Answers.{rowMeans, kindMeans, bySign}
+use Rattle.values.proofs.Table.{signed-width}
+use Rattle.values.proofs.Ranges.{signed-integer, unsigned-integer, float-integer}
+use Rattle.values.proofs.unscaled.integer_by_sign.Statement.{statement}
+use Rattle.values.proofs.unscaled.integer_by_sign.Tie as tie
+
+enum-told : tie.Need-enum-told
+enum-told c = search needs
+
+twos-complement-by-sign-requires : tie.Need-twos-complement-by-sign-requires
+twos-complement-by-sign-requires c κs =
+    let s = c .before .before in
+    (signed-width (rowMeans (s .args .row)) (s .pre .listed) (ap kindMeans (c .enum-told .given .1)), s .pre .fits)
+
+enum-told-2 : tie.Need-enum-told-2
+enum-told-2 c = search needs
+
+enum-told-3 : tie.Need-enum-told-3
+enum-told-3 c = search needs
+
+returns : tie.Need-returns
+returns c =
+    let a = c .before .before .before .args in
+    c .twos-complement-by-sign .ensures
+    ∙ ap bySign (sym (signed-integer (rowMeans (a .row)) (a .raw) (ap kindMeans (c .before .enum-told .given .1))))
+
+returns-2 : tie.Need-returns-2
+returns-2 c =
+    let a = c .before .before .args in
+    ap bySign (sym (unsigned-integer (rowMeans (a .row)) (a .raw) (ap kindMeans (c .enum-told2 .given .1))))
+
+returns-3 : tie.Need-returns-3
+returns-3 c =
+    let a = c .before .before .args in
+    ap bySign (sym (float-integer (rowMeans (a .row)) (a .raw) (ap kindMeans (c .enum-told3 .given .1))))
+
+pub integer-by-sign-spec : {M : Type 1} → statement M
+integer-by-sign-spec =
+    tie.close
+    (tie.spec
+    enum-told
+    twos-complement-by-sign-requires
+    enum-told-2
+    enum-told-3
+    returns
+    returns-2
+    returns-3)

@@ -1,0 +1,23 @@
+-- The number that a scale factor multiplies (document 01, "Decimal" and "Worth"), from a type code and a raw value.
+use mathlib.Core.Bool.{true, false}
+use mathlib.Core.Option.{none, some}
+use Prim.Native.Nat.{ℕ}
+use lib.IntN.{ℤ}
+use Rattle.values.specs.Rows.{rowOf}
+use Rattle.values.specs.Classes.{integer, isValue, classified}
+
+-- An integer; or no value: unimplemented, out of range or too wide; or not scalable: a type without s, or an unknown one.
+pub data Unscaled : Type 0 where
+  number : ℤ → Unscaled
+  noValue notScalable : Unscaled
+
+-- The type is tried before the value.
+unfoldable pub unscaled : ℕ → ℕ → Unscaled
+unscaled code raw =
+    elim (rowOf code) [
+      | none ↦ notScalable
+      | some row ↦ elim (row .scalable) [
+        | false ↦ notScalable
+        | true ↦ elim (isValue (classified code raw)) [ true ↦ number (integer row raw) | false ↦ noValue ]
+      ]
+    ]

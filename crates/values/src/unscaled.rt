@@ -1,0 +1,75 @@
+// The integer of a raw number before it is scaled.
+ghost use mathlib.Core.Path.{_≡_};
+ghost use Prim.Native.Nat.{_*_, _^_, _≤_, _<_};
+ghost use Rattle.values.specs.Classes.{PatternOf, integer, twosComplement};
+ghost use Rattle.values.specs.Unscaled.{unscaled};
+ghost use Rattle.values.specs.Answers.{rowMeans, unscaledForm, bySign};
+use crate::UnscaledValue;
+use crate::classes::class_in;
+use crate::classes::is_value_class;
+use crate::registers::all_ones;
+use crate::registers::too_wide;
+use crate::rows::Found;
+use crate::rows::Kind;
+use crate::rows::TypeRow;
+use crate::rows::row_of;
+
+// The integer that a scale factor multiplies, of a raw number under a type code.
+pub fn unscaled_value(type_code: u16, raw: u64) -> UnscaledValue
+    ensures { λ r. ⌜ r ≡ unscaledForm (unscaled «type_code» raw) ⌝ }
+{
+    let found = row_of(type_code);
+    match found {
+        Found::Row(row) => {
+            if !row.scalable {
+                return UnscaledValue::NotScalable;
+            }
+            if too_wide(row.most, raw) {
+                return UnscaledValue::NoValue;
+            }
+            if !is_value_class(class_in(row, raw)) {
+                return UnscaledValue::NoValue;
+            }
+            integer_by_sign(row, raw)
+        }
+        Found::Nothing => UnscaledValue::NotScalable,
+    }
+}
+
+// A pattern as an integer: only a signed type has negative ones.
+fn integer_by_sign(row: TypeRow, raw: u64) -> UnscaledValue
+    requires { ⌜ PatternOf (rowMeans row) raw ⌝ }
+    ensures { λ r. ⌜ r ≡ bySign (integer (rowMeans row) raw) ⌝ }
+{
+    let kind = row.kind;
+    match kind {
+        Kind::Signed => twos_complement_by_sign(row.most, raw),
+        Kind::Unsigned => UnscaledValue::Of {
+            negative: false,
+            magnitude: raw,
+        },
+        Kind::Float => UnscaledValue::Of {
+            negative: false,
+            magnitude: raw,
+        },
+    }
+}
+
+// Two's complement of one to four registers, by sign and magnitude.
+fn twos_complement_by_sign(count: u16, raw: u64) -> UnscaledValue
+    requires { ⌜ (1 ≤ count) × (count ≤ 4) ⌝ }
+    requires { ⌜ raw < 2 ^ (16 * count) ⌝ }
+    ensures { λ r. ⌜ r ≡ bySign (twosComplement (16 * count) raw) ⌝ }
+{
+    let ones = all_ones(count);
+    if raw <= ones / 2 {
+        return UnscaledValue::Of {
+            negative: false,
+            magnitude: raw,
+        };
+    }
+    UnscaledValue::Of {
+        negative: true,
+        magnitude: ones - raw + 1,
+    }
+}
