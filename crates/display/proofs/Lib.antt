@@ -1,4 +1,6 @@
 -- The claims
+pub mod TwelveCases
+pub mod Exactness
 pub mod Equivalence
 -- Laws of the definitions, and what the proofs of the functions cite
 pub mod TextPart
@@ -8,6 +10,7 @@ pub mod DigitCount
 pub mod DigitTexts
 pub mod StoredTexts
 pub mod DecimalCases
+pub mod ReadingBack
 pub mod ScaleFactors
 pub mod AmountCases
 pub mod Multiples

@@ -15,7 +15,7 @@ behind-sets out i (x ∷ xs) ys =
     ap (λ (k : ℕ). sets (sets (set out i x) (suc i) xs) k ys) (add-suc i (length xs) ∙ sym (suc-add i (length xs)))
     ∙ behind-sets (set out i x) (suc i) xs ys
 
-length-both : (xs ys : List ℕ) → length (xs ++ ys) ≡ length xs + length ys
+pub length-both : (xs ys : List ℕ) → length (xs ++ ys) ≡ length xs + length ys
 length-both [] ys = omega arith
 length-both (x ∷ xs) ys = omega (arith, length-both xs ys)
 

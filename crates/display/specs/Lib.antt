@@ -2,6 +2,7 @@ pub mod Text
 pub mod Events
 pub mod Amounts
 pub mod Decimals
+pub mod Reading
 pub mod Equality
 pub mod Parts
 pub mod Answers

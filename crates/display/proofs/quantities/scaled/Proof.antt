@@ -10,7 +10,7 @@ use Rattle.display.proofs.quantities.scaled.Tie as tie
 
 returns : tie.Need-returns
 returns c =
-    let e = from-zero (c .before .args .scale) (c .if1 .taken) in
+    let e = from-zero (c .before .args .scale) (omega (arith, c .if1 .taken)) in
     ((refl, refl), (ap zeros (sym e), ap places (sym e)))
 
 sub-t7 : tie.Need-sub-t7
@@ -19,7 +19,7 @@ sub-t7 c = search needs
 returns-2 : tie.Need-returns-2
 returns-2 c =
     let s = c .before .args .scale in
-    let e = below-zero s (c .if1 .left) (omega arith) (c .before .pre) in
+    let e = below-zero s (omega (arith, c .if1 .left)) (omega arith) (c .before .pre) in
     let m : 65536 - s ≡ suc (65536 - suc s) = omega arith in
     ((refl, refl), (ap zeros (sym e), m ∙ ap places (sym e)))
 

@@ -9,10 +9,10 @@ use Rattle.display.proofs.strings.has_string.Statement.{statement}
 use Rattle.display.proofs.strings.has_string.Tie as tie
 
 returns : tie.Need-returns
-returns c = simp (lt-leb _ _ (c .if1 .taken))
+returns c = simp (lt-leb 1 (c .before .args .size) (omega (arith, c .if1 .taken)))
 
 returns-2 : tie.Need-returns-2
-returns-2 c = simp (lt-leb _ _ (c .if2 .taken), and-false)
+returns-2 c = simp (lt-leb (c .before .before .args .size) 64 (omega (arith, c .if2 .taken)), and-false)
 
 returns-3 : tie.Need-returns-3
 returns-3 c =
@@ -22,7 +22,11 @@ returns-3 c =
 returns-4 : tie.Need-returns-4
 returns-4 c =
     let a = c .before .before .before .args in
-    simp (le-leb _ _ (c .before .before .if1 .left), le-leb _ _ (c .before .if2 .left), string-end (a .registers) (a .address) (a .size) (c .if3 .left))
+    simp (
+      le-leb 1 (a .size) (omega (arith, c .before .before .if1 .left)),
+      le-leb (a .size) 64 (omega (arith, c .before .if2 .left)),
+      string-end (a .registers) (a .address) (a .size) (c .if3 .left),
+    )
 
 pub has-string-spec : {M : Type 1} → statement M
 has-string-spec = tie.close (tie.spec returns returns-2 returns-3 returns-4)

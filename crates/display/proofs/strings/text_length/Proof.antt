@@ -27,7 +27,7 @@ shared-slice-read-register c = search needs
 returns : tie.Need-returns Inv-loop μ-loop
 returns c =
     let l = c .before .before .before in
-    omega (arith, text-stops (l .before .args .string .now) (l .loop .i) (c .before .before .loop-test .taken) (c .if1 .taken))
+    omega (arith, text-stops (l .before .args .string .now) (l .loop .i) (c .before .before .loop-test .taken) (omega (arith, c .if1 .taken)))
 
 add-i : tie.Need-add-i Inv-loop μ-loop
 add-i c = search needs
@@ -35,7 +35,7 @@ add-i c = search needs
 returns-2 : tie.Need-returns-2 Inv-loop μ-loop
 returns-2 c =
     let l = c .before .before .before .before in
-    omega (arith, text-ends (l .before .args .string .now) (l .loop .i) (c .before .before .before .loop-test .taken) (c .before .if1 .left) (c .if2 .taken))
+    omega (arith, text-ends (l .before .args .string .now) (l .loop .i) (c .before .before .before .loop-test .taken) (omega (arith, c .before .if1 .left)) (c .if2 .taken))
 
 loop-less : tie.Need-loop-less Inv-loop μ-loop
 loop-less c = search needs
@@ -44,7 +44,7 @@ loop-again : tie.Need-loop-again Inv-loop μ-loop
 loop-again c =
     let l = c .before .before .before .before in (
       search needs,
-      omega (arith, text-on (l .before .args .string .now) (l .loop .i) (c .before .before .before .loop-test .taken) (c .before .if1 .left) (c .if2 .left)),
+      omega (arith, text-on (l .before .args .string .now) (l .loop .i) (c .before .before .before .loop-test .taken) (omega (arith, c .before .if1 .left)) (c .if2 .left)),
     )
 
 returns-3 : tie.Need-returns-3 Inv-loop μ-loop

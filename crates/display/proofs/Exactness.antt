@@ -1,0 +1,109 @@
+-- A decimal text, read back as a number, is value × 10 ^ scale, and it takes at most 30 bytes.
+use mathlib.Core.Path.{_≡_, refl, sym, ap, _∙_}
+use mathlib.Core.Bool.{Bool, true, false, not}
+use mathlib.Core.List.{List, [], _∷_, _++_, append-assoc}
+use mathlib.Core.Option.{some}
+use Prim.Native.Nat.{ℕ, zero, suc, _+_, _-_, _*_, _/_, _^_, _≤_, _<_}
+use native.Mathlib.Nat.{div-one, mul-lt-mul-of-pos-right, div-lt-iff-lt-mul}
+use native.Mathlib.Omega.{arith}
+use lib.Dec.{ltb}
+use lib.IntN.{ℤ, pos, negsuc, negℤ, natAbs}
+use lib.ListN.{length}
+use lib.Pow.{pow-add}
+use lib.Signed.{nonNeg}
+use Rattle.values.specs.Unscaled.{number, unscaled}
+use Rattle.values.proofs.UnscaledRange.{Within64}
+use Rattle.display.specs.Amounts.{Amount, amount, amountOf, fractionOf, zeros, places}
+use Rattle.display.specs.Decimals.{lastDigits, digitCount, digitsOf, sign, decimalPlaces, signedText, decimalText, Decimal, text, decimalOf}
+use Rattle.display.specs.Reading.{signed, readUnsigned, readDecimal}
+use Rattle.display.proofs.PowersOfTen.{positive}
+use Rattle.display.proofs.DigitCount.{count, at-most}
+use Rattle.display.proofs.DigitTexts.{digits-length, number-length}
+use Rattle.display.proofs.ScaleFactors.{TenOf}
+use Rattle.display.proofs.AmountCases.{amount-of, value-within, scale-within}
+use Rattle.display.proofs.ReadingBack.{read-unsigned, no-minus}
+use Rattle.display.proofs.StoredTexts.{length-both}
+
+-- What is claimed of a text that `decimal` writes for a type code, a raw value and a scale factor.
+pub record Exact (code raw : ℕ) (scale : ℤ) (t : List ℕ) : Type 0 where
+  pub value : ℤ
+  pub is : unscaled code raw ≡ number value
+  pub reads-back : readDecimal t ≡ some (fractionOf value scale)
+  pub thirty : length t ≤ 30
+
+-- Every text reads back, whatever the value and the scale factor.
+pub read-back : (value scale : ℤ) → readDecimal (decimalText value scale) ≡ some (fractionOf value scale)
+unfolding signedText readDecimal
+read-back (pos a) scale =
+    let n = a * 10 ^ zeros scale in
+    let p = places scale in
+    no-minus (digitCount (n / 10 ^ p)) (n / 10 ^ p) (decimalPlaces p n) (count (n / 10 ^ p) .some) ∙ ap (signed pos) (read-unsigned n p)
+read-back (negsuc a) scale = ap (signed (λ n. negℤ (pos n))) (read-unsigned (suc a * 10 ^ zeros scale) (places scale))
+
+-- ---- The length
+
+text-length : (negative : Bool) (n p : ℕ)
+    → length (signedText negative n p) ≡ length (sign negative) + digitCount (n / 10 ^ p) + length (decimalPlaces p n)
+unfolding signedText
+text-length negative n p =
+    length-both (sign negative ++ digitsOf (n / 10 ^ p)) (decimalPlaces p n)
+    ∙ ap (λ (x : ℕ). x + length (decimalPlaces p n))
+    (length-both (sign negative) (digitsOf (n / 10 ^ p)) ∙ ap (λ (x : ℕ). length (sign negative) + x) (number-length (n / 10 ^ p)))
+
+-- A number of at most d digits, with up to ten zeros or places.
+module _ (m d : ℕ) (wide : 11 ≤ d) (small : m < 10 ^ d) where
+  zeros-length : (k : ℕ) → digitCount (m * 10 ^ k / 10 ^ 0) ≤ d + k
+  zeros-length k =
+      let h : m * 10 ^ k < 10 ^ (d + k) = rw (pow-add 10 d k) (mul-lt-mul-of-pos-right small (positive k)) in
+      at-most (m * 10 ^ k / 10 ^ 0) (d + k) (omega arith) (rw (div-one (m * 10 ^ k)) h)
+
+  places-length : (p : ℕ) → p ≤ 9 → digitCount (m * 10 ^ 0 / 10 ^ suc p) + suc p ≤ d
+  places-length p h =
+      let e : d - suc p + suc p ≡ d = omega arith in
+      let l : m * 10 ^ 0 < 10 ^ (d - suc p) * 10 ^ suc p = rw (← pow-add 10 (d - suc p) (suc p), e) (omega arith) in
+      let q : m * 10 ^ 0 / 10 ^ suc p < 10 ^ (d - suc p) = div-lt-iff-lt-mul {x = m * 10 ^ 0} {y = 10 ^ (d - suc p)} (positive (suc p)) .1 l in
+      omega (arith, at-most (m * 10 ^ 0 / 10 ^ suc p) (d - suc p) (omega arith) q)
+
+  number-bound : (negative : Bool) (scale : ℤ) → TenOf scale
+      → length (signedText negative (m * 10 ^ zeros scale) (places scale)) ≤ length (sign negative) + d + 10
+  number-bound negative (pos k) t =
+      omega (arith, text-length negative (m * 10 ^ k) 0, zeros-length k, t .zeros-bound)
+  number-bound negative (negsuc p) t =
+      omega (
+        arith,
+        text-length negative (m * 10 ^ 0) (suc p),
+        places-length p (omega (arith, t .places-bound)),
+        digits-length (suc p) (m * 10 ^ 0),
+      )
+
+text-bound : (value scale : ℤ) → Within64 value → TenOf scale → length (decimalText value scale) ≤ 30
+text-bound (pos a) scale w t = number-bound a 20 (omega arith) (omega arith) false scale t
+text-bound (negsuc a) scale w t = number-bound (suc a) 19 (omega arith) (omega arith) true scale t
+
+-- The claim.
+pub exactness : (code raw : ℕ) (scale : ℤ) (room : ℕ) (t : List ℕ) → decimalOf code raw scale room ≡ text t → Exact code raw scale t
+unfolding decimalOf
+exactness code raw scale room t e = by-amount (amountOf code raw scale) refl e
+  where
+    by-room : (value s : ℤ) → amountOf code raw scale ≡ amount value s → (b : Bool)
+        → _≡_ {A = Decimal} (elim b [ true ↦ Decimal.refused 46 | false ↦ text (decimalText value s) ]) (text t) → Exact code raw scale t
+    by-room value s a true q = let z : _≡_ {A = ℕ} 0 1 = cc in absurd (omega arith)
+    by-room value s a false q =
+        let o = amount-of code raw scale value s a in
+        let u : t ≡ decimalText value scale = cc in
+        record {
+          value = value;
+          is = o .is;
+          reads-back = rw u (read-back value scale);
+          thirty = rw (u, o .same-scale) (text-bound value s (value-within code raw scale value s a) (scale-within code raw scale value s a));
+        }
+
+    by-amount : (a : Amount) → amountOf code raw scale ≡ a
+        → _≡_ {A = Decimal}
+        (elim a [
+          | Amount.refused n ↦ Decimal.refused n
+          | amount value s ↦ elim (ltb room 32) [ true ↦ Decimal.refused 46 | false ↦ text (decimalText value s) ]
+        ])
+        (text t) → Exact code raw scale t
+    by-amount (Amount.refused n) a q = let z : _≡_ {A = ℕ} 0 1 = cc in absurd (omega arith)
+    by-amount (amount value s) a q = by-room value s a (ltb room 32) q

@@ -1,0 +1,47 @@
+-- A decimal text read back as a number: what the law of exactness speaks of.
+use mathlib.Core.Bool.{Bool, true, false, _&&_}
+use mathlib.Core.List.{List, [], _∷_}
+use mathlib.Core.Option.{Option, none, some}
+use Prim.Native.Nat.{ℕ, _+_, _-_, _*_}
+use lib.Dec.{eqb, leb}
+use lib.IntN.{ℤ, pos, negℤ}
+use Rattle.display.specs.Amounts.{Fraction}
+use Rattle.display.specs.Decimals.{minusSign, decimalPoint, digitZero}
+
+abbrev pub isDigit : ℕ → Bool
+isDigit byte = leb digitZero byte && leb byte (digitZero + 9)
+
+-- A digit behind the others makes the number ten times larger and adds itself.
+abbrev pub withDigit : ℕ → ℕ → ℕ
+withDigit n byte = n * 10 + (byte - digitZero)
+
+-- Digits behind the decimal point, from a numerator and a denominator on: each makes the denominator ten times larger too. None
+-- where a byte is no digit.
+unfoldable pub readPlaces : ℕ → ℕ → List ℕ → Option (ℕ × ℕ)
+readPlaces n d [] = some (n, d)
+readPlaces n d (b ∷ bs) = elim (isDigit b) [ true ↦ readPlaces (withDigit n b) (d * 10) bs | false ↦ none ]
+
+-- Digits before it, from a number on.
+unfoldable pub readWhole : ℕ → List ℕ → Option (ℕ × ℕ)
+readWhole n [] = some (n, 1)
+readWhole n (b ∷ bs) =
+    elim (isDigit b) [
+      | true ↦ readWhole (withDigit n b) bs
+      | false ↦ elim (eqb b decimalPoint) [ true ↦ readPlaces n 1 bs | false ↦ none ]
+    ]
+
+-- A number without a sign begins with a digit.
+unfoldable pub readUnsigned : List ℕ → Option (ℕ × ℕ)
+readUnsigned [] = none
+readUnsigned (b ∷ bs) = elim (isDigit b) [ true ↦ readWhole 0 (b ∷ bs) | false ↦ none ]
+
+-- The numerator with a sign.
+abbrev pub signed : (ℕ → ℤ) → Option (ℕ × ℕ) → Option Fraction
+signed sign none = none
+signed sign (some (n, d)) = some (record { numerator = sign n; denominator = d })
+
+-- A minus first is the number's negation.
+unfoldable pub readDecimal : List ℕ → Option Fraction
+readDecimal [] = none
+readDecimal (b ∷ bs) =
+    elim (eqb b minusSign) [ true ↦ signed (λ n. negℤ (pos n)) (readUnsigned bs) | false ↦ signed pos (readUnsigned (b ∷ bs)) ]
