@@ -44,6 +44,6 @@ fn write_value(type_code: u16, registers: [u16; 4]) {
         }
         Value::Unimplemented => output::text(b"not given"),
         Value::OutOfRange => output::text(b"out of range"),
-        Value::NotDecodable => output::text(b"refused 40"),
+        Value::NotDecodable => output::refused(40),
     }
 }

@@ -1,9 +1,14 @@
 // Runs one call of the libraries for each line of standard input, and writes one answer line for
 // each, in order. A line is a command's word and its fields, with one space before each field. What
 // lies past the first 524,288 bytes is not read.
+mod decimal;
 mod decode;
+mod equal;
+mod events;
 mod fields;
 mod output;
+mod quantity;
+mod text;
 
 use libc::STDIN_FILENO;
 
@@ -58,6 +63,18 @@ fn run(line: &[u8]) -> bool {
     let word = &line[..at];
     if check::same(word, b"decode") {
         return decode::run(line, at);
+    }
+    if check::same(word, b"text") {
+        return text::run(line, at);
+    }
+    if check::same(word, b"events") {
+        return events::run(line, at);
+    }
+    if check::same(word, b"decimal") {
+        return decimal::run(line, at);
+    }
+    if check::same(word, b"equal") {
+        return equal::run(line, at);
     }
     false
 }

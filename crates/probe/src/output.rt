@@ -25,17 +25,47 @@ pub(crate) fn signed(n: i64) {
     }
 }
 
-// Eight hexadecimal digits, in upper case.
+// The answer of a call that refuses.
+pub(crate) fn refused(number: u16) {
+    text(b"refused ");
+    unsigned(number as u64);
+}
+
+// Four hexadecimal digits for each word, run together, and `-` where there are none.
+pub(crate) fn words(s: &[u16]) {
+    if s.len() == 0 {
+        text(b"-");
+    }
+    let mut i = 0;
+    while i < s.len() {
+        hex4(s[i]);
+        i += 1;
+    }
+}
+
+// Four hexadecimal digits.
+fn hex4(n: u16) {
+    let mut digits = [0u8; 4];
+    hex_digits(n as u32, &mut digits);
+    text(&digits);
+}
+
+// Eight hexadecimal digits.
 pub(crate) fn hex8(n: u32) {
     let mut digits = [0u8; 8];
+    hex_digits(n, &mut digits);
+    text(&digits);
+}
+
+// Fills `out` with the last hexadecimal digits of `n`, in upper case: as many as it has room for.
+fn hex_digits(n: u32, out: &mut [u8]) {
     let mut rest = n;
-    let mut i = 8usize;
+    let mut i = out.len();
     while 0 < i {
         i -= 1;
-        digits[i] = hex_glyph(rest % 16);
+        out[i] = hex_glyph(rest % 16);
         rest /= 16;
     }
-    text(&digits);
 }
 
 fn hex_glyph(d: u32) -> u8

@@ -72,11 +72,8 @@ text-requires-5 c κs = search needs
 enum-told-3 : tie.Need-enum-told-3
 enum-told-3 c = search needs
 
-slice-aggregate-text-6 : tie.Need-slice-aggregate-text-6
-slice-aggregate-text-6 c = search needs
-
-text-requires-6 : tie.Need-text-requires-6
-text-requires-6 c κs = search needs
+refused-requires : tie.Need-refused-requires
+refused-requires c κs = search needs
 
 returns : tie.Need-returns
 returns c = search needs
@@ -121,8 +118,7 @@ write-value-spec =
     slice-aggregate-text-5
     text-requires-5
     enum-told-3
-    slice-aggregate-text-6
-    text-requires-6
+    refused-requires
     returns
     returns-2
     returns-3

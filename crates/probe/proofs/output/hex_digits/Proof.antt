@@ -1,16 +1,16 @@
--- `probe::output::hex8` is safe and ends. The loop's invariant: there are eight digits, and `i` is at most 8.
+-- `probe::output::hex_digits` is safe and ends. The loop's invariant: a store keeps the length, and `i` is at most it.
 use Prim.Native.Nat.{_≤_}
 use mathlib.Core.Path.{_≡_}
 use borrow.Author.Needs.{needs}
 use lib.ListN.{length}
-use Rattle.probe.proofs.output.hex8.Statement.{statement}
-use Rattle.probe.proofs.output.hex8.Tie as tie
+use Rattle.probe.proofs.output.hex_digits.Statement.{statement}
+use Rattle.probe.proofs.output.hex_digits.Tie as tie
 
 abbrev Inv-loop : tie.InvT-loop
-Inv-loop n digits₀ rest₀ i₀ digits rest i = (length digits ≡ 8) × (i ≤ 8)
+Inv-loop n out₀ rest₀ i₀ out rest i = (length out ≡ length out₀) × (i ≤ length out₀)
 
 abbrev μ-loop : tie.MeasureT-loop
-μ-loop n digits₀ rest₀ i₀ digits rest i = i
+μ-loop n out₀ rest₀ i₀ out rest i = i
 
 loop-holds : tie.Need-loop-holds Inv-loop μ-loop
 loop-holds c = search needs
@@ -21,8 +21,8 @@ sub-i c = search needs
 hex-glyph-requires : tie.Need-hex-glyph-requires Inv-loop μ-loop
 hex-glyph-requires c κs = search needs
 
-array-write-digits : tie.Need-array-write-digits Inv-loop μ-loop
-array-write-digits c = search needs
+slice-write-out : tie.Need-slice-write-out Inv-loop μ-loop
+slice-write-out c = search needs
 
 loop-less : tie.Need-loop-less Inv-loop μ-loop
 loop-less c = search needs
@@ -30,17 +30,14 @@ loop-less c = search needs
 loop-again : tie.Need-loop-again Inv-loop μ-loop
 loop-again c = search needs
 
-slice-aggregate-text : tie.Need-slice-aggregate-text Inv-loop μ-loop
-slice-aggregate-text c = search needs
-
-text-requires : tie.Need-text-requires Inv-loop μ-loop
-text-requires c κs = search needs
+same-length : tie.Need-same-length Inv-loop μ-loop
+same-length c = search needs
 
 returns : tie.Need-returns Inv-loop μ-loop
 returns c = search needs
 
-pub hex8-spec : {M : Type 1} → statement M
-hex8-spec =
+pub hex-digits-spec : {M : Type 1} → statement M
+hex-digits-spec =
     tie.close
     (tie.spec
     Inv-loop
@@ -48,9 +45,8 @@ hex8-spec =
     loop-holds
     sub-i
     hex-glyph-requires
-    array-write-digits
+    slice-write-out
     loop-less
     loop-again
-    slice-aggregate-text
-    text-requires
+    same-length
     returns)
