@@ -3,11 +3,10 @@ use mathlib.Core.Path.{_≡_, refl, sym, ap, _∙_}
 use mathlib.Core.List.{List, [], _∷_, _++_, append-nil, append-assoc}
 use Prim.Native.Nat.{ℕ, zero, suc, _*_, _/_, _^_, _≤_, _<_}
 use native.Mathlib.Nat.{div-one, mul-one}
-use native.Mathlib.Omega.{arith}
 use borrow.Author.Tests.{lt-ltb, le-ltb}
 use lib.IntN.{ℤ}
-use Rattle.display.specs.Amounts.{Amount, amount, amountOf}
-use Rattle.display.specs.Decimals.{decimalPoint, lastDigits, digitsOf, sign, decimalPlaces, signedText, decimalText, Decimal, text, decimalOf}
+use Rattle.display.specs.Amounts.{Amount, amountOf}
+use Rattle.display.specs.Decimals.{decimalPoint, lastDigits, digitsOf, sign, decimalPlaces, signedText, Decimal, text, decimalOf}
 use Rattle.display.specs.Parts.{partsText}
 use Rattle.display.specs.declared.quantities.ScaledNumber.{ScaledNumber}
 use Rattle.display.proofs.AmountCases.{WasAmount}

@@ -1,12 +1,12 @@
 -- The number of digits of n is the one c from 1 on with n < 10 ^ c and, if c is more than 1, 10 ^ (c - 1) ≤ n. So the bound on the
 -- steps of its definition is always enough.
-use mathlib.Core.Path.{_≡_, refl, sym, ap, _∙_}
+use mathlib.Core.Path.{_≡_, refl}
 use mathlib.Core.Bool.{Bool, true, false}
-use Prim.Native.Nat.{ℕ, zero, suc, _+_, _-_, _*_, _/_, _%_, _^_, _≤_, _<_}
-use native.Mathlib.Nat.{pow-suc, mul-lt-mul-of-pos-right, mul-le-mul-right, mul-comm, div-le-self}
+use Prim.Native.Nat.{ℕ, zero, suc, _+_, _-_, _*_, _/_, _^_, _≤_, _<_}
+use native.Mathlib.Nat.{pow-suc, mul-lt-mul-of-pos-right, mul-le-mul-right, mul-comm}
 use native.Mathlib.Omega.{arith}
 use native.Mathlib.Decide.{decLe}
-use borrow.Author.Tests.{ltb-true, ltb-false, lt-ltb, le-ltb}
+use borrow.Author.Tests.{ltb-true, ltb-false}
 use lib.Dec.{ltb}
 use lib.Pow.{pow-add}
 use Rattle.display.specs.Decimals.{digitCountWithin, digitCount}

@@ -1,8 +1,8 @@
 -- Digits as text: how they are stored one after another, and what appended zeros make of them.
 use mathlib.Core.Path.{_≡_, refl, sym, ap, _∙_}
-use mathlib.Core.List.{List, [], _∷_, _++_}
-use Prim.Native.Nat.{ℕ, zero, suc, _+_, _-_, _*_, _/_, _%_, _^_, _≤_, _<_}
-use native.Mathlib.Nat.{add-zero, add-suc, suc-add, zero-mul, mul-assoc, mul-comm, zero-div, div-one, div-div-eq-div-mul, mul-div-cancel, mul-mod-left, pow-suc}
+use mathlib.Core.List.{List, _∷_, _++_}
+use Prim.Native.Nat.{ℕ, zero, suc, _+_, _-_, _*_, _^_, _≤_, _<_}
+use native.Mathlib.Nat.{add-zero, add-suc, zero-mul, mul-assoc, zero-div, div-div-eq-div-mul, mul-div-cancel, mul-mod-left, pow-suc}
 use native.Mathlib.Numerals.{add-one}
 use native.Mathlib.Omega.{arith}
 use lib.ListN.{length, set}

@@ -1,7 +1,7 @@
 -- The ways to the answer for two amounts, as the code holds them.
-use mathlib.Core.Path.{_≡_, sym, ap, _∙_}
+use mathlib.Core.Path.{_≡_, sym, ap}
 use Prim.Native.Nat.{ℕ}
-use Rattle.display.specs.Amounts.{Amount, amount, refused}
+use Rattle.display.specs.Amounts.{Amount, refused}
 use Rattle.display.specs.Equality as Equality
 use Rattle.display.specs.Equality.{equality, equalIf}
 use Rattle.display.specs.Parts.{isSameByParts}

@@ -1,11 +1,10 @@
 -- On quantities that are accepted, being the same amount is reflexive, symmetric and transitive; and it is what the integers say.
 use mathlib.Core.Path.{_≡_, refl, sym, ap, _∙_}
 use mathlib.Core.Bool.{Bool, true, false}
-use Prim.Native.Nat.{ℕ, _^_, _<_}
+use Prim.Native.Nat.{_<_}
 use lib.IntN.{ℤ, pos, _*ℤ_}
-use Rattle.display.specs.Amounts.{Amount, amount, refused, zeros, places, Fraction, fractionOf}
-use Rattle.display.specs.Equality as Equality
-use Rattle.display.specs.Equality.{isSameInteger, isSameFraction, equalIf, equal, equality}
+use Rattle.display.specs.Amounts.{Amount, amount, refused, places, Fraction, fractionOf}
+use Rattle.display.specs.Equality.{isSameFraction, equalIf, equal, equality}
 use Rattle.display.proofs.PowersOfTen.{positive}
 use Rattle.display.proofs.ScaledIntegers.{swap, cancel, same-integer, integer-same}
 

@@ -1,21 +1,20 @@
 -- A decimal text, read back as a number, is value × 10 ^ scale, and it takes at most 30 bytes.
-use mathlib.Core.Path.{_≡_, refl, sym, ap, _∙_}
-use mathlib.Core.Bool.{Bool, true, false, not}
-use mathlib.Core.List.{List, [], _∷_, _++_, append-assoc}
+use mathlib.Core.Path.{_≡_, refl, ap, _∙_}
+use mathlib.Core.Bool.{Bool, true, false}
+use mathlib.Core.List.{List, _++_}
 use mathlib.Core.Option.{some}
-use Prim.Native.Nat.{ℕ, zero, suc, _+_, _-_, _*_, _/_, _^_, _≤_, _<_}
+use Prim.Native.Nat.{ℕ, suc, _+_, _-_, _*_, _/_, _^_, _≤_, _<_}
 use native.Mathlib.Nat.{div-one, mul-lt-mul-of-pos-right, div-lt-iff-lt-mul}
 use native.Mathlib.Omega.{arith}
 use lib.Dec.{ltb}
-use lib.IntN.{ℤ, pos, negsuc, negℤ, natAbs}
+use lib.IntN.{ℤ, pos, negsuc, negℤ}
 use lib.ListN.{length}
 use lib.Pow.{pow-add}
-use lib.Signed.{nonNeg}
 use Rattle.values.specs.Unscaled.{number, unscaled}
 use Rattle.values.proofs.UnscaledRange.{Within64}
 use Rattle.display.specs.Amounts.{Amount, amount, amountOf, fractionOf, zeros, places}
-use Rattle.display.specs.Decimals.{lastDigits, digitCount, digitsOf, sign, decimalPlaces, signedText, decimalText, Decimal, text, decimalOf}
-use Rattle.display.specs.Reading.{signed, readUnsigned, readDecimal}
+use Rattle.display.specs.Decimals.{digitCount, digitsOf, sign, decimalPlaces, signedText, decimalText, Decimal, text, decimalOf}
+use Rattle.display.specs.Reading.{signed, readDecimal}
 use Rattle.display.proofs.PowersOfTen.{positive}
 use Rattle.display.proofs.DigitCount.{count, at-most}
 use Rattle.display.proofs.DigitTexts.{digits-length, number-length}

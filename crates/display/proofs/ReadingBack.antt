@@ -1,16 +1,14 @@
 -- Reading digits back: the last k digits of m, read behind v, are v × 10 ^ k + m % 10 ^ k.
-use mathlib.Core.Path.{_≡_, refl, sym, ap, _∙_}
-use mathlib.Core.Bool.{Bool, true, false, _&&_}
-use mathlib.Core.List.{List, [], _∷_, _++_, append-assoc}
-use mathlib.Core.Option.{Option, none, some}
+use mathlib.Core.Path.{_≡_, sym, ap, _∙_}
+use mathlib.Core.Bool.{true}
+use mathlib.Core.List.{List, _∷_, _++_}
+use mathlib.Core.Option.{some}
 use Prim.Native.Nat.{ℕ, zero, suc, _+_, _-_, _*_, _/_, _%_, _^_, _≤_, _<_}
-use native.Mathlib.Nat.{pow-suc, mod-lt, mod-one, mul-one, one-mul, zero-mul, zero-add, mul-assoc, mul-comm, add-mul, add-assoc, mul-le-mul-right, mod-eq-of-lt, mul-add-mod-self-right, div-add-mod', div-one}
+use native.Mathlib.Nat.{pow-suc, mod-lt, mod-one, mul-one, one-mul, zero-mul, mul-assoc, mul-comm, add-mul, add-assoc, mul-le-mul-right, mod-eq-of-lt, mul-add-mod-self-right, div-add-mod', div-one}
 use native.Mathlib.Omega.{arith}
 use borrow.Author.Tests.{le-leb, ne-eqb}
-use lib.Dec.{eqb, leb}
-use lib.IntN.{ℤ, pos, negsuc, negℤ, natAbs, _*ℤ_}
-use Rattle.display.specs.Amounts.{Fraction, fractionOf, zeros, places}
-use Rattle.display.specs.Decimals.{minusSign, decimalPoint, digitZero, digitAt, lastDigits, digitCount, digitsOf, sign, decimalPlaces, signedText, decimalText}
+use lib.IntN.{pos}
+use Rattle.display.specs.Decimals.{minusSign, digitZero, digitAt, lastDigits, digitCount, digitsOf, decimalPlaces}
 use Rattle.display.specs.Reading.{isDigit, withDigit, readPlaces, readWhole, readUnsigned, signed, readDecimal}
 use Rattle.display.proofs.PowersOfTen.{positive}
 use Rattle.display.proofs.DigitCount.{count}

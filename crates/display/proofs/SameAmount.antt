@@ -1,13 +1,12 @@
 -- What the code compares, by parts, is the definition's cross-multiplication.
 use mathlib.Core.Path.{_≡_, refl, sym, ap, _∙_}
 use mathlib.Core.Bool.{Bool, true, false, not, _&&_, Bool·beq}
-use Prim.Native.Nat.{ℕ, _+_, _-_, _*_, _^_, _≤_, _<_}
+use Prim.Native.Nat.{ℕ, _+_, _-_, _*_, _^_, _≤_}
 use native.Mathlib.Nat.{mul-assoc, mul-comm, eq-of-mul-eq-mul-left}
 use native.Mathlib.Omega.{arith}
 use lib.Dec.{eqb}
-use lib.IntN.{ℤ, pos, natAbs, _*ℤ_}
+use lib.IntN.{ℤ, pos, _*ℤ_}
 use lib.Pow.{pow-add}
-use lib.Signed.{nonNeg}
 use Rattle.display.specs.Amounts.{fractionOf, zeros, places}
 use Rattle.display.specs.Equality.{isSameInteger, isSameFraction}
 use Rattle.display.specs.Parts.{partsOf, isSameByParts}

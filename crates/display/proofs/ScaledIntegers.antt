@@ -1,9 +1,9 @@
 -- Integers times powers of ten: the order of the factors does not matter, they cancel, and sign and magnitude decide whether two
 -- products are the same.
 use mathlib.Core.Path.{_≡_, refl, sym, ap, _∙_}
-use mathlib.Core.Bool.{Bool, true, false, not, _&&_, Bool·beq}
-use Prim.Native.Nat.{ℕ, zero, suc, _+_, _-_, _*_, _^_, _≤_, _<_}
-use native.Mathlib.Nat.{mul-assoc, mul-comm, mul-lt-mul-of-pos-right, zero-mul, eq-of-mul-eq-mul-left}
+use mathlib.Core.Bool.{Bool, true, not, _&&_, Bool·beq}
+use Prim.Native.Nat.{ℕ, zero, suc, _-_, _*_, _<_}
+use native.Mathlib.Nat.{mul-assoc, mul-comm, mul-lt-mul-of-pos-right, eq-of-mul-eq-mul-left}
 use native.Mathlib.Omega.{arith}
 use borrow.Author.Tests.{eqb-true, eq-eqb}
 use lib.Dec.{eqb}

@@ -11,7 +11,6 @@ use lib.ListN.{length}
 use Rattle.values.specs.Rows.{rows, rowAmong}
 use Rattle.values.specs.Registers.{join, tooWide}
 use Rattle.values.specs.Classes.{twosComplement, integer, inRange, classOf, classified}
-use Rattle.values.specs.Decoding as Decoding
 use Rattle.values.specs.Decoding.{Decoded, signed, unsigned, unimplemented, outOfRange, numberOf, valueOf, decodable, decoded}
 use Rattle.values.specs.Encoding.{twosPattern}
 use Rattle.values.specs.Unscaled.{unscaled}

@@ -1,6 +1,6 @@
 // Whether two quantities are the same amount.
 ghost use mathlib.Core.Path.{_≡_};
-ghost use Prim.Native.Nat.{_*_, _^_, _≤_};
+ghost use Prim.Native.Nat.{_*_, _^_};
 ghost use lib.Dec.{eqb};
 ghost use Rattle.display.specs.Equality.{equalIf, equality};
 ghost use Rattle.display.specs.Answers.{quantityAmount, equalityAnswer};

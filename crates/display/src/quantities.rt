@@ -27,6 +27,7 @@ pub(crate) fn accept(quantity: Quantity) -> Accepted
     ensures { λ r. ⌜ r ≡ acceptedForm (quantityAmount quantity) ⌝ }
 {
     let unscaled = values::unscaled_value(quantity.type_code, quantity.raw);
+    let in_range = values::scale_factor_in_range(quantity.scale);
     match unscaled {
         UnscaledValue::NotScalable => Accepted::Refused { number: 43 },
         UnscaledValue::NoValue => Accepted::Refused { number: 44 },
@@ -34,7 +35,7 @@ pub(crate) fn accept(quantity: Quantity) -> Accepted
             negative,
             magnitude,
         } => {
-            if !values::scale_factor_in_range(quantity.scale) {
+            if !in_range {
                 return Accepted::Refused { number: 45 };
             }
             Accepted::Of(scaled(negative, magnitude, quantity.scale))

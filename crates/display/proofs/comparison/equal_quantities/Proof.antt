@@ -1,11 +1,9 @@
 -- `equal_quantities` tries the first quantity, then the second, then compares the amounts.
-use mathlib.Core.Path.{_≡_, sym, ap, _∙_}
+use mathlib.Core.Path.{sym, ap, _∙_}
 use borrow.Author.Needs.{needs}
-use Rattle.display.specs.Amounts.{Amount}
 use Rattle.display.specs.Answers.{scaleFactor, quantityAmount}
-use Rattle.display.specs.Equality.{equality, equalIf}
-use Rattle.display.specs.Parts.{isSameByParts}
-use Rattle.display.proofs.AmountCases.{WasAmount, was-refused, was-amount, parts-within}
+use Rattle.display.specs.Equality.{equalIf}
+use Rattle.display.proofs.AmountCases.{was-refused, was-amount, parts-within}
 use Rattle.display.proofs.EqualityCases.{first-refused, second-refused, both-accepted}
 use Rattle.display.proofs.comparison.equal_quantities.Statement.{statement}
 use Rattle.display.proofs.comparison.equal_quantities.Tie as tie

@@ -1,5 +1,4 @@
 -- `is_shifted`: by the laws of multiples of a power of ten.
-use mathlib.Core.Path.{_≡_}
 use Prim.Native.Nat.{_<_}
 use native.Mathlib.Omega.{arith}
 use borrow.Author.Needs.{needs}

@@ -1,10 +1,10 @@
 -- `decimal` tries the amount, then the buffer, then stores the text.
-use mathlib.Core.Path.{_≡_, sym, ap, _∙_}
+use mathlib.Core.Path.{sym, ap, _∙_}
 use native.Mathlib.Omega.{arith}
 use borrow.Author.Needs.{needs}
 use lib.ListN.{length}
 use Rattle.display.specs.Amounts.{amountOf}
-use Rattle.display.specs.Decimals.{Decimal, text, stored}
+use Rattle.display.specs.Decimals.{Decimal, stored}
 use Rattle.display.specs.Answers.{scaleFactor, bytes, lengthOf}
 use Rattle.display.proofs.AmountCases.{WasAmount, was-refused, was-amount, parts-within}
 use Rattle.display.proofs.DecimalCases.{amount-refused, short-buffer, long-buffer}
@@ -38,14 +38,14 @@ returns : tie.Need-returns
 returns c =
     let o = c .before .before in
     let a = o .before .before .before .before .args in
-    let e = short-buffer (a .type-code) (a .raw) (scaleFactor (a .scale)) (length (a .out .now)) (o .accepted2 .given .0 .0) (accepted o) (c .if1 .taken) in
+    let e = short-buffer (a .type-code) (a .raw) (scaleFactor (a .scale)) (length (a .out .now)) (o .accepted2 .given .0 .0) (accepted o) (omega (arith, c .if1 .taken)) in
     (ap lengthOf (sym e), (ap (λ (d : Decimal). stored d (a .out .now)) (sym e), tt))
 
 put-amount-requires : tie.Need-put-amount-requires
 put-amount-requires c κs =
     let o = c .before .before .before in
     let a = o .before .before .before .before .args in (
-      c .before .if1 .left,
+      omega (arith, c .before .if1 .left),
       parts-within (a .type-code) (a .raw) (scaleFactor (a .scale)) (o .accepted2 .given .0 .0)
           (sym (o .accepted2 .given .1) ∙ o .before .before .accept .ensures),
     )
@@ -70,7 +70,7 @@ returns-3 c =
     let o = i .before .before in
     let a = o .before .before .before .before .args in
     let parts = o .accepted2 .given .0 .0 in
-    let e = long-buffer (a .type-code) (a .raw) (scaleFactor (a .scale)) (length (a .out .now)) parts (accepted o) (i .if1 .left) in
+    let e = long-buffer (a .type-code) (a .raw) (scaleFactor (a .scale)) (length (a .out .now)) parts (accepted o) (omega (arith, i .if1 .left)) in
     let put = p .put-amount .ensures .0 in (
       ap bytes (put .behind ∙ omega arith) ∙ ap lengthOf (sym e),
       (put-start put (omega arith) ∙ ap (λ (d : Decimal). stored d (a .out .now)) (sym e), omega (arith, put-length put)),

@@ -1,5 +1,4 @@
 -- `digit` divides by the position's power of ten.
-use mathlib.Core.Path.{_≡_}
 use borrow.Author.Needs.{needs}
 use Rattle.display.proofs.PowersOfTen.{positive}
 use Rattle.display.proofs.decimals.digit.Statement.{statement}

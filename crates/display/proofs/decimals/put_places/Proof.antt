@@ -1,11 +1,10 @@
 -- `put_places` stores the whole part, the decimal point and the places.
-use mathlib.Core.Path.{_≡_, ap, _∙_}
-use mathlib.Core.List.{_++_, _∷_}
+use mathlib.Core.Path.{ap, _∙_}
 use Prim.Native.Nat.{ℕ, _/_}
 use native.Mathlib.Omega.{arith}
 use borrow.Author.Needs.{needs}
 use lib.ListN.{length-set}
-use Rattle.display.specs.Decimals.{decimalPoint, lastDigits, digitsOf}
+use Rattle.display.specs.Decimals.{decimalPoint, digitsOf}
 use Rattle.display.proofs.PowersOfTen.{positive}
 use Rattle.display.proofs.StoredTexts.{put-byte, put-both, put-same, put-length}
 use Rattle.display.proofs.decimals.put_places.Statement.{statement}

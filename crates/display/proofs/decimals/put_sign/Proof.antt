@@ -1,5 +1,5 @@
 -- `put_sign` stores a minus or nothing.
-use mathlib.Core.Path.{_≡_, refl, sym, ap}
+use mathlib.Core.Path.{refl, sym, ap}
 use native.Mathlib.Omega.{arith}
 use borrow.Author.Needs.{needs}
 use Rattle.display.specs.Decimals.{sign, minusSign}

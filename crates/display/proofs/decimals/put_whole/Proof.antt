@@ -1,5 +1,5 @@
 -- `put_whole` stores one 0 for zero, else the digits and the zeros behind them.
-use mathlib.Core.Path.{_≡_, sym}
+use mathlib.Core.Path.{sym}
 use native.Mathlib.Omega.{arith}
 use borrow.Author.Needs.{needs}
 use Rattle.display.proofs.DigitTexts.{appended-zeros, zero-text}

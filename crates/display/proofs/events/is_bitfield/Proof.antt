@@ -1,5 +1,4 @@
 -- `is_bitfield` tries both codes.
-use mathlib.Core.Bool.{_||_}
 use borrow.Author.Tests.{eq-eqb, ne-eqb}
 use Rattle.display.proofs.events.is_bitfield.Statement.{statement}
 use Rattle.display.proofs.events.is_bitfield.Tie as tie

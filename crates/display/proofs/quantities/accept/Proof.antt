@@ -1,5 +1,5 @@
 -- `accept` tries the type, the value and the scale factor in turn.
-use mathlib.Core.Path.{_≡_, refl, sym, ap, _∙_}
+use mathlib.Core.Path.{sym, ap, _∙_}
 use borrow.Author.Needs.{needs}
 use borrow.Author.Tests.{not-true, not-false}
 use Rattle.values.specs.Unscaled.{unscaled}
@@ -14,6 +14,9 @@ use Rattle.display.proofs.quantities.accept.Tie as tie
 unscaled-value-requires : tie.Need-unscaled-value-requires
 unscaled-value-requires c κs = search needs
 
+scale-factor-in-range-requires : tie.Need-scale-factor-in-range-requires
+scale-factor-in-range-requires c κs = search needs
+
 enum-told : tie.Need-enum-told
 enum-told c = search needs
 
@@ -23,36 +26,37 @@ enum-told-2 c = search needs
 enum-known-unscaled : tie.Need-enum-known-unscaled
 enum-known-unscaled c = search needs
 
-scale-factor-in-range-requires : tie.Need-scale-factor-in-range-requires
-scale-factor-in-range-requires c κs = search needs
-
 -- The number that was found.
 found : (c : tie.After-unscaled)
     → NumberOf
-    (unscaled (c .before .before .before .args .quantity .«type_code») (c .before .before .before .args .quantity .raw))
+    (unscaled (c .before .before .before .before .args .quantity .«type_code») (c .before .before .before .before .args .quantity .raw))
     (c .unscaled .given .0 .0)
     (c .unscaled .given .0 .1 .0)
 found c =
-    let q = c .before .before .before .args .quantity in
+    let v = c .before .before .before in
+    let q = v .before .args .quantity in
     was-number (unscaled (q .«type_code») (q .raw)) (c .unscaled .given .0 .0) (c .unscaled .given .0 .1 .0)
-    (sym (c .before .before .unscaled-value .ensures) ∙ c .unscaled .given .1)
+    (sym (v .unscaled-value .ensures) ∙ c .unscaled .given .1)
 
 returns : tie.Need-returns
 returns c =
-    let u = c .before .before .before in
-    let q = u .before .before .before .args .quantity in
+    let u = c .before .before in
+    let s = u .before .before in
+    let q = s .before .before .args .quantity in
     let n = found u in
     ap acceptedForm
     (sym
     (scale-refused (q .«type_code») (q .raw) (scaleFactor (q .scale)) (n .value) (n .is)
-    (sym (c .before .scale-factor-in-range .ensures) ∙ not-true _ (c .if1 .taken))))
+    (sym (s .scale-factor-in-range .ensures) ∙ not-true _ (c .if1 .taken))))
 
 scaled-requires : tie.Need-scaled-requires
-scaled-requires c κs = sym (c .before .scale-factor-in-range .ensures) ∙ not-false _ (c .if1 .left)
+scaled-requires c κs =
+    let s = c .before .before .before .before in
+    sym (s .scale-factor-in-range .ensures) ∙ not-false _ (c .if1 .left)
 
 returns-2 : tie.Need-returns-2
 returns-2 c =
-    let v = c .before .before in
+    let v = c .before .before .before in
     let q = v .before .args .quantity in
     ap acceptedForm
     (sym
@@ -61,7 +65,7 @@ returns-2 c =
 
 returns-3 : tie.Need-returns-3
 returns-3 c =
-    let v = c .before .before in
+    let v = c .before .before .before in
     let q = v .before .args .quantity in
     ap acceptedForm
     (sym
@@ -71,25 +75,28 @@ returns-3 c =
 returns-4 : tie.Need-returns-4
 returns-4 c =
     let i = c .before in
-    let u = i .before .before .before in
-    let q = u .before .before .before .args .quantity in
+    let u = i .before .before in
+    let s = u .before .before in
+    let q = s .before .before .args .quantity in
     let n = found u in
-    let s = c .scaled .ensures in
-    ap Accepted.Of (same-parts (n .value) (scaleFactor (q .scale)) (c .scaled .result) (s .0 .0 ∙ n .sign) (s .0 .1 ∙ n .size) (s .1 .0) (s .1 .1))
+    let p = c .scaled .ensures in
+    let v = n .value in
+    ap Accepted.Of
+    (same-parts v (scaleFactor (q .scale)) (c .scaled .result) (p .0 .0 ∙ n .sign) (p .0 .1 ∙ n .size) (p .1 .0) (p .1 .1))
     ∙ ap acceptedForm
     (sym
-    (accepted (q .«type_code») (q .raw) (scaleFactor (q .scale)) (n .value) (n .is)
-    (sym (i .before .scale-factor-in-range .ensures) ∙ not-false _ (i .if1 .left))))
+    (accepted (q .«type_code») (q .raw) (scaleFactor (q .scale)) v (n .is)
+    (sym (s .scale-factor-in-range .ensures) ∙ not-false _ (i .if1 .left))))
 
 pub accept-spec : {M : Type 1} → statement M
 accept-spec =
     tie.close
     (tie.spec
     unscaled-value-requires
+    scale-factor-in-range-requires
     enum-told
     enum-told-2
     enum-known-unscaled
-    scale-factor-in-range-requires
     returns
     scaled-requires
     returns-2

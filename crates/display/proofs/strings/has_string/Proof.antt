@@ -1,6 +1,5 @@
 -- `has_string` is the definition's test of the size and the address.
-use mathlib.Core.Path.{_≡_, sym}
-use mathlib.Core.Bool.{_&&_, and-false}
+use mathlib.Core.Bool.{and-false}
 use Prim.Native.Nat.{_+_}
 use native.Mathlib.Omega.{arith}
 use borrow.Author.Tests.{le-leb, lt-leb}

@@ -1,5 +1,5 @@
 -- `integer_by_sign` reads the pattern by the type's kind.
-use mathlib.Core.Path.{_≡_, sym, ap, _∙_}
+use mathlib.Core.Path.{sym, ap, _∙_}
 use borrow.Author.Needs.{needs}
 use Rattle.values.specs.Answers.{rowMeans, kindMeans, bySign}
 use Rattle.values.proofs.Table.{signed-width}
