@@ -1,13 +1,15 @@
 -- The ways to a decimal text or its refusal, and the text by an amount's parts.
 use mathlib.Core.Path.{_≡_, refl, sym, ap, _∙_}
-use mathlib.Core.List.{List, [], _∷_, _++_, append-nil, append-assoc}
+use mathlib.Core.Logic.{_⊎_, inl, inr}
+use mathlib.Core.List.{[], _∷_, _++_, append-nil}
 use Prim.Native.Nat.{ℕ, zero, suc, _*_, _/_, _^_, _≤_, _<_}
 use native.Mathlib.Nat.{div-one, mul-one}
+use native.Mathlib.Omega.{arith}
 use borrow.Author.Tests.{lt-ltb, le-ltb}
 use lib.IntN.{ℤ}
 use Rattle.display.specs.Amounts.{Amount, amountOf}
-use Rattle.display.specs.Decimals.{decimalPoint, lastDigits, digitsOf, sign, decimalPlaces, signedText, Decimal, text, decimalOf}
-use Rattle.display.specs.Parts.{partsText}
+use Rattle.display.specs.Decimals.{decimalPoint, lastDigits, digitsOf, sign, unsignedText, Decimal, text, decimalOf}
+use Rattle.display.specs.Parts.{TenAtMost, partsText}
 use Rattle.display.specs.declared.quantities.ScaledNumber.{ScaledNumber}
 use Rattle.display.proofs.AmountCases.{WasAmount}
 
@@ -26,24 +28,24 @@ module _ (code raw : ℕ) (scale : ℤ) (room : ℕ) where
     long-buffer h = simp (decimalOf, was .is, le-ltb _ _ h) (ap (λ (p : ScaledNumber). text (partsText p)) (sym (was .form)))
 
 -- Without places the text is the whole number.
-pub whole-text : (a : ScaledNumber) → a .places ≡ 0 → sign (a .negative) ++ digitsOf (a .magnitude * 10 ^ a .zeros) ≡ partsText a
-unfolding signedText
-whole-text a e =
-    let n = a .magnitude * 10 ^ a .zeros in
-    sym
-    (ap (signedText (a .negative) n) e
-    ∙ ap (λ (m : ℕ). sign (a .negative) ++ digitsOf m ++ []) (div-one n)
-    ∙ append-nil (sign (a .negative) ++ digitsOf n))
+pub whole-text : (n : ℕ) → digitsOf n ≡ unsignedText n 0
+unfolding unsignedText
+whole-text n = sym (ap (λ (m : ℕ). digitsOf m ++ []) (div-one n) ∙ append-nil (digitsOf n))
 
 -- With places it is the whole part, the point and the last digits.
-pub places-text : (a : ScaledNumber) → (a .places ≡ 0 → ⊥) → a .zeros ≡ 0
-    → sign (a .negative) ++ (digitsOf (a .magnitude / 10 ^ a .places) ++ decimalPoint ∷ lastDigits (a .places) (a .magnitude)) ≡ partsText a
-unfolding signedText
-places-text a h e =
-    sym (append-assoc (sign (a .negative)) (digitsOf (a .magnitude / 10 ^ a .places)) (decimalPoint ∷ lastDigits (a .places) (a .magnitude)))
-    ∙ ap (λ (t : List ℕ). sign (a .negative) ++ digitsOf (a .magnitude / 10 ^ a .places) ++ t) (pointed (a .places) h)
-    ∙ ap (λ (n : ℕ). signedText (a .negative) n (a .places)) (sym (mul-one (a .magnitude)) ∙ ap (λ (k : ℕ). a .magnitude * 10 ^ k) (sym e))
-  where
-    pointed : (k : ℕ) → (k ≡ 0 → ⊥) → decimalPoint ∷ lastDigits k (a .magnitude) ≡ decimalPlaces k (a .magnitude)
-    pointed zero n = absurd (n refl)
-    pointed (suc k) n = refl
+pub places-text : (n k : ℕ) → 1 ≤ k → digitsOf (n / 10 ^ k) ++ decimalPoint ∷ lastDigits k n ≡ unsignedText n k
+unfolding unsignedText
+places-text n zero h = absurd (omega arith)
+places-text n (suc k) h = refl
+
+-- An amount has zeros or places, so its text has the one or the other.
+module _ (a : ScaledNumber) where
+  pub zeros-text : a .places ≡ 0 → sign (a .negative) ++ unsignedText (a .magnitude * 10 ^ a .zeros) 0 ≡ partsText a
+  zeros-text e = rw e
+
+  pub no-zeros-text : TenAtMost a → (a .places ≡ 0 → ⊥) → sign (a .negative) ++ unsignedText (a .magnitude) (a .places) ≡ partsText a
+  no-zeros-text t h = go (t .not-both)
+    where
+      go : (a .zeros ≡ 0) ⊎ (a .places ≡ 0) → sign (a .negative) ++ unsignedText (a .magnitude) (a .places) ≡ partsText a
+      go (inl e) = rw (e, mul-one (a .magnitude))
+      go (inr e) = absurd (h e)

@@ -1,7 +1,7 @@
 -- A decimal text, read back as a number, is value × 10 ^ scale, and it takes at most 30 bytes.
 use mathlib.Core.Path.{_≡_, refl, ap, _∙_}
 use mathlib.Core.Bool.{Bool, true, false}
-use mathlib.Core.List.{List, _++_}
+use mathlib.Core.List.{List}
 use mathlib.Core.Option.{some}
 use Prim.Native.Nat.{ℕ, suc, _+_, _-_, _*_, _/_, _^_, _≤_, _<_}
 use native.Mathlib.Nat.{div-one, mul-lt-mul-of-pos-right, div-lt-iff-lt-mul}
@@ -13,10 +13,10 @@ use lib.Pow.{pow-add}
 use Rattle.values.specs.Unscaled.{number, unscaled}
 use Rattle.values.proofs.UnscaledRange.{Within64}
 use Rattle.display.specs.Amounts.{Amount, amount, amountOf, fractionOf, zeros, places}
-use Rattle.display.specs.Decimals.{digitCount, digitsOf, sign, decimalPlaces, signedText, decimalText, Decimal, text, decimalOf}
+use Rattle.display.specs.Decimals.{digitCount, digitsOf, decimalPlaces, unsignedText, decimalText, Decimal, text, decimalOf}
 use Rattle.display.specs.Reading.{signed, readDecimal}
 use Rattle.display.proofs.PowersOfTen.{positive}
-use Rattle.display.proofs.DigitCount.{count, at-most}
+use Rattle.display.proofs.DigitCount.{at-most}
 use Rattle.display.proofs.DigitTexts.{digits-length, number-length}
 use Rattle.display.proofs.ScaleFactors.{TenOf}
 use Rattle.display.proofs.AmountCases.{amount-of, value-within, scale-within}
@@ -32,22 +32,19 @@ pub record Exact (code raw : ℕ) (scale : ℤ) (t : List ℕ) : Type 0 where
 
 -- Every text reads back, whatever the value and the scale factor.
 pub read-back : (value scale : ℤ) → readDecimal (decimalText value scale) ≡ some (fractionOf value scale)
-unfolding signedText readDecimal
+unfolding readDecimal
 read-back (pos a) scale =
     let n = a * 10 ^ zeros scale in
-    let p = places scale in
-    no-minus (digitCount (n / 10 ^ p)) (n / 10 ^ p) (decimalPlaces p n) (count (n / 10 ^ p) .some) ∙ ap (signed pos) (read-unsigned n p)
+    no-minus n (places scale) ∙ ap (signed pos) (read-unsigned n (places scale))
 read-back (negsuc a) scale = ap (signed (λ n. negℤ (pos n))) (read-unsigned (suc a * 10 ^ zeros scale) (places scale))
 
 -- ---- The length
 
-text-length : (negative : Bool) (n p : ℕ)
-    → length (signedText negative n p) ≡ length (sign negative) + digitCount (n / 10 ^ p) + length (decimalPlaces p n)
-unfolding signedText
-text-length negative n p =
-    length-both (sign negative ++ digitsOf (n / 10 ^ p)) (decimalPlaces p n)
-    ∙ ap (λ (x : ℕ). x + length (decimalPlaces p n))
-    (length-both (sign negative) (digitsOf (n / 10 ^ p)) ∙ ap (λ (x : ℕ). length (sign negative) + x) (number-length (n / 10 ^ p)))
+text-length : (n p : ℕ) → length (unsignedText n p) ≡ digitCount (n / 10 ^ p) + length (decimalPlaces p n)
+unfolding unsignedText
+text-length n p =
+    length-both (digitsOf (n / 10 ^ p)) (decimalPlaces p n)
+    ∙ ap (λ (x : ℕ). x + length (decimalPlaces p n)) (number-length (n / 10 ^ p))
 
 -- A number of at most d digits, with up to ten zeros or places.
 module _ (m d : ℕ) (wide : 11 ≤ d) (small : m < 10 ^ d) where
@@ -63,21 +60,15 @@ module _ (m d : ℕ) (wide : 11 ≤ d) (small : m < 10 ^ d) where
       let q : m * 10 ^ 0 / 10 ^ suc p < 10 ^ (d - suc p) = div-lt-iff-lt-mul {x = m * 10 ^ 0} {y = 10 ^ (d - suc p)} (positive (suc p)) .1 l in
       omega (arith, at-most (m * 10 ^ 0 / 10 ^ suc p) (d - suc p) (omega arith) q)
 
-  number-bound : (negative : Bool) (scale : ℤ) → TenOf scale
-      → length (signedText negative (m * 10 ^ zeros scale) (places scale)) ≤ length (sign negative) + d + 10
-  number-bound negative (pos k) t =
-      omega (arith, text-length negative (m * 10 ^ k) 0, zeros-length k, t .zeros-bound)
-  number-bound negative (negsuc p) t =
-      omega (
-        arith,
-        text-length negative (m * 10 ^ 0) (suc p),
-        places-length p (omega (arith, t .places-bound)),
-        digits-length (suc p) (m * 10 ^ 0),
-      )
+  number-bound : (scale : ℤ) → TenOf scale → length (unsignedText (m * 10 ^ zeros scale) (places scale)) ≤ d + 10
+  number-bound (pos k) t = omega (arith, text-length (m * 10 ^ k) 0, zeros-length k, t .zeros-bound)
+  number-bound (negsuc p) t =
+      omega
+      (arith, text-length (m * 10 ^ 0) (suc p), places-length p (omega (arith, t .places-bound)), digits-length (suc p) (m * 10 ^ 0))
 
 text-bound : (value scale : ℤ) → Within64 value → TenOf scale → length (decimalText value scale) ≤ 30
-text-bound (pos a) scale w t = number-bound a 20 (omega arith) (omega arith) false scale t
-text-bound (negsuc a) scale w t = number-bound (suc a) 19 (omega arith) (omega arith) true scale t
+text-bound (pos a) scale w t = number-bound a 20 (omega arith) (omega arith) scale t
+text-bound (negsuc a) scale w t = omega (arith, number-bound (suc a) 19 (omega arith) (omega arith) scale t)
 
 -- The claim.
 pub exactness : (code raw : ℕ) (scale : ℤ) (room : ℕ) (t : List ℕ) → decimalOf code raw scale room ≡ text t → Exact code raw scale t

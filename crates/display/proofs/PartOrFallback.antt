@@ -7,7 +7,7 @@ use Prim.Native.Nat.{ℕ, _≤_}
 use native.Mathlib.Omega.{arith}
 use lib.ListN.{length, take, drop, length-take}
 use lib.Seq.{take-take}
-use Rattle.display.specs.Text.{untilZeroByte, allZero, hasString, stringAt, text}
+use Rattle.display.specs.Text.{untilZeroByte, allZero, hasString, stringAt, textAt}
 use Rattle.display.proofs.TextPart.{text-prefix, text-shorter, no-string, string-of-zeros, string-shown}
 
 -- So many registers, at most the string's, from the address on.
@@ -18,24 +18,24 @@ pub record PartOf (map : List ℕ) (address size : ℕ) (part : List ℕ) : Type
 
 module _ (map : List ℕ) (address size : ℕ) (fallback : List ℕ) where
   -- The claim.
-  pub part-or-fallback : (text map address size fallback ≡ fallback) ⊎ PartOf map address size (text map address size fallback)
+  pub part-or-fallback : (textAt map address size fallback ≡ fallback) ⊎ PartOf map address size (textAt map address size fallback)
   part-or-fallback = by-place (hasString (length map) address size) refl
     where
       string : List ℕ
       string = stringAt map address size
 
       by-zeros : hasString (length map) address size ≡ true → (b : Bool) → allZero string ≡ b
-          → (text map address size fallback ≡ fallback) ⊎ PartOf map address size (text map address size fallback)
+          → (textAt map address size fallback ≡ fallback) ⊎ PartOf map address size (textAt map address size fallback)
       by-zeros h true z = inl (string-of-zeros map address size fallback string refl h z)
       by-zeros h false z = inr (record { count = length (untilZeroByte string); within = short; is = shown })
         where
           short : length (untilZeroByte string) ≤ size
           short = omega (arith, text-shorter string, length-take size (drop address map))
 
-          shown : text map address size fallback ≡ take (length (untilZeroByte string)) (drop address map)
+          shown : textAt map address size fallback ≡ take (length (untilZeroByte string)) (drop address map)
           shown = string-shown map address size fallback string refl h z ∙ text-prefix string ∙ take-take (length (untilZeroByte string)) size (drop address map) short
 
       by-place : (b : Bool) → hasString (length map) address size ≡ b
-          → (text map address size fallback ≡ fallback) ⊎ PartOf map address size (text map address size fallback)
+          → (textAt map address size fallback ≡ fallback) ⊎ PartOf map address size (textAt map address size fallback)
       by-place true h = by-zeros h (allZero string) refl
       by-place false h = inl (no-string map address size fallback h)

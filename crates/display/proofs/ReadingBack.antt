@@ -8,7 +8,7 @@ use native.Mathlib.Nat.{pow-suc, mod-lt, mod-one, mul-one, one-mul, zero-mul, mu
 use native.Mathlib.Omega.{arith}
 use borrow.Author.Tests.{le-leb, ne-eqb}
 use lib.IntN.{pos}
-use Rattle.display.specs.Decimals.{minusSign, digitZero, digitAt, lastDigits, digitCount, digitsOf, decimalPlaces}
+use Rattle.display.specs.Decimals.{minusSign, digitZero, digitAt, lastDigits, digitCount, decimalPlaces, unsignedText}
 use Rattle.display.specs.Reading.{isDigit, withDigit, readPlaces, readWhole, readUnsigned, signed, readDecimal}
 use Rattle.display.proofs.PowersOfTen.{positive}
 use Rattle.display.proofs.DigitCount.{count}
@@ -96,14 +96,14 @@ without-minus : (b : ℕ) (bs : List ℕ) → (b ≡ minusSign → ⊥) → read
 unfolding readDecimal
 without-minus b bs h = simp (readDecimal, ne-eqb b minusSign h)
 
-pub no-minus : (c m : ℕ) (rest : List ℕ) → 1 ≤ c → readDecimal (lastDigits c m ++ rest) ≡ signed pos (readUnsigned (lastDigits c m ++ rest))
+digit-first : (c m : ℕ) (rest : List ℕ) → 1 ≤ c → readDecimal (lastDigits c m ++ rest) ≡ signed pos (readUnsigned (lastDigits c m ++ rest))
 unfolding lastDigits
-no-minus zero m rest h = absurd (omega arith)
-no-minus (suc k) m rest h = without-minus (digitAt m k) (lastDigits k m ++ rest) (λ q. omega (arith, q))
+digit-first zero m rest h = absurd (omega arith)
+digit-first (suc k) m rest h = without-minus (digitAt m k) (lastDigits k m ++ rest) (λ q. omega (arith, q))
 
 -- n with so many places is n by 10 ^ places.
-pub read-unsigned : (n p : ℕ) → readUnsigned (digitsOf (n / 10 ^ p) ++ decimalPlaces p n) ≡ some (n, 10 ^ p)
-unfolding readWhole
+pub read-unsigned : (n p : ℕ) → readUnsigned (unsignedText n p) ≡ some (n, 10 ^ p)
+unfolding readWhole unsignedText
 read-unsigned n p =
     let w = n / 10 ^ p in
     let e : 0 * 10 ^ digitCount w + w % 10 ^ digitCount w ≡ w = omega (arith, zero-mul (10 ^ digitCount w), mod-eq-of-lt (count w .enough)) in
@@ -115,3 +115,8 @@ read-unsigned n p =
     behind : (q : ℕ) → readWhole (n / 10 ^ q) (decimalPlaces q n) ≡ some (n, 10 ^ q)
     behind zero = rw (div-one n)
     behind (suc q) = read-places (suc q) n (n / 10 ^ suc q) 1 ∙ rw (div-add-mod' n (10 ^ suc q), one-mul (10 ^ suc q))
+
+-- A text without a minus is read as a number without a sign.
+pub no-minus : (n p : ℕ) → readDecimal (unsignedText n p) ≡ signed pos (readUnsigned (unsignedText n p))
+unfolding unsignedText
+no-minus n p = let w = n / 10 ^ p in digit-first (digitCount w) w (decimalPlaces p n) (count w .some)

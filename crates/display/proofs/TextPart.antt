@@ -10,7 +10,7 @@ use borrow.Author.Tests.{eq-eqb, ne-eqb, le-leb, lt-leb, leb-true}
 use lib.Dec.{eqb, leb}
 use lib.ListN.{length, getD, take, drop, drop-of-length-le}
 use lib.Seq.{drop-cons}
-use Rattle.display.specs.Text.{untilZeroByte, allZero, hasString, stringAt, text}
+use Rattle.display.specs.Text.{untilZeroByte, allZero, hasString, stringAt, textAt}
 
 -- The text is the first registers, so many as it has.
 pub text-prefix : (rs : List ℕ) → untilZeroByte rs ≡ take (length (untilZeroByte rs)) rs
@@ -75,18 +75,18 @@ text-end rs i h = rw (drop-of-length-le rs h)
 
 -- The ways to the text or the fallback.
 module _ (map : List ℕ) (address size : ℕ) (fallback : List ℕ) where
-  pub no-string : hasString (length map) address size ≡ false → text map address size fallback ≡ fallback
-  unfolding text
-  no-string e = simp (text, e)
+  pub no-string : hasString (length map) address size ≡ false → textAt map address size fallback ≡ fallback
+  unfolding textAt
+  no-string e = simp (textAt, e)
 
   module _ (string : List ℕ) (is : string ≡ stringAt map address size) (has : hasString (length map) address size ≡ true) where
-    pub string-of-zeros : allZero string ≡ true → text map address size fallback ≡ fallback
-    unfolding text
-    string-of-zeros e = simp (text, has, ← is, e)
+    pub string-of-zeros : allZero string ≡ true → textAt map address size fallback ≡ fallback
+    unfolding textAt
+    string-of-zeros e = simp (textAt, has, ← is, e)
 
-    pub string-shown : allZero string ≡ false → text map address size fallback ≡ untilZeroByte string
-    unfolding text
-    string-shown e = simp (text, has, ← is, e)
+    pub string-shown : allZero string ≡ false → textAt map address size fallback ≡ untilZeroByte string
+    unfolding textAt
+    string-shown e = simp (textAt, has, ← is, e)
 
 -- A string lies in the map if its address is at most what the map is longer than it.
 pub string-end : (registers address size : ℕ) → size ≤ registers → leb address (registers - size) ≡ leb (address + size) registers

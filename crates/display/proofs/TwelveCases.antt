@@ -15,7 +15,7 @@ use Rattle.values.specs.Decoding.{Decoded, signed, unsigned, unimplemented, out
 use Rattle.values.specs.Encoding.{twosPattern}
 use Rattle.values.specs.Unscaled.{unscaled}
 use Rattle.display.specs.Amounts.{Amount, amountOf}
-use Rattle.display.specs.Decimals.{Decimal, text, decimalOf, lastDigits, digitCountWithin, signedText}
+use Rattle.display.specs.Decimals.{Decimal, text, decimalOf, lastDigits, digitCountWithin, unsignedText}
 use Rattle.display.specs.Equality.{Equality, equal, equality}
 
 -- What the document speaks of: a decoded value, a decimal text, a comparison.
@@ -91,5 +91,5 @@ there-are-twelve = refl
 
 -- The test: all that the definitions give is all that the document says.
 pub twelve-cases : map (map (λ (l : Line). l .0)) cases ≡ map (map (λ (l : Line). l .1)) cases
-unfolding cases rows rowAmong join tooWide twosComplement integer inRange classOf classified numberOf valueOf decodable decoded unscaled amountOf decimalOf lastDigits digitCountWithin signedText equality nanBits
+unfolding cases rows rowAmong join tooWide twosComplement integer inRange classOf classified numberOf valueOf decodable decoded unscaled amountOf decimalOf lastDigits digitCountWithin unsignedText equality nanBits
 twelve-cases = refl

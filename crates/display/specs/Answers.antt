@@ -26,15 +26,21 @@ abbrev pub eventAnswer : EventBits → Events.EventBits
 eventAnswer (EventBits.Of count lowest) = Events.bits count lowest
 eventAnswer (EventBits.Refused n) = Events.refused n
 
--- What `decimal` answers: the length of the text.
+-- What `decimal` is asked for: its scale is a register, and the room is the buffer's.
+abbrev pub decimalInto : ℕ → ℕ → ℕ → List ℕ → Decimals.Decimal
+decimalInto code raw scale buffer = Decimals.decimalOf code raw (scaleFactor scale) (length buffer)
+
+-- What it answers: the length of the text, or a refusal.
 pub data Length : Type 0 where
   bytes : ℕ → Length
   refused : ℕ → Length
 
+-- The length of what is asked for.
 abbrev pub lengthOf : Decimals.Decimal → Length
 lengthOf (Decimals.text t) = bytes (length t)
 lengthOf (Decimals.Decimal.refused n) = Length.refused n
 
+-- The answer of `decimal`.
 abbrev pub decimalAnswer : DecimalText → Length
 decimalAnswer (DecimalText.Length n) = bytes n
 decimalAnswer (DecimalText.Refused n) = Length.refused n

@@ -8,6 +8,7 @@ use lib.ListN.{length, drop}
 use lib.Signed.{nonNeg}
 use Rattle.display.specs.Amounts.{Amount, amount, amountOf, zeros, places}
 
+-- The bytes that a text is made of: the minus, the decimal point and the digits from 0 on.
 abbrev pub minusSign : ℕ
 minusSign = 45
 
@@ -26,12 +27,13 @@ unfoldable pub lastDigits : ℕ → ℕ → List ℕ
 lastDigits zero n = []
 lastDigits (suc k) n = digitAt n k ∷ lastDigits k n
 
--- How many digits n has: one if it is under ten, else one more than its tenth, rounded down. (The first number bounds the steps; n
+-- The digits of n, counted: one if it is under ten, else one more than its tenth, rounded down. (The first number bounds the steps; n
 -- of them are always enough: proofs/DigitCount.antt.)
 unfoldable pub digitCountWithin : ℕ → ℕ → ℕ
 digitCountWithin zero n = 1
 digitCountWithin (suc steps) n = elim (ltb n 10) [ true ↦ 1 | false ↦ suc (digitCountWithin steps (n / 10)) ]
 
+-- How many digits n has.
 abbrev pub digitCount : ℕ → ℕ
 digitCount n = digitCountWithin n n
 
@@ -50,18 +52,19 @@ decimalPlaces zero n = []
 decimalPlaces (suc k) n = decimalPoint ∷ lastDigits (suc k) n
 
 -- n / 10 ^ places, exactly: its whole part, which has a digit even if it is 0, and so many places after the decimal point.
-unfoldable pub signedText : Bool → ℕ → ℕ → List ℕ
-signedText negative n places = sign negative ++ digitsOf (n / 10 ^ places) ++ decimalPlaces places n
+unfoldable pub unsignedText : ℕ → ℕ → List ℕ
+unsignedText n places = digitsOf (n / 10 ^ places) ++ decimalPlaces places n
 
--- value × 10 ^ scale.
+-- value × 10 ^ scale as text: scale −k gives k digits after the point and at least one before it.
 abbrev pub decimalText : ℤ → ℤ → List ℕ
-decimalText value scale = signedText (not (nonNeg value)) (natAbs value * 10 ^ zeros scale) (places scale)
+decimalText value scale = sign (not (nonNeg value)) ++ unsignedText (natAbs value * 10 ^ zeros scale) (places scale)
 
--- What a buffer of so many bytes gets: a text or a refusal. 43–45 as for the amount; 46: under 32 bytes.
+-- What a buffer gets: a text, or nothing and a refusal.
 pub data Decimal : Type 0 where
   text : List ℕ → Decimal
   refused : ℕ → Decimal
 
+-- 43–45 as for the amount; 46: the buffer has under 32 bytes.
 unfoldable pub decimalOf : ℕ → ℕ → ℤ → ℕ → Decimal
 decimalOf code raw scale bufferLength =
     elim (amountOf code raw scale) [

@@ -5,6 +5,7 @@ use lib.Dec.{eqb}
 use lib.IntN.{ℤ, pos, negsuc, _*ℤ_}
 use Rattle.display.specs.Amounts.{Amount, amount, Fraction, fractionOf}
 
+-- Are two integers equal?
 abbrev pub isSameInteger : ℤ → ℤ → Bool
 isSameInteger (pos a) (pos b) = eqb a b
 isSameInteger (pos a) (negsuc b) = false
@@ -15,10 +16,12 @@ isSameInteger (negsuc a) (negsuc b) = eqb a b
 abbrev pub isSameFraction : Fraction → Fraction → Bool
 isSameFraction p q = isSameInteger (p .numerator *ℤ pos (q .denominator)) (q .numerator *ℤ pos (p .denominator))
 
+-- The answers: yes, no, or a refusal.
 pub data Equality : Type 0 where
   equal different : Equality
   refused : ℕ → Equality
 
+-- Yes where a test is true.
 abbrev pub equalIf : Bool → Equality
 equalIf true = equal
 equalIf false = different

@@ -2,7 +2,7 @@
 use mathlib.Core.Path.{_≡_}
 use mathlib.Core.Bool.{Bool, not, _&&_, Bool·beq}
 use mathlib.Core.Logic.{_⊎_}
-use mathlib.Core.List.{List}
+use mathlib.Core.List.{List, _++_}
 use Prim.Native.Nat.{ℕ, _+_, _*_, _^_, _≤_}
 use lib.Dec.{eqb}
 use lib.IntN.{ℤ, natAbs}
@@ -10,7 +10,7 @@ use lib.ListN.{length}
 use lib.Seq.{sets}
 use lib.Signed.{nonNeg}
 use Rattle.display.specs.Amounts as Amounts
-use Rattle.display.specs.Decimals.{signedText}
+use Rattle.display.specs.Decimals.{sign, unsignedText}
 use Rattle.display.specs.declared.quantities.ScaledNumber.{ScaledNumber}
 use Rattle.display.specs.declared.quantities.Accepted.{Accepted}
 
@@ -35,8 +35,9 @@ pub record TenAtMost (a : ScaledNumber) : Type 0 where
   pub places-bound : a .places ≤ 10
   pub not-both : (a .zeros ≡ 0) ⊎ (a .places ≡ 0)
 
+-- The text of an amount.
 abbrev pub partsText : ScaledNumber → List ℕ
-partsText a = signedText (a .negative) (a .magnitude * 10 ^ a .zeros) (a .places)
+partsText a = sign (a .negative) ++ unsignedText (a .magnitude * 10 ^ a .zeros) (a .places)
 
 -- The same sign, and the same magnitude where each is multiplied by the other's denominator. (No zero is negative here: `partsOf`.)
 unfoldable pub isSameByParts : ScaledNumber → ScaledNumber → Bool

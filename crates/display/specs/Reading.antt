@@ -8,6 +8,7 @@ use lib.IntN.{ℤ, pos, negℤ}
 use Rattle.display.specs.Amounts.{Fraction}
 use Rattle.display.specs.Decimals.{minusSign, decimalPoint, digitZero}
 
+-- Is a byte one of the digits 0 to 9?
 abbrev pub isDigit : ℕ → Bool
 isDigit byte = leb digitZero byte && leb byte (digitZero + 9)
 

@@ -14,6 +14,7 @@ untilZeroByte (r ∷ rs) =
       | false ↦ elim (eqb (r % 256) 0) [ true ↦ r ∷ [] | false ↦ r ∷ untilZeroByte rs ]
     ]
 
+-- Are all registers 0?
 unfoldable pub allZero : List ℕ → Bool
 allZero [] = true
 allZero (r ∷ rs) = eqb r 0 && allZero rs
@@ -26,10 +27,10 @@ hasString registers address size = leb 1 size && leb size 64 && leb (address + s
 abbrev pub stringAt : List ℕ → ℕ → ℕ → List ℕ
 stringAt map address size = take size (drop address map)
 
--- The part of the map that is shown. The fallback (document 01: "stand-in") comes back instead where all registers of the string
+-- Text: the part of the map that is shown. The fallback (document 01: "stand-in") comes back instead where all registers of the string
 -- are 0, the size is not 1–64 or it runs past the map.
-unfoldable pub text : List ℕ → ℕ → ℕ → List ℕ → List ℕ
-text map address size fallback =
+unfoldable pub textAt : List ℕ → ℕ → ℕ → List ℕ → List ℕ
+textAt map address size fallback =
     elim (hasString (length map) address size) [
       | false ↦ fallback
       | true ↦ elim (allZero (stringAt map address size)) [

@@ -1,10 +1,9 @@
 // Exact decimal text.
 ghost use mathlib.Core.Path.{_≡_};
-ghost use mathlib.Core.List.{_∷_, _++_};
-ghost use Prim.Native.Nat.{_+_, _*_, _/_, _^_, _≤_, _<_};
+ghost use Prim.Native.Nat.{_+_, _*_, _^_, _≤_, _<_};
 ghost use lib.ListN.{length};
-ghost use Rattle.display.specs.Decimals.{decimalPoint, digitAt, lastDigits, digitCount, digitsOf, sign, decimalOf, stored};
-ghost use Rattle.display.specs.Answers.{scaleFactor, lengthOf, decimalAnswer, LengthFits};
+ghost use Rattle.display.specs.Decimals.{digitAt, lastDigits, digitCount, digitsOf, sign, unsignedText, stored};
+ghost use Rattle.display.specs.Answers.{decimalInto, lengthOf, decimalAnswer, LengthFits};
 ghost use Rattle.display.specs.Parts.{TenAtMost, partsText, Put};
 use crate::DecimalText;
 use crate::Quantity;
@@ -17,10 +16,11 @@ use crate::quantities::accept;
 // Every buffer must have room for so many bytes, whatever the text.
 const ROOM: usize = 32;
 
-// Writes value × 10 ^ scale, exact, at the start of `out`.
+// Writes value × 10 ^ scale, exact, at the start of `out`, and answers the length of the text. On a
+// refusal nothing is written.
 pub fn decimal(type_code: u16, raw: u64, scale: u16, out: &mut [u8]) -> DecimalText
-    ensures { λ r. ⌜ decimalAnswer r ≡ lengthOf (decimalOf «type_code» raw (scaleFactor scale) (length (now (out .entry)))) ⌝ }
-    ensures { λ _. ⌜ now (out .exit) ≡ stored (decimalOf «type_code» raw (scaleFactor scale) (length (now (out .entry)))) (now (out .entry)) ⌝ }
+    ensures { λ r. ⌜ decimalAnswer r ≡ lengthOf (decimalInto «type_code» raw scale (now (out .entry))) ⌝ }
+    ensures { λ _. ⌜ now (out .exit) ≡ stored (decimalInto «type_code» raw scale (now (out .entry))) (now (out .entry)) ⌝ }
     ensures { λ r. ⌜ LengthFits (now (out .exit)) r ⌝ }
 {
     let accepted = accept(Quantity {
@@ -39,7 +39,8 @@ pub fn decimal(type_code: u16, raw: u64, scale: u16, out: &mut [u8]) -> DecimalT
     }
 }
 
-// The sign, the whole part and the places. Like each of the following it gives the position behind what it stored.
+// The sign, the whole part and the places. Like each of the following it gives the position behind what
+// it stored.
 fn put_amount(out: &mut [u8], amount: ScaledNumber) -> usize
     requires { ⌜ 32 ≤ length (now out) ⌝ }
     requires { ⌜ TenAtMost amount ⌝ }
@@ -69,7 +70,7 @@ fn put_sign(out: &mut [u8], negative: bool) -> usize
 // n × 10 ^ zeros: its digits and the zeros, but one 0 for zero.
 fn put_whole(out: &mut [u8], at: usize, n: u64, zeros: usize) -> usize
     requires { ⌜ (zeros ≤ 10) × (at + 30 ≤ length (now out)) ⌝ }
-    ensures { λ r. ⌜ Put (now (out .entry)) (now (out .exit)) at (digitsOf (n * 10 ^ zeros)) r ⌝ }
+    ensures { λ r. ⌜ Put (now (out .entry)) (now (out .exit)) at (unsignedText (n * 10 ^ zeros) 0) r ⌝ }
     ensures { λ r. ⌜ r ≤ at + 30 ⌝ }
 {
     if n == 0 {
@@ -81,8 +82,8 @@ fn put_whole(out: &mut [u8], at: usize, n: u64, zeros: usize) -> usize
 
 // n by 10 ^ places: the whole part, the point and the last digits.
 fn put_places(out: &mut [u8], at: usize, n: u64, places: usize) -> usize
-    requires { ⌜ (places ≤ 10) × (at + 31 ≤ length (now out)) ⌝ }
-    ensures { λ r. ⌜ Put (now (out .entry)) (now (out .exit)) at (digitsOf (n / 10 ^ places) ++ decimalPoint ∷ lastDigits places n) r ⌝ }
+    requires { ⌜ (1 ≤ places) × (places ≤ 10) × (at + 31 ≤ length (now out)) ⌝ }
+    ensures { λ r. ⌜ Put (now (out .entry)) (now (out .exit)) at (unsignedText n places) r ⌝ }
     ensures { λ r. ⌜ r ≤ at + 31 ⌝ }
 {
     let point = put_number(out, at, n / power_of_ten(places));

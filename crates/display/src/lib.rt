@@ -1,6 +1,6 @@
-// What a screen shows of a SunSpec point: the text of a string, the bits of an event field, an exact decimal number, and
-// whether two quantities are the same amount. Every public call takes any arguments and carries an equation with the
-// definitions of specs/.
+// What a screen shows of a SunSpec point: the text of a string, the bits of an event field, an exact
+// decimal number, and whether two quantities are the same amount. Every public call takes any arguments
+// and carries an equation with the definitions of specs/.
 mod comparison;
 mod decimals;
 mod events;
@@ -25,7 +25,7 @@ pub enum DecimalText {
     Refused { number: u16 },
 }
 
-// A raw value under its type, with its scale in two's complement.
+// A raw value under its type, with its scale factor as a register holds it: in two's complement.
 pub struct Quantity {
     pub type_code: u16,
     pub raw: u64,

@@ -2,7 +2,7 @@
 ghost use mathlib.Core.Path.{_≡_};
 ghost use Prim.Native.Nat.{_^_, _<_};
 
-// How many powers of ten are there below 2 ^ 64.
+// How many powers of ten there are below 2 ^ 64.
 pub(crate) const POWERS: usize = 20;
 
 const POWERS_OF_TEN: [u64; POWERS] = [

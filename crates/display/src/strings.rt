@@ -2,11 +2,12 @@
 ghost use mathlib.Core.Path.{_≡_};
 ghost use Prim.Native.Nat.{_+_, _≤_};
 ghost use lib.ListN.{length, take, drop};
-ghost use Rattle.display.specs.Text.{hasString, allZero, untilZeroByte, text as textSpec};
+ghost use Rattle.display.specs.Text.{hasString, allZero, untilZeroByte, textAt};
 
-// The text of `size` registers from `address` on: a part of the map, or the fallback where there is none.
+// The text of the `size` registers from `address` on, a part of the map; or the fallback where there is
+// no such string.
 pub fn text<'a>(map: &'a [u16], address: usize, size: usize, fallback: &'a [u16]) -> &'a [u16]
-    ensures { λ r. ⌜ now r ≡ textSpec (now (map .entry)) address size (now (fallback .entry)) ⌝ }
+    ensures { λ r. ⌜ now r ≡ textAt (now (map .entry)) address size (now (fallback .entry)) ⌝ }
 {
     if !has_string(map.len(), address, size) {
         return fallback;
@@ -18,8 +19,8 @@ pub fn text<'a>(map: &'a [u16], address: usize, size: usize, fallback: &'a [u16]
     part(string, 0, text_length(string))
 }
 
-// Has a map of so many registers a string at the address, of 1 to 64 registers? The size is taken from what there is: a
-// sum could be more than a usize holds.
+// Has a map of so many registers a string at the address, of 1 to 64 registers? The size is taken from
+// what there is: a sum could be more than a usize holds.
 fn has_string(registers: usize, address: usize, size: usize) -> bool
     ensures { λ r. ⌜ r ≡ hasString registers address size ⌝ }
 {
@@ -43,6 +44,7 @@ fn part<'a>(s: &'a [u16], start: usize, count: usize) -> &'a [u16]
     &s[start..start + count]
 }
 
+// Are all registers 0? At most 64 are looked at.
 fn all_zero(string: &[u16]) -> bool
     ensures { λ r. ⌜ r ≡ allZero (now (string .entry)) ⌝ }
 {
@@ -56,7 +58,8 @@ fn all_zero(string: &[u16]) -> bool
     true
 }
 
-// How many registers the text takes: up to the first with a zero byte, and that one if only its low byte is zero.
+// How many registers the text takes: up to the first with a zero byte, and that one if only its low byte
+// is zero.
 fn text_length(string: &[u16]) -> usize
     ensures { λ r. ⌜ r ≡ length (untilZeroByte (now (string .entry))) ⌝ }
 {

@@ -32,7 +32,7 @@ isUnimplemented (pattern p) raw = eqb raw p
 abbrev pub isBetween : ℤ → ℤ → ℤ → Bool
 isBetween low high z = leZ low z && leZ z high
 
--- Is an integer a scale factor: from −10 to 10?
+-- Is an integer a scale factor (document 01, row 8): from −10 to 10?
 abbrev pub isScaleFactor : ℤ → Bool
 isScaleFactor z = isBetween (negℤ (pos 10)) (pos 10) z
 

@@ -35,11 +35,11 @@ pub record TypeRow : Type 0 where
   pub range : Range
 
 -- Document 01's s: a point of the type may carry a scale factor, or may not.
-abbrev scaled : Bool
-scaled = true
+abbrev withScale : Bool
+withScale = true
 
-abbrev unscaled : Bool
-unscaled = false
+abbrev noScale : Bool
+noScale = false
 
 -- A row, written on one line: code, fewest and most registers, may it carry a scale factor, kind, unimplemented, range.
 abbrev pub row : ℕ → ℕ → ℕ → Bool → Kind → Unimplemented → Range → TypeRow
@@ -53,26 +53,26 @@ upTo n = between (pos 0) (pos n)
 -- Document 01, "The value rows", row by row.
 unfoldable pub rows : List TypeRow
 rows =
-    row 1 1 1 scaled signed (pattern 0x8000) whole  -- int16
-    ∷ row 2 1 1 scaled unsigned (pattern 0xFFFF) whole  -- uint16
-    ∷ row 3 1 1 scaled unsigned (pattern 0) whole  -- acc16
-    ∷ row 4 1 1 unscaled unsigned (pattern 0xFFFF) whole  -- enum16
-    ∷ row 5 1 1 unscaled unsigned (pattern 0xFFFF) (upTo 0x7FFF)  -- bitfield16
-    ∷ row 6 1 1 unscaled unsigned never (between (pos 0x8000) (pos 0x8000))  -- pad
-    ∷ row 7 1 1 unscaled unsigned never whole  -- raw16
-    ∷ row 8 1 1 unscaled signed (pattern 0x8000) (between (negℤ (pos 10)) (pos 10))  -- sunssf
-    ∷ row 9 2 2 scaled signed (pattern 0x80000000) whole  -- int32
-    ∷ row 10 2 2 scaled unsigned (pattern 0xFFFFFFFF) whole  -- uint32
-    ∷ row 11 2 2 scaled unsigned (pattern 0) whole  -- acc32
-    ∷ row 12 2 2 unscaled unsigned (pattern 0xFFFFFFFF) whole  -- enum32
-    ∷ row 13 2 2 unscaled unsigned (pattern 0xFFFFFFFF) (upTo 0x7FFFFFFF)  -- bitfield32
-    ∷ row 14 2 2 unscaled float (pattern 0x7FC00000) notNaN  -- float32
-    ∷ row 15 2 2 unscaled unsigned (pattern 0) whole  -- ipaddr
-    ∷ row 16 4 4 scaled signed (pattern 0x8000000000000000) whole  -- int64
-    ∷ row 17 4 4 scaled unsigned (pattern 0xFFFFFFFFFFFFFFFF) whole  -- uint64
-    ∷ row 18 4 4 scaled unsigned (pattern 0) (upTo 9223372036854775807)  -- acc64
-    ∷ row 19 1 64 unscaled unsigned (pattern 0) whole  -- string
-    ∷ row 20 8 8 unscaled unsigned (pattern 0) whole  -- ipv6addr
+    row 1 1 1 withScale signed (pattern 0x8000) whole  -- int16
+    ∷ row 2 1 1 withScale unsigned (pattern 0xFFFF) whole  -- uint16
+    ∷ row 3 1 1 withScale unsigned (pattern 0) whole  -- acc16
+    ∷ row 4 1 1 noScale unsigned (pattern 0xFFFF) whole  -- enum16
+    ∷ row 5 1 1 noScale unsigned (pattern 0xFFFF) (upTo 0x7FFF)  -- bitfield16
+    ∷ row 6 1 1 noScale unsigned never (between (pos 0x8000) (pos 0x8000))  -- pad
+    ∷ row 7 1 1 noScale unsigned never whole  -- raw16
+    ∷ row 8 1 1 noScale signed (pattern 0x8000) (between (negℤ (pos 10)) (pos 10))  -- sunssf
+    ∷ row 9 2 2 withScale signed (pattern 0x80000000) whole  -- int32
+    ∷ row 10 2 2 withScale unsigned (pattern 0xFFFFFFFF) whole  -- uint32
+    ∷ row 11 2 2 withScale unsigned (pattern 0) whole  -- acc32
+    ∷ row 12 2 2 noScale unsigned (pattern 0xFFFFFFFF) whole  -- enum32
+    ∷ row 13 2 2 noScale unsigned (pattern 0xFFFFFFFF) (upTo 0x7FFFFFFF)  -- bitfield32
+    ∷ row 14 2 2 noScale float (pattern 0x7FC00000) notNaN  -- float32
+    ∷ row 15 2 2 noScale unsigned (pattern 0) whole  -- ipaddr
+    ∷ row 16 4 4 withScale signed (pattern 0x8000000000000000) whole  -- int64
+    ∷ row 17 4 4 withScale unsigned (pattern 0xFFFFFFFFFFFFFFFF) whole  -- uint64
+    ∷ row 18 4 4 withScale unsigned (pattern 0) (upTo 9223372036854775807)  -- acc64
+    ∷ row 19 1 64 noScale unsigned (pattern 0) whole  -- string
+    ∷ row 20 8 8 noScale unsigned (pattern 0) whole  -- ipv6addr
     ∷ []
 
 -- The first row of a list with a type code, or none.

@@ -1,22 +1,10 @@
 -- `put_amount` stores the sign and then the number, with or without places.
-use mathlib.Core.Path.{_≡_}
-use mathlib.Core.Logic.{_⊎_, inl, inr}
 use native.Mathlib.Omega.{arith}
 use borrow.Author.Needs.{needs}
-use Rattle.display.specs.Parts.{TenAtMost}
-use Rattle.display.specs.declared.quantities.ScaledNumber.{ScaledNumber}
-use Rattle.display.proofs.DecimalCases.{whole-text, places-text}
+use Rattle.display.proofs.DecimalCases.{zeros-text, no-zeros-text}
 use Rattle.display.proofs.StoredTexts.{put-both, put-same, put-length}
 use Rattle.display.proofs.decimals.put_amount.Statement.{statement}
 use Rattle.display.proofs.decimals.put_amount.Tie as tie
-
--- With places there are no zeros.
-no-zeros : (a : ScaledNumber) → TenAtMost a → (a .places ≡ 0 → ⊥) → a .zeros ≡ 0
-no-zeros a t h = go (t .not-both)
-  where
-    go : (a .zeros ≡ 0) ⊎ (a .places ≡ 0) → a .zeros ≡ 0
-    go (inl e) = e
-    go (inr e) = absurd (h e)
 
 put-sign-requires : tie.Need-put-sign-requires
 put-sign-requires c κs = search needs
@@ -36,13 +24,13 @@ returns c =
     let i = q .before .before in
     let p = i .before .before .before .before in
     let a = p .before .before .before .args .amount in
-    (put-same (whole-text a (i .if1 .taken)) (put-both (p .put-sign .ensures .0) (q .put-whole .ensures .0)), omega arith)
+    (put-same (zeros-text a (i .if1 .taken)) (put-both (p .put-sign .ensures .0) (q .put-whole .ensures .0)), omega arith)
 
 put-places-requires : tie.Need-put-places-requires
 put-places-requires c κs =
     let p = c .before .before .before .before .before in
     let s = p .before .before .before in
-    (s .pre .1 .places-bound, omega (arith, put-length (p .put-sign .ensures .0), s .pre .0))
+    (omega (arith, c .before .if1 .left), s .pre .1 .places-bound, omega (arith, put-length (p .put-sign .ensures .0), s .pre .0))
 
 same-length-2 : tie.Need-same-length-2
 same-length-2 c = search needs
@@ -54,7 +42,7 @@ returns-2 c =
     let p = i .before .before .before .before in
     let s = p .before .before .before in
     let a = s .args .amount in (
-      put-same (places-text a (i .if1 .left) (no-zeros a (s .pre .1) (i .if1 .left))) (put-both (p .put-sign .ensures .0) (q .put-places .ensures .0)),
+      put-same (no-zeros-text a (s .pre .1) (i .if1 .left)) (put-both (p .put-sign .ensures .0) (q .put-places .ensures .0)),
       omega arith,
     )
 

@@ -6,6 +6,7 @@ use borrow.Author.Needs.{needs}
 use lib.ListN.{length-set}
 use Rattle.display.specs.Decimals.{decimalPoint, digitsOf}
 use Rattle.display.proofs.PowersOfTen.{positive}
+use Rattle.display.proofs.DecimalCases.{places-text}
 use Rattle.display.proofs.StoredTexts.{put-byte, put-both, put-same, put-length}
 use Rattle.display.proofs.decimals.put_places.Statement.{statement}
 use Rattle.display.proofs.decimals.put_places.Tie as tie
@@ -48,7 +49,7 @@ returns c =
     let a = w .before .before .before .args in
     let whole = put-same (ap (λ (u : ℕ). digitsOf (a .n / u)) (w .power-of-ten .ensures)) (p .put-number .ensures .0) in
     let pointed = put-both (put-byte (p .put-number .last .0) (p .put-number .result) decimalPoint) (q .put-digits .ensures .0) in
-    (put-both whole pointed, omega arith)
+    (put-same (places-text (a .n) (a .places) (omega arith)) (put-both whole pointed), omega arith)
 
 pub put-places-spec : {M : Type 1} → statement M
 put-places-spec =

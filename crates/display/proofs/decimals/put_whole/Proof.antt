@@ -1,8 +1,10 @@
 -- `put_whole` stores one 0 for zero, else the digits and the zeros behind them.
-use mathlib.Core.Path.{sym}
+use mathlib.Core.Path.{sym, _∙_}
+use Prim.Native.Nat.{_*_, _^_}
 use native.Mathlib.Omega.{arith}
 use borrow.Author.Needs.{needs}
 use Rattle.display.proofs.DigitTexts.{appended-zeros, zero-text}
+use Rattle.display.proofs.DecimalCases.{whole-text}
 use Rattle.display.proofs.StoredTexts.{put-both, put-same, put-length}
 use Rattle.display.proofs.decimals.put_whole.Statement.{statement}
 use Rattle.display.proofs.decimals.put_whole.Tie as tie
@@ -18,7 +20,8 @@ returns c =
     let p = c .before .before in
     let i = p .before .before in
     let a = i .before .before .args in
-    (put-same (sym (zero-text (a .n) (a .zeros) (i .if1 .taken))) (p .put-digits .ensures .0), omega arith)
+    let text = sym (zero-text (a .n) (a .zeros) (i .if1 .taken)) ∙ whole-text (a .n * 10 ^ a .zeros) in
+    (put-same text (p .put-digits .ensures .0), omega arith)
 
 put-number-requires : tie.Need-put-number-requires
 put-number-requires c κs = search needs
@@ -37,7 +40,8 @@ returns-2 c =
     let p = q .before .before .before .before in
     let i = p .before .before in
     let a = i .before .before .args in
-    (put-same (sym (appended-zeros (a .n) (a .zeros) (omega arith))) (put-both (p .put-number .ensures .0) (q .put-digits2 .ensures .0)), omega arith)
+    let text = sym (appended-zeros (a .n) (a .zeros) (omega arith)) ∙ whole-text (a .n * 10 ^ a .zeros) in
+    (put-same text (put-both (p .put-number .ensures .0) (q .put-digits2 .ensures .0)), omega arith)
 
 pub put-whole-spec : {M : Type 1} → statement M
 put-whole-spec =
