@@ -1,11 +1,11 @@
 -- The digits of a number do not begin with 0, but for zero itself, which is the one digit 0.
-use mathlib.Core.Path.{_≡_}
+use mathlib.Core.Path.{_≡_, refl}
 use mathlib.Core.List.{List, [], _∷_}
 use Prim.Native.Nat.{ℕ, zero, suc, _-_, _*_, _/_, _^_, _≤_, _<_}
 use native.Mathlib.Nat.{pow-suc, one-mul, le-div-iff-mul-le, div-lt-iff-lt-mul, mod-eq-of-lt}
 use native.Mathlib.Omega.{arith}
 use native.Mathlib.Decide.{decLe}
-use Rattle.display.specs.Decimals.{digitZero, digitAt, lastDigits, digitCount, digitsOf}
+use Rattle.display.specs.Decimals.{digitZero, digitAt, lastDigits, digitCountWithin, digitCount, digitsOf}
 use Rattle.display.proofs.PowersOfTen.{positive}
 use Rattle.display.proofs.DigitCount.{CountOf, count}
 
@@ -33,3 +33,7 @@ no-leading-zero n h = go (digitCount n) (count n)
     go : (c : ℕ) → CountOf n c → NotZeroFirst (lastDigits c n)
     go zero o = absurd (omega (arith, o .some))
     go (suc c) o = first-digit n c h o
+
+pub zero-alone : digitsOf 0 ≡ digitZero ∷ []
+unfolding lastDigits digitCountWithin
+zero-alone = refl
