@@ -2,13 +2,14 @@
 use mathlib.Core.Path.{_≡_, refl, sym, ap, _∙_}
 use mathlib.Core.Bool.{Bool, true, false}
 use Prim.Native.Nat.{_<_}
-use lib.IntN.{ℤ, pos, _*ℤ_}
+use lib.IntN.{ℤ, pos, negsuc, _*ℤ_}
 use Rattle.display.specs.Amounts.{Amount, amount, refused, places, Fraction, fractionOf}
-use Rattle.display.specs.Equality.{isSameFraction, equalIf, equal, equality}
+use Rattle.display.specs.Equality.{isSameInteger, isSameFraction, equalIf, equal, equality}
 use Rattle.display.proofs.PowersOfTen.{positive}
+use Rattle.display.proofs.Multiples.{same-test}
 use Rattle.display.proofs.ScaledIntegers.{swap, cancel, same-integer, integer-same}
 
--- The quantity has an amount.
+-- The quantity that an amount was made of is accepted.
 abbrev pub Accepted : Amount → Type 0
 Accepted (amount value scale) = Unit {0}
 Accepted (refused n) = ⊥
@@ -40,11 +41,21 @@ pub reflexive : (a : Amount) → Accepted a → equality a a ≡ equal
 reflexive (amount v s) h = means-equal v s v s refl
 reflexive (refused n) h = absurd h
 
-pub symmetric : (a b : Amount) → equality a b ≡ equal → equality b a ≡ equal
+either-way : (x y : ℤ) → isSameInteger x y ≡ isSameInteger y x
+either-way (pos a) (pos b) = same-test a b b a sym sym
+either-way (pos a) (negsuc b) = refl
+either-way (negsuc a) (pos b) = refl
+either-way (negsuc a) (negsuc b) = same-test a b b a sym sym
+
+-- The answer is the same for the two quantities turned round.
+pub symmetric : (a b : Amount) → Accepted a → Accepted b → equality a b ≡ equality b a
 unfolding equality
-symmetric (amount v s) (amount w t) e = means-equal w t v s (sym (equal-means v s w t e))
-symmetric (amount v s) (refused n) e = cc
-symmetric (refused n) b e = cc
+symmetric (amount v s) (amount w t) h k =
+    let p = fractionOf v s in
+    let q = fractionOf w t in
+    ap equalIf (either-way (p .numerator *ℤ pos (q .denominator)) (q .numerator *ℤ pos (p .denominator)))
+symmetric (amount v s) (refused n) h k = absurd k
+symmetric (refused n) b h k = absurd h
 
 -- With a common denominator in between.
 through : (a b c : Fraction) → 0 < a .denominator → 0 < b .denominator → 0 < c .denominator → SameNumber a b → SameNumber b c
