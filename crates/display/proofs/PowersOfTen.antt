@@ -12,10 +12,6 @@ positive k = one-le-pow k 10 (omega arith)
 pub grow : {i j : ℕ} → i ≤ j → 10 ^ i ≤ 10 ^ j
 grow h = pow-le-pow-right {n = 10} (omega arith) h
 
--- Twenty digits hold every number of 64 bits.
-pub twenty-digits : (n : ℕ) → n < 2 ^ 64 → n < 10 ^ 20
-twenty-digits n h = omega arith
-
 -- p, ten times p, and so on.
 unfoldable pub tenfold : ℕ → ℕ → List ℕ
 tenfold zero p = []
