@@ -12,7 +12,7 @@ use Rattle.display.specs.Amounts.{Amount, amount, refused, amountOf, zer
 use Rattle.display.specs.Parts.{partsOf, acceptedForm, TenAtMost}
 use Rattle.display.specs.declared.quantities.ScaledNumber.{ScaledNumber}
 use Rattle.display.specs.declared.quantities.Accepted.{Accepted}
-use Rattle.display.proofs.ScaleFactors.{TenOf, ten-at-most}
+use Rattle.display.proofs.ScaleFactors.{ten-at-most}
 
 module _ (code raw : ℕ) (scale : ℤ) where
   pub type-refused : unscaled code raw ≡ notScalable → amountOf code raw scale ≡ refused 43
@@ -64,7 +64,7 @@ module _ (code raw : ℕ) (scale : ℤ) where
   pub value-within : (value s : ℤ) → amountOf code raw scale ≡ amount value s → Within64 value
   value-within value s e = unscaled-range code raw value (amount-of value s e .is)
 
-  pub scale-within : (value s : ℤ) → amountOf code raw scale ≡ amount value s → TenOf s
+  pub scale-within : (value s : ℤ) → amountOf code raw scale ≡ amount value s → TenAtMost (zeros s) (places s)
   scale-within value s e = let a = amount-of value s e in rw (← a .same-scale) (ten-at-most scale (a .in-range))
 
 -- What the code's reading of a quantity tells of its amount.
@@ -83,11 +83,11 @@ was-amount (amount value scale) parts e = record { value = value; scale = scale;
 was-amount (refused m) parts e = let z : _≡_ {A = ℕ} 0 1 = cc in absurd (omega arith)
 
 -- The parts are bounded by the scale factor's range.
-pub parts-within : (code raw : ℕ) (s : ℤ) (parts : ScaledNumber) → Accepted.Of parts ≡ acceptedForm (amountOf code raw s) → TenAtMost parts
+pub parts-within : (code raw : ℕ) (s : ℤ) (parts : ScaledNumber) → Accepted.Of parts ≡ acceptedForm (amountOf code raw s)
+    → TenAtMost (parts .zeros) (parts .places)
 parts-within code raw s parts e =
     let w = was-amount (amountOf code raw s) parts e in
-    let t = scale-within code raw s (w .value) (w .scale) (w .is) in
-    rw (w .form) (record { zeros-bound = t .zeros-bound; places-bound = t .places-bound; not-both = t .not-both })
+    rw (w .form) (scale-within code raw s (w .value) (w .scale) (w .is))
 
 -- Parts that agree one by one are the same.
 pub same-parts : (value scale : ℤ) (parts : ScaledNumber) → parts .negative ≡ not (nonNeg value) → parts .magnitude ≡ natAbs value

@@ -43,7 +43,7 @@ module _ (a : ScaledNumber) where
   pub zeros-text : a .places ≡ 0 → sign (a .negative) ++ unsignedText (a .magnitude * 10 ^ a .zeros) 0 ≡ partsText a
   zeros-text e = rw e
 
-  pub no-zeros-text : TenAtMost a → (a .places ≡ 0 → ⊥) → sign (a .negative) ++ unsignedText (a .magnitude) (a .places) ≡ partsText a
+  pub no-zeros-text : TenAtMost (a .zeros) (a .places) → (a .places ≡ 0 → ⊥) → sign (a .negative) ++ unsignedText (a .magnitude) (a .places) ≡ partsText a
   no-zeros-text t h = go (t .not-both)
     where
       go : (a .zeros ≡ 0) ⊎ (a .places ≡ 0) → sign (a .negative) ++ unsignedText (a .magnitude) (a .places) ≡ partsText a

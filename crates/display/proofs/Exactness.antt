@@ -14,11 +14,11 @@ use Rattle.values.specs.Unscaled.{number, unscaled}
 use Rattle.values.proofs.UnscaledRange.{Within64}
 use Rattle.display.specs.Amounts.{Amount, amount, amountOf, fractionOf, zeros, places}
 use Rattle.display.specs.Decimals.{digitCount, digitsOf, decimalPlaces, unsignedText, decimalText, Decimal, text, decimalOf}
+use Rattle.display.specs.Parts.{TenAtMost}
 use Rattle.display.specs.Reading.{signed, readDecimal}
 use Rattle.display.proofs.PowersOfTen.{positive}
 use Rattle.display.proofs.DigitCount.{at-most}
 use Rattle.display.proofs.DigitTexts.{digits-length, number-length}
-use Rattle.display.proofs.ScaleFactors.{TenOf}
 use Rattle.display.proofs.AmountCases.{amount-of, value-within, scale-within}
 use Rattle.display.proofs.ReadingBack.{read-unsigned, no-minus}
 use Rattle.display.proofs.StoredTexts.{length-both}
@@ -60,13 +60,13 @@ module _ (m d : ℕ) (wide : 11 ≤ d) (small : m < 10 ^ d) where
       let q : m * 10 ^ 0 / 10 ^ suc p < 10 ^ (d - suc p) = div-lt-iff-lt-mul {x = m * 10 ^ 0} {y = 10 ^ (d - suc p)} (positive (suc p)) .1 l in
       omega (arith, at-most (m * 10 ^ 0 / 10 ^ suc p) (d - suc p) (omega arith) q)
 
-  number-bound : (scale : ℤ) → TenOf scale → length (unsignedText (m * 10 ^ zeros scale) (places scale)) ≤ d + 10
+  number-bound : (scale : ℤ) → TenAtMost (zeros scale) (places scale) → length (unsignedText (m * 10 ^ zeros scale) (places scale)) ≤ d + 10
   number-bound (pos k) t = omega (arith, text-length (m * 10 ^ k) 0, zeros-length k, t .zeros-bound)
   number-bound (negsuc p) t =
       omega
       (arith, text-length (m * 10 ^ 0) (suc p), places-length p (omega (arith, t .places-bound)), digits-length (suc p) (m * 10 ^ 0))
 
-text-bound : (value scale : ℤ) → Within64 value → TenOf scale → length (decimalText value scale) ≤ 30
+text-bound : (value scale : ℤ) → Within64 value → TenAtMost (zeros scale) (places scale) → length (decimalText value scale) ≤ 30
 text-bound (pos a) scale w t = number-bound a 20 (omega arith) (omega arith) scale t
 text-bound (negsuc a) scale w t = omega (arith, number-bound (suc a) 19 (omega arith) (omega arith) scale t)
 

@@ -3,17 +3,18 @@ use mathlib.Core.Path.{_≡_, refl, _∙_}
 use mathlib.Core.Bool.{Bool, true, false}
 use mathlib.Core.Logic.{_⊎_, inl, inr}
 use mathlib.Core.List.{List}
-use Prim.Native.Nat.{ℕ, _≤_}
+use Prim.Native.Nat.{ℕ, _+_, _≤_}
 use native.Mathlib.Omega.{arith}
 use lib.ListN.{length, take, drop, length-take}
 use lib.Seq.{take-take}
 use Rattle.display.specs.Text.{untilZeroByte, allZero, hasString, stringAt, textAt}
-use Rattle.display.proofs.TextPart.{text-prefix, text-shorter, no-string, string-of-zeros, string-shown}
+use Rattle.display.proofs.TextPart.{text-prefix, text-shorter, no-string, string-of-zeros, string-shown, string-lies}
 
 -- So many registers, at most the string's, from the address on.
 pub record PartOf (map : List ℕ) (address size : ℕ) (part : List ℕ) : Type 0 where
   pub count : ℕ
   pub within : count ≤ size
+  pub inside : address + count ≤ length map
   pub is : part ≡ take count (drop address map)
 
 module _ (map : List ℕ) (address size : ℕ) (fallback : List ℕ) where
@@ -27,7 +28,7 @@ module _ (map : List ℕ) (address size : ℕ) (fallback : List ℕ) where
       by-zeros : hasString (length map) address size ≡ true → (b : Bool) → allZero string ≡ b
           → (textAt map address size fallback ≡ fallback) ⊎ PartOf map address size (textAt map address size fallback)
       by-zeros h true z = inl (string-of-zeros map address size fallback string refl h z)
-      by-zeros h false z = inr (record { count = length (untilZeroByte string); within = short; is = shown })
+      by-zeros h false z = inr (record { count = length (untilZeroByte string); within = short; inside = omega (arith, short, string-lies (length map) address size h); is = shown })
         where
           short : length (untilZeroByte string) ≤ size
           short = omega (arith, text-shorter string, length-take size (drop address map))

@@ -13,7 +13,7 @@ use Rattle.display.specs.Reading.{isDigit, withDigit, readPlaces, readWh
 use Rattle.display.proofs.PowersOfTen.{positive}
 use Rattle.display.proofs.DigitCount.{count}
 
--- A digit is one, and no minus.
+-- What `digitAt` gives is read as a digit, and as its own value.
 digit-small : (n k : ℕ) → n / 10 ^ k % 10 < 10
 digit-small n k = mod-lt (n / 10 ^ k) (omega arith)
 
@@ -101,7 +101,7 @@ unfolding lastDigits
 digit-first zero m rest h = absurd (omega arith)
 digit-first (suc k) m rest h = without-minus (digitAt m k) (lastDigits k m ++ rest) (λ q. omega (arith, q))
 
--- n with so many places is n by 10 ^ places.
+-- n with so many places is read as n / 10 ^ places.
 pub read-unsigned : (n p : ℕ) → readUnsigned (unsignedText n p) ≡ some (n, 10 ^ p)
 unfolding readWhole unsignedText
 read-unsigned n p =

@@ -2,7 +2,7 @@
 use mathlib.Core.Path.{_≡_, refl, sym, ap, _∙_}
 use mathlib.Core.Bool.{Bool, true, false, not, _&&_, Bool·beq}
 use Prim.Native.Nat.{ℕ, _+_, _-_, _*_, _^_, _≤_}
-use native.Mathlib.Nat.{mul-assoc, mul-comm, eq-of-mul-eq-mul-left}
+use native.Mathlib.Nat.{mul-assoc}
 use native.Mathlib.Omega.{arith}
 use lib.Dec.{eqb}
 use lib.IntN.{ℤ, pos, _*ℤ_}
@@ -13,7 +13,7 @@ use Rattle.display.specs.Parts.{partsOf, isSameByParts}
 use Rattle.display.specs.declared.quantities.ScaledNumber.{ScaledNumber}
 use Rattle.display.proofs.PowersOfTen.{positive}
 use Rattle.display.proofs.Multiples.{same-test}
-use Rattle.display.proofs.ScaledIntegers.{twice, same-product}
+use Rattle.display.proofs.ScaledIntegers.{factor-cancels, twice, same-product}
 
 -- A value times both powers is the value times one.
 both-powers : (z : ℤ) (i j : ℕ) → z *ℤ pos (10 ^ i) *ℤ pos (10 ^ j) ≡ z *ℤ pos (10 ^ (i + j))
@@ -31,7 +31,7 @@ shared-power : (m n d k : ℕ) → eqb (m * 10 ^ d) n ≡ eqb (m * 10 ^ (d + k))
 shared-power m n d k =
     let e : m * 10 ^ (d + k) ≡ m * 10 ^ d * 10 ^ k = rw (pow-add 10 d k) (sym (mul-assoc m (10 ^ d) (10 ^ k))) in
     let back : m * 10 ^ (d + k) ≡ n * 10 ^ k → m * 10 ^ d ≡ n = λ q.
-    eq-of-mul-eq-mul-left (10 ^ k) (positive k) (m * 10 ^ d) n (mul-comm (10 ^ k) (m * 10 ^ d) ∙ sym e ∙ q ∙ mul-comm n (10 ^ k)) in
+    factor-cancels (m * 10 ^ d) n (10 ^ k) (positive k) (sym e ∙ q) in
     same-test (m * 10 ^ d) n (m * 10 ^ (d + k)) (n * 10 ^ k) (λ q. e ∙ ap (λ (x : ℕ). x * 10 ^ k) q) back
 
 module _ (m n up down : ℕ) where

@@ -1,7 +1,7 @@
 -- A scale factor's register by its size: from 0 to 10 it is the zeros to append, from FFF6 on the places are what is missing to 65536.
 use mathlib.Core.Path.{_≡_, refl, _∙_}
 use mathlib.Core.Bool.{Bool, true, false, _&&_}
-use mathlib.Core.Logic.{_⊎_, inl, inr}
+use mathlib.Core.Logic.{inl, inr}
 use Prim.Native.Nat.{ℕ, suc, _-_, _≤_, _<_}
 use native.Mathlib.Omega.{arith}
 use borrow.Author.Tests.{leb-true}
@@ -11,6 +11,7 @@ use Rattle.values.specs.Classes.{isScaleFactor}
 use Rattle.values.proofs.TwosComplement.{lower-half, upper-half, scale-factor-tail}
 use Rattle.display.specs.Amounts.{zeros, places}
 use Rattle.display.specs.Answers.{scaleFactor}
+use Rattle.display.specs.Parts.{TenAtMost}
 
 pub from-zero : (register : ℕ) → register ≤ 10 → scaleFactor register ≡ pos register
 from-zero register h = lower-half 16 register (omega arith)
@@ -22,12 +23,7 @@ below-zero register h k e =
     upper-half 16 register (omega arith) k
 
 -- At most ten zeros or ten places, and not both.
-pub record TenOf (scale : ℤ) : Type 0 where
-  pub zeros-bound : zeros scale ≤ 10
-  pub places-bound : places scale ≤ 10
-  pub not-both : (zeros scale ≡ 0) ⊎ (places scale ≡ 0)
-
-pub ten-at-most : (scale : ℤ) → isScaleFactor scale ≡ true → TenOf scale
+pub ten-at-most : (scale : ℤ) → isScaleFactor scale ≡ true → TenAtMost (zeros scale) (places scale)
 ten-at-most (pos k) e = record { zeros-bound = leb-true k 10 e; places-bound = omega arith; not-both = inr refl }
 ten-at-most (negsuc k) e =
     record { zeros-bound = omega arith; places-bound = omega (arith, leb-true k 9 (left (leb k 9) e)); not-both = inl refl }

@@ -34,7 +34,8 @@ twice (negsuc a) p q h =
 pub swap : (z : ℤ) (p q : ℕ) → 0 < p → 0 < q → z *ℤ pos p *ℤ pos q ≡ z *ℤ pos q *ℤ pos p
 swap z p q h k = twice z p q h ∙ ap (λ (n : ℕ). z *ℤ pos n) (mul-comm p q) ∙ sym (twice z q p k)
 
-factor-cancels : (a b p : ℕ) → 0 < p → a * p ≡ b * p → a ≡ b
+-- A factor cancels.
+pub factor-cancels : (a b p : ℕ) → 0 < p → a * p ≡ b * p → a ≡ b
 factor-cancels a b p h e = eq-of-mul-eq-mul-left p h a b (mul-comm p a ∙ e ∙ mul-comm b p)
 
 -- Two products are the same integer where their factors have the same sign and the magnitudes agree.

@@ -55,7 +55,7 @@ decimalPlaces (suc k) n = decimalPoint ∷ lastDigits (suc k) n
 unfoldable pub unsignedText : ℕ → ℕ → List ℕ
 unsignedText n places = digitsOf (n / 10 ^ places) ++ decimalPlaces places n
 
--- value × 10 ^ scale as text: scale −k gives k digits after the point and at least one before it.
+-- value × 10 ^ scale as text: a minus below 0, then the magnitude with the zeros or the places of the scale factor.
 abbrev pub decimalText : ℤ → ℤ → List ℕ
 decimalText value scale = sign (not (nonNeg value)) ++ unsignedText (natAbs value * 10 ^ zeros scale) (places scale)
 

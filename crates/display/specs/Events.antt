@@ -29,7 +29,7 @@ firstOr other (x ∷ xs) = x
 abbrev pub isBitfield : ℕ → Bool
 isBitfield code = eqb code 5 || eqb code 13
 
--- The answers: the count of the ones set and the lowest set position, 64 if none; or a refusal.
+-- The answers: how many bits are set and the position of the lowest, 64 where there is none; or a refusal.
 pub data EventBits : Type 0 where
   bits : (count lowest : ℕ) → EventBits
   refused : ℕ → EventBits

@@ -30,10 +30,10 @@ acceptedForm (Amounts.amount value scale) = Accepted.Of (partsOf value scale)
 acceptedForm (Amounts.refused n) = Accepted.Refused n
 
 -- At most ten zeros or ten places, and not both.
-pub record TenAtMost (a : ScaledNumber) : Type 0 where
-  pub zeros-bound : a .zeros ≤ 10
-  pub places-bound : a .places ≤ 10
-  pub not-both : (a .zeros ≡ 0) ⊎ (a .places ≡ 0)
+pub record TenAtMost (zeros places : ℕ) : Type 0 where
+  pub zeros-bound : zeros ≤ 10
+  pub places-bound : places ≤ 10
+  pub not-both : (zeros ≡ 0) ⊎ (places ≡ 0)
 
 -- The text of an amount.
 abbrev pub partsText : ScaledNumber → List ℕ

@@ -27,8 +27,8 @@ hasString registers address size = leb 1 size && leb size 64 && leb (address + s
 abbrev pub stringAt : List ℕ → ℕ → ℕ → List ℕ
 stringAt map address size = take size (drop address map)
 
--- Text: the part of the map that is shown. The fallback (document 01: "stand-in") comes back instead where all registers of the string
--- are 0, the size is not 1–64 or it runs past the map.
+-- Text: what is shown of the string at an address. Where the map has no such string, or only zeros in it, that is the fallback
+-- (document 01: "stand-in").
 unfoldable pub textAt : List ℕ → ℕ → ℕ → List ℕ → List ℕ
 textAt map address size fallback =
     elim (hasString (length map) address size) [

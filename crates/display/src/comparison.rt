@@ -23,12 +23,13 @@ pub fn equal_quantities(a: Quantity, b: Quantity) -> Equality
         Accepted::Refused { number } => Equality::Refused { number },
         Accepted::Of(x) => match second {
             Accepted::Refused { number } => Equality::Refused { number },
-            Accepted::Of(y) => told(is_same(x, y)),
+            Accepted::Of(y) => equal_if(is_same(x, y)),
         },
     }
 }
 
-fn told(same: bool) -> Equality
+// The answer for quantities that are accepted.
+fn equal_if(same: bool) -> Equality
     ensures { λ r. ⌜ equalityAnswer r ≡ equalIf same ⌝ }
 {
     if same {
@@ -39,7 +40,7 @@ fn told(same: bool) -> Equality
 
 // The same sign, and the same magnitude at a common scale.
 fn is_same(x: ScaledNumber, y: ScaledNumber) -> bool
-    requires { ⌜ TenAtMost x × TenAtMost y ⌝ }
+    requires { ⌜ TenAtMost (x .zeros) (x .places) × TenAtMost (y .zeros) (y .places) ⌝ }
     ensures { λ r. ⌜ r ≡ isSameByParts x y ⌝ }
 {
     if x.negative != y.negative {
@@ -53,7 +54,7 @@ fn is_same(x: ScaledNumber, y: ScaledNumber) -> bool
     is_shifted(y.magnitude, down - up, x.magnitude)
 }
 
-// Is m = n × 10 ^ k? The product may need more than 64 bits; m by the power does not.
+// Is m = n × 10 ^ k? By division: the product may need more than 64 bits.
 fn is_shifted(n: u64, k: usize, m: u64) -> bool
     ensures { λ r. ⌜ r ≡ eqb (n * 10 ^ k) m ⌝ }
 {

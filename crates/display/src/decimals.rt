@@ -43,7 +43,7 @@ pub fn decimal(type_code: u16, raw: u64, scale: u16, out: &mut [u8]) -> DecimalT
 // it stored.
 fn put_amount(out: &mut [u8], amount: ScaledNumber) -> usize
     requires { ⌜ 32 ≤ length (now out) ⌝ }
-    requires { ⌜ TenAtMost amount ⌝ }
+    requires { ⌜ TenAtMost (amount .zeros) (amount .places) ⌝ }
     ensures { λ r. ⌜ Put (now (out .entry)) (now (out .exit)) 0 (partsText amount) r ⌝ }
     ensures { λ r. ⌜ r ≤ 32 ⌝ }
 {
@@ -80,7 +80,7 @@ fn put_whole(out: &mut [u8], at: usize, n: u64, zeros: usize) -> usize
     put_digits(out, end, zeros, 0)
 }
 
-// n by 10 ^ places: the whole part, the point and the last digits.
+// n / 10 ^ places: the whole part, the point and the last digits.
 fn put_places(out: &mut [u8], at: usize, n: u64, places: usize) -> usize
     requires { ⌜ (1 ≤ places) × (places ≤ 10) × (at + 31 ≤ length (now out)) ⌝ }
     ensures { λ r. ⌜ Put (now (out .entry)) (now (out .exit)) at (unsignedText n places) r ⌝ }

@@ -8,7 +8,7 @@ ghost use Rattle.display.specs.Parts.{acceptedForm};
 use crate::Quantity;
 use values::UnscaledValue;
 
-// A number by its sign and magnitude, times 10 ^ zeros or by 10 ^ places; one of these is 0.
+// A number by its sign and magnitude, times 10 ^ zeros or divided by 10 ^ places; one of these is 0.
 pub(crate) struct ScaledNumber {
     pub(crate) negative: bool,
     pub(crate) magnitude: u64,

@@ -19,8 +19,8 @@ pub fn text<'a>(map: &'a [u16], address: usize, size: usize, fallback: &'a [u16]
     part(string, 0, text_length(string))
 }
 
-// Has a map of so many registers a string at the address, of 1 to 64 registers? The size is taken from
-// what there is: a sum could be more than a usize holds.
+// Has a map of so many registers a string at the address, of 1 to 64 registers? The size is
+// subtracted from the map's length: address + size could be more than a usize holds.
 fn has_string(registers: usize, address: usize, size: usize) -> bool
     ensures { λ r. ⌜ r ≡ hasString registers address size ⌝ }
 {
@@ -44,7 +44,7 @@ fn part<'a>(s: &'a [u16], start: usize, count: usize) -> &'a [u16]
     &s[start..start + count]
 }
 
-// Are all registers 0? At most 64 are looked at.
+// Are all registers 0?
 fn all_zero(string: &[u16]) -> bool
     ensures { λ r. ⌜ r ≡ allZero (now (string .entry)) ⌝ }
 {

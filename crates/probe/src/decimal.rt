@@ -12,7 +12,7 @@ const CAPACITY: usize = 64;
 
 // Answers the fields from `at` on. False, with nothing written, where they are bad.
 pub(crate) fn run(line: &[u8], at: usize) -> bool {
-    let triple = quantity::fields_at(line, at);
+    let triple = quantity::triple_at(line, at);
     let Triple::Of { quantity, next } = triple else {
         return false;
     };

@@ -8,11 +8,11 @@ use display::Quantity;
 
 // Answers the fields from `at` on. False, with nothing written, where they are bad.
 pub(crate) fn run(line: &[u8], at: usize) -> bool {
-    let first = quantity::fields_at(line, at);
+    let first = quantity::triple_at(line, at);
     let Triple::Of { quantity: a, next } = first else {
         return false;
     };
-    let second = quantity::fields_at(line, next);
+    let second = quantity::triple_at(line, next);
     let Triple::Of { quantity: b, next } = second else {
         return false;
     };

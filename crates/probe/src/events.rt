@@ -1,24 +1,25 @@
 // The command `events CODE RAW`: how many bits of a bitfield are set, and which is the lowest.
 use crate::fields;
-use crate::fields::Number;
-use crate::fields::Number16;
 use crate::output;
+use crate::quantity;
+use crate::quantity::TypedValue;
 use display::EventBits;
 
 // Answers the fields from `at` on. False, with nothing written, where they are bad.
 pub(crate) fn run(line: &[u8], at: usize) -> bool {
-    let type_code = fields::u16_field(line, at);
-    let Number16::Of { value: code, next } = type_code else {
-        return false;
-    };
-    let number = fields::u64_field(line, next);
-    let Number::Of { value: raw, next } = number else {
+    let typed = quantity::typed_value_at(line, at);
+    let TypedValue::Of {
+        type_code,
+        raw,
+        next,
+    } = typed
+    else {
         return false;
     };
     if !fields::nothing_left(line, next) {
         return false;
     }
-    write_bits(code, raw);
+    write_bits(type_code, raw);
     true
 }
 

@@ -38,14 +38,12 @@ module _ (row : TypeRow) (raw : ℕ) where
   float-integer e = rw e
 
   pub plain-integer : (row .kind ≡ signed → ⊥) → integer row raw ≡ pos raw
-  unfolding integer
   plain-integer n = go (row .kind) refl
     where
-      go : (k : Kind) → row .kind ≡ k
-          → elim k [ signed ↦ twosComplement (16 * row .most) raw | unsigned ↦ pos raw | float ↦ pos raw ] ≡ pos raw
+      go : (k : Kind) → row .kind ≡ k → integer row raw ≡ pos raw
       go signed e = absurd (n e)
-      go unsigned e = refl
-      go float e = refl
+      go unsigned e = unsigned-integer e
+      go float e = float-integer e
 
   module _ (p : PatternOf row raw) where
     pub in-up-to : (n : ℕ) → row .range ≡ between (pos 0) (pos n) → inRange row raw ≡ leb raw n

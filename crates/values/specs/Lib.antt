@@ -1,9 +1,9 @@
 pub mod Each
 pub mod Rows
-pub mod Unscaled
 pub mod Registers
 pub mod Classes
 pub mod Decoding
+pub mod Unscaled
 pub mod Encoding
 pub mod Answers
 pub mod Printed

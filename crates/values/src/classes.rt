@@ -41,6 +41,7 @@ pub fn is_value(type_code: u16, raw: u64) -> bool
     }
 }
 
+// Is it the class of values?
 pub(crate) fn is_value_class(class: Class) -> bool
     ensures { λ r. ⌜ r ≡ isValue (ofClass (classAnswer class)) ⌝ }
 {

@@ -38,8 +38,8 @@ is-same-requires c κs =
       parts-within (q .«type_code») (q .raw) (scaleFactor (q .scale)) (y .second2 .given .0 .0) (sym (y .second2 .given .1) ∙ b .accept2 .ensures),
     )
 
-told-requires : tie.Need-told-requires
-told-requires c κs = search needs
+equal-if-requires : tie.Need-equal-if-requires
+equal-if-requires c κs = search needs
 
 returns : tie.Need-returns
 returns c =
@@ -70,7 +70,7 @@ returns-3 c =
     let a = b .before in
     let p = quantityAmount (a .before .args .a) in
     let q = quantityAmount (a .before .args .b) in
-    c .told .ensures
+    c .equal-if .ensures
     ∙ ap equalIf (c .before .is-same .ensures)
     ∙ sym
     (both-accepted p q (x .first2 .given .0 .0) (y .second2 .given .0 .0)
@@ -88,7 +88,7 @@ equal-quantities-spec =
     enum-known-second
     enum-known-second-2
     is-same-requires
-    told-requires
+    equal-if-requires
     returns
     returns-2
     returns-3)

@@ -6,8 +6,8 @@ use Rattle.probe.specs.Fields.{AtMost}
 use Rattle.probe.proofs.decimal.run.Statement.{statement}
 use Rattle.probe.proofs.decimal.run.Tie as tie
 
-fields-at-requires : tie.Need-fields-at-requires
-fields-at-requires c κs = search needs
+triple-at-requires : tie.Need-triple-at-requires
+triple-at-requires c κs = search needs
 
 enum-known-triple : tie.Need-enum-known-triple
 enum-known-triple c = search needs
@@ -56,7 +56,7 @@ pub run-spec : {M : Type 1} → statement M
 run-spec =
     tie.close
     (tie.spec
-    fields-at-requires
+    triple-at-requires
     enum-known-triple
     enum-told
     returns
