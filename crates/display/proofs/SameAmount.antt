@@ -1,9 +1,10 @@
 -- What the code compares, by parts, is the definition's cross-multiplication.
-use mathlib.Core.Path.{_≡_, refl, sym, ap, _∙_}
-use mathlib.Core.Bool.{Bool, true, false, not, _&&_, Bool·beq}
+use mathlib.Core.Path.{_≡_, sym, ap, _∙_}
+use mathlib.Core.Bool.{Bool, true, false, not, Bool·beq}
 use Prim.Native.Nat.{ℕ, _+_, _-_, _*_, _^_, _≤_}
 use native.Mathlib.Nat.{mul-assoc}
 use native.Mathlib.Omega.{arith}
+use borrow.Author.Tests.{not-true, not-false}
 use lib.Dec.{eqb}
 use lib.IntN.{ℤ, pos, _*ℤ_}
 use lib.Pow.{pow-add}
@@ -51,20 +52,9 @@ module _ (m n up down : ℕ) where
 module _ (x y : ScaledNumber) where
   pub signs-differ : not (Bool·beq (x .negative) (y .negative)) ≡ true → false ≡ isSameByParts x y
   unfolding isSameByParts
-  signs-differ e = go (Bool·beq (x .negative) (y .negative)) e
-    where
-      go : (b : Bool) → not b ≡ true
-          → false ≡ (b && eqb (x .magnitude * 10 ^ (x .zeros + y .places)) (y .magnitude * 10 ^ (y .zeros + x .places)))
-      go true q = cc
-      go false q = refl
+  signs-differ e = simp (isSameByParts, not-true (Bool·beq (x .negative) (y .negative)) e)
 
   pub signs-agree : not (Bool·beq (x .negative) (y .negative)) ≡ false
       → eqb (x .magnitude * 10 ^ (x .zeros + y .places)) (y .magnitude * 10 ^ (y .zeros + x .places)) ≡ isSameByParts x y
   unfolding isSameByParts
-  signs-agree e = go (Bool·beq (x .negative) (y .negative)) e
-    where
-      go : (b : Bool) → not b ≡ false
-          → eqb (x .magnitude * 10 ^ (x .zeros + y .places)) (y .magnitude * 10 ^ (y .zeros + x .places))
-          ≡ (b && eqb (x .magnitude * 10 ^ (x .zeros + y .places)) (y .magnitude * 10 ^ (y .zeros + x .places)))
-      go true q = refl
-      go false q = cc
+  signs-agree e = simp (isSameByParts, not-false (Bool·beq (x .negative) (y .negative)) e)

@@ -8,7 +8,7 @@ use native.Mathlib.Omega.{arith}
 use native.Mathlib.Decide.{decLe}
 use borrow.Author.Tests.{eq-eqb, ne-eqb, le-leb, lt-leb, leb-true}
 use lib.Dec.{eqb, leb}
-use lib.ListN.{length, getD, take, drop, drop-of-length-le}
+use lib.ListN.{length, getD, take, drop, length-take, drop-of-length-le}
 use lib.Seq.{drop-cons}
 use Rattle.display.specs.Text.{untilZeroByte, allZero, hasString, stringAt, textAt}
 
@@ -26,15 +26,7 @@ text-prefix (r ∷ rs) = go (eqb (r / 256) 0) (eqb (r % 256) 0) (text-prefix rs)
     go false false ih = ap (λ (xs : List ℕ). r ∷ xs) ih
 
 pub text-shorter : (rs : List ℕ) → length (untilZeroByte rs) ≤ length rs
-unfolding untilZeroByte
-text-shorter [] = omega arith
-text-shorter (r ∷ rs) = go (eqb (r / 256) 0) (eqb (r % 256) 0) (text-shorter rs)
-  where
-    go : (high low : Bool) → length (untilZeroByte rs) ≤ length rs
-        → length {A = ℕ} (elim high [ true ↦ [] | false ↦ elim low [ true ↦ r ∷ [] | false ↦ r ∷ untilZeroByte rs ] ]) ≤ suc (length rs)
-    go true low ih = omega arith
-    go false true ih = omega arith
-    go false false ih = omega (arith, ih)
+text-shorter rs = omega (arith, ap length (text-prefix rs), length-take (length (untilZeroByte rs)) rs)
 
 -- From the register at i on.
 module _ (rs : List ℕ) (i : ℕ) (h : i < length rs) where
