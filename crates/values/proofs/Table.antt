@@ -33,9 +33,13 @@ found-among test (x ∷ rs) c r t e =
 found : (test : TypeRow → Bool) → T (every test rows) → (c : ℕ) (r : TypeRow) → rowOf c ≡ some r → (c ≡ r .code) × T (test r)
 found test t c r e = found-among test rows c r t e
 
-pub listed : (c : ℕ) (r : TypeRow) → rowOf c ≡ some r → Listed r
+-- The row that a code finds has that code, and is a row of the table.
+pub own-code : (c : ℕ) (r : TypeRow) → rowOf c ≡ some r → c ≡ r .code
 unfolding rows
-listed c r e = sym (ap rowOf (found (λ x. true) tt c r e .0)) ∙ e
+own-code c r e = found (λ x. true) tt c r e .0
+
+pub listed : (c : ℕ) (r : TypeRow) → rowOf c ≡ some r → Listed r
+listed c r e = sym (ap rowOf (own-code c r e)) ∙ e
 
 -- The rows of a list carry the codes from c on, in order.
 abbrev numbered : ℕ → List TypeRow → Bool

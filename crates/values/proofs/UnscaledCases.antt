@@ -4,14 +4,17 @@ use mathlib.Core.Bool.{Bool, true, false, not}
 use mathlib.Core.Option.{none, some}
 use Prim.Native.Nat.{ℕ, suc, _+_, _-_, _/_, _^_, _≤_, _<_}
 use native.Mathlib.Omega.{arith}
+use borrow.Author.Tests.{leb-false}
 use lib.IntN.{ℤ, natAbs}
 use lib.Pow.{pow-pos}
 use lib.Signed.{nonNeg}
 use Rattle.values.specs.Rows.{TypeRow, rowOf}
-use Rattle.values.specs.Classes.{twosComplement, integer, isValue, classified}
+use Rattle.values.specs.Registers.{tooWide}
+use Rattle.values.specs.Classes.{width, twosComplement, integer, isValue, classified}
 use Rattle.values.specs.Unscaled.{Unscaled, number, noValue, notScalable, unscaled}
 use Rattle.values.specs.Answers.{bySign, unscaledForm}
 use Rattle.values.specs.declared.UnscaledValue.{UnscaledValue}
+use Rattle.values.proofs.ClassCases.{too-wide}
 use Rattle.values.proofs.TwosComplement.{lower-half, upper-half}
 use Rattle.values.proofs.MachineIntegers.{halves}
 
@@ -32,6 +35,18 @@ module _ (code raw : ℕ) where
     pub a-number : row .scalable ≡ true → isValue (classified code raw) ≡ true → unscaled code raw ≡ number (integer row raw)
     unfolding unscaled
     a-number s v = simp (unscaled, is, s, v)
+
+-- A raw number that is a value of its type is not too wide for it.
+pub value-fits : (code raw : ℕ) (row : TypeRow) → rowOf code ≡ some row → isValue (classified code raw) ≡ true → raw < 2 ^ width row
+unfolding tooWide
+value-fits code raw row e v = go (tooWide (row .most) raw) refl
+  where
+    go : (b : Bool) → tooWide (row .most) raw ≡ b → raw < 2 ^ width row
+    go true w =
+        let f : isValue (classified code raw) ≡ false = ap isValue (too-wide code raw row e w) in
+        let z : _≡_ {A = ℕ} 0 1 = cc in
+        absurd (omega arith)
+    go false w = leb-false _ _ w
 
 -- Two's complement by sign and magnitude, from the largest pattern of the width.
 module _ (bits raw ones : ℕ) (wide : 1 ≤ bits) (is : ones ≡ 2 ^ bits - 1) where

@@ -1,18 +1,16 @@
 -- Every integer that a scale factor may multiply lies from -2 ^ 63 up to, not including, 2 ^ 64.
-use mathlib.Core.Path.{_≡_, refl, ap, subst}
+use mathlib.Core.Path.{_≡_, refl, subst}
 use mathlib.Core.Bool.{Bool, true, false}
 use mathlib.Core.Option.{Option, none, some}
 use Prim.Native.Nat.{ℕ, _-_, _^_, _≤_, _<_}
 use native.Mathlib.Omega.{arith}
-use borrow.Author.Tests.{leb-false}
 use lib.IntN.{ℤ, pos, negsuc}
 use lib.Pow.{pow-mono}
 use Rattle.values.specs.Rows.{TypeRow, Kind, signed, unsigned, float, rowOf, Listed}
-use Rattle.values.specs.Registers.{tooWide}
 use Rattle.values.specs.Classes.{width, twosComplement, integer, isValue, classified}
 use Rattle.values.specs.Unscaled.{Unscaled, number, noValue, notScalable, unscaled}
 use Rattle.values.proofs.Table.{scalable-width, signed-width, listed}
-use Rattle.values.proofs.ClassCases.{too-wide}
+use Rattle.values.proofs.UnscaledCases.{value-fits}
 use Rattle.values.proofs.TwosComplement.{by-half}
 use Rattle.values.proofs.MachineIntegers.{halves}
 
@@ -41,18 +39,6 @@ module _ (row : TypeRow) (l : Listed row) (four : row .most ≤ 4) (raw : ℕ) (
       go signed e = signed-within e
       go unsigned e = within
       go float e = within
-
--- A raw number that is a value of its type is not too wide for it.
-value-fits : (code raw : ℕ) (row : TypeRow) → rowOf code ≡ some row → isValue (classified code raw) ≡ true → raw < 2 ^ width row
-unfolding tooWide
-value-fits code raw row e v = go (tooWide (row .most) raw) refl
-  where
-    go : (b : Bool) → tooWide (row .most) raw ≡ b → raw < 2 ^ width row
-    go true w =
-        let f : isValue (classified code raw) ≡ false = ap isValue (too-wide code raw row e w) in
-        let z : _≡_ {A = ℕ} 0 1 = cc in
-        absurd (omega arith)
-    go false w = leb-false _ _ w
 
 -- What holds of an integer holds of what is unscaled, if that is one.
 abbrev Holds : (ℤ → Type 0) → Unscaled → Type 0

@@ -3,6 +3,7 @@ ghost use mathlib.Core.Path.{_≡_};
 ghost use mathlib.Core.Bool.{not};
 ghost use lib.Ieee.{binary32, nanBits};
 ghost use Rattle.values.specs.Classes.{PatternOf, ofClass, twosComplement, isUnimplemented, inRange, isScaleFactor, isValue, classOf, classified};
+ghost use Rattle.values.specs.Rows.{Listed};
 ghost use Rattle.values.specs.Answers.{classAnswer, classifiedAnswer, unimplementedMeans, rowMeans};
 use crate::Class;
 use crate::Classified;
@@ -19,21 +20,33 @@ pub fn classify(type_code: u16, raw: u64) -> Classified
 {
     let found = row_of(type_code);
     match found {
-        Found::Row(row) => {
-            if too_wide(row.most, raw) {
-                return Classified::TooWide;
-            }
-            Classified::Of(class_in(row, raw))
-        }
+        Found::Row(row) => classified_in(row, raw),
         Found::Nothing => Classified::UnknownType,
     }
+}
+
+// The class of a raw number under the row's type.
+pub(crate) fn classified_in(row: TypeRow, raw: u64) -> Classified
+    requires { ⌜ Listed (rowMeans row) ⌝ }
+    ensures { λ r. ⌜ classifiedAnswer r ≡ classified (row .code) raw ⌝ }
+{
+    if too_wide(row.most, raw) {
+        return Classified::TooWide;
+    }
+    Classified::Of(class_in(row, raw))
 }
 
 // Is a raw number a value of its type?
 pub fn is_value(type_code: u16, raw: u64) -> bool
     ensures { λ r. ⌜ r ≡ isValue (classified «type_code» raw) ⌝ }
 {
-    let classified = classify(type_code, raw);
+    is_value_in(classify(type_code, raw))
+}
+
+// Was a raw number found to be a value?
+pub(crate) fn is_value_in(classified: Classified) -> bool
+    ensures { λ r. ⌜ r ≡ isValue (classifiedAnswer classified) ⌝ }
+{
     match classified {
         Classified::Of(class) => is_value_class(class),
         Classified::TooWide => false,
@@ -42,7 +55,7 @@ pub fn is_value(type_code: u16, raw: u64) -> bool
 }
 
 // Is it the class of values?
-pub(crate) fn is_value_class(class: Class) -> bool
+fn is_value_class(class: Class) -> bool
     ensures { λ r. ⌜ r ≡ isValue (ofClass (classAnswer class)) ⌝ }
 {
     match class {

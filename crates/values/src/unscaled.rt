@@ -5,10 +5,9 @@ ghost use Rattle.values.specs.Classes.{PatternOf, integer, twosComplemen
 ghost use Rattle.values.specs.Unscaled.{unscaled};
 ghost use Rattle.values.specs.Answers.{rowMeans, unscaledForm, bySign};
 use crate::UnscaledValue;
-use crate::classes::class_in;
-use crate::classes::is_value_class;
+use crate::classes::classified_in;
+use crate::classes::is_value_in;
 use crate::registers::all_ones;
-use crate::registers::too_wide;
 use crate::rows::Found;
 use crate::rows::Kind;
 use crate::rows::TypeRow;
@@ -24,10 +23,7 @@ pub fn unscaled_value(type_code: u16, raw: u64) -> UnscaledValue
             if !row.scalable {
                 return UnscaledValue::NotScalable;
             }
-            if too_wide(row.most, raw) {
-                return UnscaledValue::NoValue;
-            }
-            if !is_value_class(class_in(row, raw)) {
+            if !is_value_in(classified_in(row, raw)) {
                 return UnscaledValue::NoValue;
             }
             integer_by_sign(row, raw)
