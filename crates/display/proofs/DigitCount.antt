@@ -18,16 +18,25 @@ pub record CountOf (n c : ℕ) : Type 0 where
   pub enough : n < 10 ^ c
   pub no-fewer : 1 < c → 10 ^ (c - 1) ≤ n
 
+-- Fewer digits than a number has do not hold it.
+too-few : (n c x : ℕ) → CountOf n c → 1 ≤ x → x < c → n < 10 ^ x → ⊥
+too-few n c x o l h k = omega (arith, o .no-fewer (omega arith), grow {i = x} {j = c - 1} (omega arith))
+
 pub unique : (n c d : ℕ) → CountOf n c → CountOf n d → c ≡ d
 unique n c d a b = go (decLe c d) (decLe d c)
   where
-    fewer : (x y : ℕ) → CountOf n x → CountOf n y → x < y → ⊥
-    fewer x y p q h = omega (arith, p .some, p .enough, q .no-fewer (omega (arith, p .some)), grow {i = x} {j = y - 1} (omega arith))
-
     go : Dec (c ≤ d) → Dec (d ≤ c) → c ≡ d
     go (yes h) (yes k) = omega arith
-    go (yes h) (no k) = absurd (fewer c d a b (omega arith))
-    go (no h) k = absurd (fewer d c b a (omega arith))
+    go (yes h) (no k) = absurd (too-few n d c b (a .some) (omega arith) (a .enough))
+    go (no h) k = absurd (too-few n c d a (b .some) (omega arith) (b .enough))
+
+-- A number that is not 0 reaches the power of its first digit.
+pub first-power : (n c : ℕ) → 1 ≤ n → CountOf n c → 10 ^ (c - 1) ≤ n
+first-power n c h o = go (decLe 2 c)
+  where
+    go : Dec (2 ≤ c) → 10 ^ (c - 1) ≤ n
+    go (yes l) = o .no-fewer l
+    go (no l) = let e : c - 1 ≡ 0 = omega arith in rw e h
 
 under-ten : (n : ℕ) → n < 10 → CountOf n 1
 under-ten n h = record { some = omega arith; enough = h; no-fewer = λ l. absurd (omega arith) }
@@ -73,21 +82,12 @@ at-most n c l h = go (decLe (digitCount n) c)
   where
     go : Dec (digitCount n ≤ c) → digitCount n ≤ c
     go (yes k) = k
-    go (no k) =
-        let d = count n in
-        absurd (omega (arith, d .no-fewer (omega arith), grow {i = c} {j = digitCount n - 1} (omega arith)))
+    go (no k) = absurd (too-few n (digitCount n) c (count n) l (omega arith) h)
 
 -- k zeros appended to a number that is not 0 are k digits more.
 pub appended : (n k : ℕ) → 1 ≤ n → digitCount (n * 10 ^ k) ≡ k + digitCount n
 appended n k h = unique (n * 10 ^ k) (digitCount (n * 10 ^ k)) (k + digitCount n) (count (n * 10 ^ k)) shifted
   where
-    first : 10 ^ (digitCount n - 1) ≤ n
-    first = go (decLe 2 (digitCount n))
-      where
-        go : Dec (2 ≤ digitCount n) → 10 ^ (digitCount n - 1) ≤ n
-        go (yes l) = count n .no-fewer l
-        go (no l) = let e : digitCount n - 1 ≡ 0 = omega arith in rw e h
-
     shifted : CountOf (n * 10 ^ k) (k + digitCount n)
     shifted =
         record {
@@ -97,5 +97,5 @@ appended n k h = unique (n * 10 ^ k) (digitCount (n * 10 ^ k)) (k + digitCount n
               (mul-lt-mul-of-pos-right (count n .enough) (positive k));
           no-fewer = λ l.
               let e : k + digitCount n - 1 ≡ k + (digitCount n - 1) = omega (arith, count n .some) in
-              rw (e, pow-add 10 k (digitCount n - 1), mul-comm (10 ^ k) (10 ^ (digitCount n - 1))) (mul-le-mul-right (10 ^ k) first);
+              rw (e, pow-add 10 k (digitCount n - 1), mul-comm (10 ^ k) (10 ^ (digitCount n - 1))) (mul-le-mul-right (10 ^ k) (first-power n (digitCount n) h (count n)));
         }

@@ -4,10 +4,9 @@ use mathlib.Core.List.{List, [], _∷_}
 use Prim.Native.Nat.{ℕ, zero, suc, _-_, _*_, _/_, _^_, _≤_, _<_}
 use native.Mathlib.Nat.{pow-suc, one-mul, le-div-iff-mul-le, div-lt-iff-lt-mul, mod-eq-of-lt}
 use native.Mathlib.Omega.{arith}
-use native.Mathlib.Decide.{decLe}
 use Rattle.display.specs.Decimals.{digitZero, digitAt, lastDigits, digitCountWithin, digitCount, digitsOf}
 use Rattle.display.proofs.PowersOfTen.{positive}
-use Rattle.display.proofs.DigitCount.{CountOf, count}
+use Rattle.display.proofs.DigitCount.{CountOf, first-power, count}
 
 -- The first of a list of digits is not 0.
 abbrev pub NotZeroFirst : List ℕ → Type 0
@@ -16,15 +15,12 @@ NotZeroFirst (d ∷ ds) = digitZero < d
 
 first-digit : (n c : ℕ) → 1 ≤ n → CountOf n (suc c) → digitZero < digitAt n c
 first-digit n c h o =
-    let low : 10 ^ c ≤ n = lowest (decLe 1 c) in
+    let e : suc c - 1 ≡ c = omega arith in
+    let low : 10 ^ c ≤ n = rw e at (first-power n (suc c) h o) in
     let high : n < 10 * 10 ^ c = omega (arith, o .enough, pow-suc 10 c) in
     let one : 1 ≤ n / 10 ^ c = le-div-iff-mul-le {x = 1} {y = n} (positive c) .1 (omega (arith, one-mul (10 ^ c))) in
     let nine : n / 10 ^ c < 10 = div-lt-iff-lt-mul {x = n} {y = 10} (positive c) .1 high in
     omega (arith, one, mod-eq-of-lt nine)
-  where
-    lowest : Dec (1 ≤ c) → 10 ^ c ≤ n
-    lowest (yes l) = let e : suc c - 1 ≡ c = omega arith in rw e at (o .no-fewer (omega arith))
-    lowest (no l) = let e : c ≡ 0 = omega arith in rw e h
 
 pub no-leading-zero : (n : ℕ) → 1 ≤ n → NotZeroFirst (digitsOf n)
 unfolding lastDigits
