@@ -1,4 +1,4 @@
--- `probe::answer_lines` is safe and ends: each line starts behind the one before it.
+-- `probe::answer_lines` meets its contract, and ends: each line starts behind the one before it.
 use Prim.Native.Nat.{_-_}
 use borrow.Author.Needs.{needs}
 use lib.ListN.{length}

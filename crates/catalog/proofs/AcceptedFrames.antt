@@ -1,0 +1,78 @@
+-- What it means that frames are accepted, by the kinds of the frames: they stand in their places, and their numbers are new.
+use mathlib.Core.Path.{_≡_, refl, ap}
+use mathlib.Core.Bool.{Bool, true, false, not, _&&_, _||_}
+use mathlib.Core.List.{List, [], _∷_}
+use mathlib.Core.Logic.{_↔_, Iff·trans, Iff·and}
+use Prim.Native.Nat.{ℕ, suc}
+use borrow.Author.Tests.{not-false}
+use lib.Dec.{eqb}
+use lib.ListN.{length}
+use Rattle.values.specs.Each.{Each}
+use Rattle.catalog.specs.Frames.{Frame, modelFrame, groupFrame, pointFrame, endFrame, malformed, fill}
+use Rattle.catalog.specs.State.{Level, State, opened, withPoint, withGroup, closed, next}
+use Rattle.catalog.specs.Rules.{among, noModel, inTop, afterGroup, run, inReach, isHollow, rules}
+use Rattle.catalog.specs.Checking.{accepted, checkFrom}
+use Rattle.catalog.specs.Soundness.{SoundPoint}
+use Rattle.catalog.proofs.TestLaws.{clash, none-broken}
+use Rattle.catalog.proofs.AcceptedSteps.{accepted-step, accepted-end}
+use Rattle.catalog.proofs.SoundFrames.{sound-point, HeadUnbroken}
+
+-- With these groups open, and a fill group in the top group or not, the frames break no rule but perhaps 6, and close all groups.
+abbrev pub Standing : Bool → List Level → List Frame → Type 0
+Standing filled ls [] = noModel ls ≡ true
+Standing filled ls (modelFrame id ∷ fs) = (noModel ls ≡ true) × Standing false (opened ∷ []) fs
+Standing filled ls (groupFrame h ∷ fs) =
+    (noModel ls || inTop ls && filled ≡ false)
+    × HeadUnbroken ls h
+    × Standing (filled || eqb (h .countKind) fill) (withGroup ls) fs
+Standing filled ls (pointFrame p ∷ fs) =
+    (noModel ls || afterGroup ls ≡ false) × SoundPoint (inReach ls (p ∷ run fs)) p × Standing filled (withPoint p ls) fs
+Standing filled ls (endFrame ∷ fs) = (noModel ls ≡ false) × (isHollow ls endFrame ≡ false) × Standing filled (closed ls) fs
+Standing filled ls (malformed ∷ fs) = ⊥
+
+-- Behind models with these ids, and these numbers in the open model, the frames do not break rule 6, and end with n models.
+abbrev pub Numbered : ℕ → List ℕ → List ℕ → List Frame → Type 0
+Numbered n ids used [] = length ids ≡ n
+Numbered n ids used (modelFrame id ∷ fs) =
+    (eqb id 0 || eqb id 65535 || among id ids ≡ false) × Numbered n (id ∷ ids) [] fs
+Numbered n ids used (groupFrame h ∷ fs) =
+    (eqb (h .number) 0 || among (h .number) used ≡ false) × Numbered n ids (h .number ∷ used) fs
+Numbered n ids used (pointFrame p ∷ fs) =
+    (eqb (p .number) 0 || among (p .number) used ≡ false) × Numbered n ids (p .number ∷ used) fs
+Numbered n ids used (endFrame ∷ fs) = Numbered n ids used fs
+Numbered n ids used (malformed ∷ fs) = Numbered n ids used fs
+
+-- Frames are accepted just where they stand in their places and are numbered.
+pub accepted-frames : (fs : List Frame) (s : State) (i n : ℕ)
+    → (checkFrom s i fs ≡ accepted n) ↔ (Standing (s .hasFill) (s .levels) fs × Numbered n (s .ids) (s .numbers) fs)
+accepted-frames [] s i n = accepted-end s i n
+accepted-frames (f ∷ fs) s i n =
+    Iff·trans (accepted-step s i f fs n)
+    (Iff·trans (Iff·and (none-broken (rules s f (run (f ∷ fs)))) (accepted-frames fs (next s f) (suc i) n)) (by-kind f))
+  where
+    by-kind : (g : Frame)
+        → (Each (λ r. r .0 ≡ false) (rules s g (run (g ∷ fs)))
+        × (Standing (next s g .hasFill) (next s g .levels) fs × Numbered n (next s g .ids) (next s g .numbers) fs))
+        ↔ (Standing (s .hasFill) (s .levels) (g ∷ fs) × Numbered n (s .ids) (s .numbers) (g ∷ fs))
+    by-kind (modelFrame id) = (
+      λ c. ((not-false (noModel (s .levels)) (c .0 .1 .0), c .1 .0), (c .0 .1 .1 .1 .0, c .1 .1)),
+      λ w. ((refl, (ap not (w .0 .0), (refl, (w .1 .0, (refl, (refl, (refl, (refl, tt)))))))), (w .0 .1, w .1 .1)),
+    )
+    by-kind (groupFrame h) = (
+      λ c. let d = c .0 .1 .1 in
+          ((c .0 .1 .0, (d .0, d .1 .1 .0, d .1 .1 .1 .1 .0), c .1 .0), (d .1 .0, c .1 .1)),
+      λ w. let u = w .0 .1 in
+          ((refl, (w .0 .0, (u .0, (w .1 .0, (u .1, (refl, (u .2, (refl, tt)))))))), (w .0 .2, w .1 .1)),
+    )
+    by-kind (pointFrame p) =
+        let sound = sound-point (inReach (s .levels) (p ∷ run fs)) p in (
+          λ c. let d = c .0 .1 .1 .1 in
+              ((c .0 .1 .0, sound .0 (d .1 .0, d .1 .1 .0), c .1 .0), (d .0, c .1 .1)),
+          λ w. let u = sound .1 (w .0 .1) in
+              ((refl, (w .0 .0, (refl, (w .1 .0, (u .0, (u .1, (refl, (refl, tt)))))))), (w .0 .2, w .1 .1)),
+        )
+    by-kind endFrame = (
+      λ c. ((c .0 .1 .0, c .0 .1 .1 .1 .1 .1 .1 .1 .0, c .1 .0), c .1 .1),
+      λ w. ((refl, (w .0 .0, (refl, (refl, (refl, (refl, (refl, (w .0 .1, tt)))))))), (w .0 .2, w .1)),
+    )
+    by-kind malformed = (λ c. clash (c .0 .0), λ w. absurd (w .0))

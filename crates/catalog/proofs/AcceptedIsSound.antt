@@ -1,0 +1,30 @@
+-- The models of an accepted catalog are sound, and checking answers their number.
+use mathlib.Core.Path.{_≡_, sym, ap, _∙_}
+use mathlib.Core.Bool.{false}
+use mathlib.Core.List.{List, []}
+use Prim.Native.Nat.{ℕ}
+use native.Mathlib.Omega.{arith}
+use lib.ListN.{length}
+use Rattle.catalog.specs.Frames.{frames}
+use Rattle.catalog.specs.State.{start}
+use Rattle.catalog.specs.Checking.{accepted, checked}
+use Rattle.catalog.specs.Definitions.{catalogFrames, definitions}
+use Rattle.catalog.specs.Soundness.{SoundCatalog, idsOf}
+use Rattle.catalog.proofs.FrameWords.{length-words}
+use Rattle.catalog.proofs.AcceptedSteps.{accepted-start}
+use Rattle.catalog.proofs.AcceptedFrames.{accepted-frames}
+use Rattle.catalog.proofs.ModelFrames.{frames-of-definitions, words-of-definitions}
+use Rattle.catalog.proofs.NewNumbers.{all-new}
+use Rattle.catalog.proofs.SoundModels.{models-sound}
+
+-- A catalog that is accepted is sound, and checking answers the number of its models.
+pub accepted-is-sound : (ws : List ℕ) (n : ℕ) → checked ws ≡ accepted n
+    → SoundCatalog (definitions ws) × (n ≡ length (definitions ws))
+accepted-is-sound ws n e =
+    let ds = definitions ws in
+    let a = accepted-start ws n .0 e in
+    let w = accepted-frames (frames ws) start 0 n .0 (a .2) in
+    let r = models-sound ds n false [] [] .0 (rw (frames-of-definitions ws n e) w) in
+    let few = a .1 in
+    let eight = sym (ap length (words-of-definitions ws n e)) ∙ length-words (catalogFrames ds) in
+    (record { few = omega arith; distinct = all-new (idsOf ds) .0 (r .1); each = r .0 }, let count = r .2 in omega arith)

@@ -1,0 +1,46 @@
+-- Reading the frames of definitions gives the definitions.
+use mathlib.Core.Path.{_≡_, refl, ap, _∙_}
+use mathlib.Core.List.{List, [], _∷_, _++_}
+use Rattle.catalog.specs.Frames.{Point, Frame, pointFrame, endFrame, wordsOfAll}
+use Rattle.catalog.specs.Definitions.{Groups, noGroup, group, Definition, pointFrames, groupFrames, definitionFrames, catalogFrames, Parsed, inFront, parsed, definitions}
+use Rattle.catalog.proofs.FrameWords.{frames-words}
+use Rattle.catalog.proofs.TreeFrames.{group-frames, definition-frames}
+
+-- What is read where an open group holds these points and groups, and the frames behind it are read.
+abbrev holding : List Point → Groups → Parsed → Parsed
+holding ps g r = record { rest = record { points = ps; groups = g } ∷ r .rest; models = r .models }
+
+-- Points are read in front of the groups of their group.
+points-read : (ps : List Point) (g : Groups) (fs : List Frame) (r : Parsed)
+    → parsed fs ≡ holding [] g r → parsed (pointFrames ps ++ fs) ≡ holding ps g r
+unfolding parsed
+points-read [] g fs r e = e
+points-read (p ∷ ps) g fs r e = ap (inFront (pointFrame p)) (points-read ps g fs r e)
+
+-- Groups are read up to the end frame of the group around them.
+groups-read : (g : Groups) (fs : List Frame) → parsed (groupFrames g ++ (endFrame ∷ fs)) ≡ holding [] g (parsed fs)
+unfolding parsed
+groups-read noGroup fs = refl
+groups-read (group h ps inside behind) fs =
+    let tail = groupFrames behind ++ (endFrame ∷ fs) in
+    let e = points-read ps inside (groupFrames inside ++ (endFrame ∷ tail)) (parsed tail) (groups-read inside tail) in
+    ap parsed (group-frames h ps inside behind (endFrame ∷ fs)) ∙ rw (e, groups-read behind fs)
+
+-- A model is read in front of the models behind it.
+definition-read : (d : Definition) (fs : List Frame)
+    → parsed (definitionFrames d ++ fs) ≡ record { rest = parsed fs .rest; models = d ∷ parsed fs .models }
+unfolding parsed
+definition-read d fs =
+    let g = d .top .groups in
+    let held = points-read (d .top .points) g (groupFrames g ++ (endFrame ∷ fs)) (parsed fs) (groups-read g fs) in
+    ap parsed (definition-frames d fs) ∙ rw held
+
+-- The models of a catalog are read, and no group is left open.
+catalog-read : (ds : List Definition) → parsed (catalogFrames ds) ≡ record { rest = []; models = ds }
+unfolding parsed
+catalog-read [] = refl
+catalog-read (d ∷ ds) = rw (definition-read d (catalogFrames ds), catalog-read ds)
+
+-- The definitions of the catalog of definitions are these.
+pub definitions-back : (ds : List Definition) → definitions (wordsOfAll (catalogFrames ds)) ≡ ds
+definitions-back ds = ap (λ (r : Parsed). r .models) (ap parsed (frames-words (catalogFrames ds)) ∙ catalog-read ds)

@@ -1,0 +1,124 @@
+-- The frames of an accepted catalog are those of its models, one behind the other, each from its model frame to its end, and its
+-- words are the words of these frames.
+use mathlib.Core.Path.{_≡_, refl, sym, ap, _∙_}
+use mathlib.Core.Bool.{Bool, true, false, _&&_, _||_}
+use mathlib.Core.List.{List, [], _∷_}
+use Prim.Native.Nat.{ℕ, suc}
+use lib.Dec.{eqb}
+use Rattle.values.specs.Each.{Each}
+use Rattle.catalog.specs.Frames.{Point, Head, Frame, modelFrame, groupFrame, pointFrame, endFrame, malformed, fill, frames, wordsOfAll}
+use Rattle.catalog.specs.State.{Level, State, start, opened, withPoint, withGroup, closed, next}
+use Rattle.catalog.specs.Rules.{noModel, inTop, afterGroup, run, isMalformed, rules}
+use Rattle.catalog.specs.Checking.{accepted, checkFrom, checked}
+use Rattle.catalog.specs.Definitions.{Content, Definition, catalogFrames, Parsed, inFront, parsed, definitions}
+use Rattle.catalog.proofs.TestLaws.{clash, neither, none-broken}
+use Rattle.catalog.proofs.AcceptedSteps.{accepted-start, accepted-step}
+use Rattle.catalog.proofs.AcceptedFrames.{Standing, accepted-frames}
+use Rattle.catalog.proofs.TreeFrames.{contentFrames, group-frames, definition-frames}
+use Rattle.catalog.proofs.FrameWords.{words-frames}
+
+-- The frames of what open groups still hold, each to its end frame, the innermost first, and then the frames behind.
+abbrev restFrames : List Content → List Frame → List Frame
+restFrames [] behind = behind
+restFrames (c ∷ cs) behind = contentFrames (c .points) (c .groups) (restFrames cs behind)
+
+-- What is left stands for the open groups one by one, and one that has a group already holds no further point of its own.
+abbrev Matches : List Level → List Content → Type 0
+Matches [] [] = Unit {0}
+Matches [] (c ∷ cs) = ⊥
+Matches (l ∷ ls) [] = ⊥
+Matches (l ∷ ls) (c ∷ cs) = (l .hasGroup ≡ true → c .points ≡ []) × Matches ls cs
+
+-- These frames, behind these open groups, are read: what is read is what the open groups still hold, and has these frames.
+abbrev Reads : List Level → List Frame → Parsed → Type 0
+Reads ls fs r = Matches ls (r .rest) × (restFrames (r .rest) (catalogFrames (r .models)) ≡ fs)
+
+module _ (fs : List Frame) (ds : List Definition) where
+  -- What the open groups still hold, with the models behind them.
+  abbrev read : List Content → Parsed
+  read cs = record { rest = cs; models = ds }
+
+  -- A model frame is read where no model is open.
+  model-read : (id : ℕ) (ls : List Level) (cs : List Content) → noModel ls ≡ true
+      → Reads (opened ∷ []) fs (read cs)
+      → Reads ls (modelFrame id ∷ fs) (inFront (modelFrame id) (read cs))
+  model-read id ls [] e h = absurd (h .0)
+  model-read id ls (c ∷ b ∷ cs) e h = absurd (h .0 .1)
+  model-read id (l ∷ ls) (c ∷ []) e h = clash (sym e)
+  model-read id [] (c ∷ []) e h =
+      let d : Definition = record { id = id; top = c } in
+      (tt, definition-frames d (catalogFrames ds) ∙ rw (h .1))
+
+  -- A group frame is read where a model is open.
+  group-read : (g : Head) (ls : List Level) (cs : List Content) → noModel ls ≡ false
+      → Reads (withGroup ls) fs (read cs)
+      → Reads ls (groupFrame g ∷ fs) (inFront (groupFrame g) (read cs))
+  group-read g [] cs e h = clash e
+  group-read g (l ∷ ls) [] e h = absurd (h .0)
+  group-read g (l ∷ ls) (c ∷ []) e h = absurd (h .0 .1)
+  group-read g (l ∷ ls) (c ∷ b ∷ cs) e h =
+      let none-left : b .points ≡ [] = h .0 .1 .0 refl in
+      let behind = endFrame ∷ restFrames cs (catalogFrames ds) in
+      let tail = rw none-left at (h .1) in
+      ((λ t. none-left, h .0 .1 .1), rw (none-left, group-frames g (c .points) (c .groups) (b .groups) behind, tail))
+
+  -- A point frame is read where no group stands in its group yet.
+  point-read : (p : Point) (ls : List Level) (cs : List Content) → noModel ls || afterGroup ls ≡ false
+      → Reads (withPoint p ls) fs (read cs)
+      → Reads ls (pointFrame p ∷ fs) (inFront (pointFrame p) (read cs))
+  point-read p [] cs e h = clash e
+  point-read p (l ∷ ls) [] e h = absurd (h .0)
+  point-read p (l ∷ ls) (c ∷ cs) e h = ((λ t. cc, h .0 .1), rw (h .1))
+
+  -- An end frame is read where a group is open.
+  end-read : (ls : List Level) (cs : List Content) → noModel ls ≡ false
+      → Reads (closed ls) fs (read cs)
+      → Reads ls (endFrame ∷ fs) (inFront endFrame (read cs))
+  end-read [] cs e h = clash e
+  end-read (l ∷ ls) cs e h = ((λ t. refl, h .0), rw (h .1))
+
+-- With no model open nothing is left.
+none-open : (ls : List Level) → noModel ls ≡ true → Matches ls []
+none-open [] e = tt
+none-open (l ∷ ls) e = clash (sym e)
+
+-- Frames that stand in their places are read.
+reads : (fs : List Frame) (filled : Bool) (ls : List Level) → Standing filled ls fs → Reads ls fs (parsed fs)
+unfolding parsed
+reads [] filled ls s = (none-open ls s, refl)
+reads (modelFrame id ∷ fs) filled ls s =
+    let r = parsed fs in model-read fs (r .models) id ls (r .rest) (s .0) (reads fs false (opened ∷ []) (s .1))
+reads (groupFrame h ∷ fs) filled ls s =
+    let r = parsed fs in
+    let open-model = neither (noModel ls) (inTop ls && filled) .0 (s .0) .0 in
+    group-read fs (r .models) h ls (r .rest) open-model (reads fs (filled || eqb (h .countKind) fill) (withGroup ls) (s .2))
+reads (pointFrame p ∷ fs) filled ls s =
+    let r = parsed fs in point-read fs (r .models) p ls (r .rest) (s .0) (reads fs filled (withPoint p ls) (s .2))
+reads (endFrame ∷ fs) filled ls s =
+    let r = parsed fs in end-read fs (r .models) ls (r .rest) (s .0) (reads fs filled (closed ls) (s .2))
+reads (malformed ∷ fs) filled ls s = absurd s
+
+-- The frames of an accepted catalog are those of its models.
+pub frames-of-definitions : (ws : List ℕ) (n : ℕ) → checked ws ≡ accepted n → catalogFrames (definitions ws) ≡ frames ws
+frames-of-definitions ws n e =
+    let standing = accepted-frames (frames ws) start 0 n .0 (accepted-start ws n .0 e .2) .0 in
+    let r = reads (frames ws) false [] standing in
+    go (parsed (frames ws) .rest) (r .0) (r .1)
+  where
+    go : (cs : List Content) → Matches [] cs → restFrames cs (catalogFrames (definitions ws)) ≡ frames ws
+        → catalogFrames (definitions ws) ≡ frames ws
+    go [] m q = q
+    go (c ∷ cs) m q = absurd m
+
+-- No accepted frame is malformed.
+none-malformed : (fs : List Frame) (s : State) (i n : ℕ) → checkFrom s i fs ≡ accepted n → Each (λ f. isMalformed f ≡ false) fs
+none-malformed [] s i n e = tt
+none-malformed (f ∷ fs) s i n e =
+    let h = accepted-step s i f fs n .0 e in
+    (none-broken (rules s f (run (f ∷ fs))) .0 (h .0) .0, none-malformed fs (next s f) (suc i) n (h .1))
+
+-- The words of an accepted catalog are those of the frames of its models.
+pub words-of-definitions : (ws : List ℕ) (n : ℕ) → checked ws ≡ accepted n → wordsOfAll (catalogFrames (definitions ws)) ≡ ws
+words-of-definitions ws n e =
+    let a = accepted-start ws n .0 e in
+    ap wordsOfAll (frames-of-definitions ws n e) ∙ words-frames ws (a .0) (none-malformed (frames ws) start 0 n (a .2))

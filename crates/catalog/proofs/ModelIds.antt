@@ -1,0 +1,45 @@
+-- The models of an accepted catalog have distinct ids, and where the words are registers these are 1 to 65534.
+use mathlib.Core.Path.{_≡_, sym, subst}
+use mathlib.Core.List.{List, [], _∷_, _++_}
+use Prim.Native.Nat.{ℕ, _≤_, _<_}
+use native.Mathlib.Omega.{arith}
+use Rattle.values.specs.Each.{Each}
+use Rattle.values.specs.Registers.{AreRegisters}
+use Rattle.catalog.specs.Frames.{Frame, wordsOf, wordsOfAll}
+use Rattle.catalog.specs.Checking.{accepted, checked}
+use Rattle.catalog.specs.Definitions.{Definition, definitionFrames, catalogFrames, definitions}
+use Rattle.catalog.specs.Soundness.{Distinct, SoundDefinition, idsOf}
+use Rattle.catalog.proofs.ModelFrames.{words-of-definitions}
+use Rattle.catalog.proofs.AcceptedIsSound.{accepted-is-sound}
+
+-- The ids of an accepted catalog's models are distinct.
+pub ids-distinct : (ws : List ℕ) (n : ℕ) → checked ws ≡ accepted n → Distinct (idsOf (definitions ws))
+ids-distinct ws n e = accepted-is-sound ws n e .0 .distinct
+
+-- Words behind others are registers where all of them are.
+registers-behind : (us vs : List ℕ) → AreRegisters (us ++ vs) → AreRegisters vs
+registers-behind [] vs a = a
+registers-behind (u ∷ us) vs a = registers-behind us vs (a .1)
+
+-- So are the words of frames behind others.
+frames-behind : (fs gs : List Frame) → AreRegisters (wordsOfAll (fs ++ gs)) → AreRegisters (wordsOfAll gs)
+unfolding wordsOfAll
+frames-behind [] gs a = a
+frames-behind (f ∷ fs) gs a = frames-behind fs gs (registers-behind (wordsOf f) (wordsOfAll (fs ++ gs)) a)
+
+-- The ids of sound models whose words are registers are 1 to 65534.
+in-range : (ds : List Definition) → Each SoundDefinition ds → AreRegisters (wordsOfAll (catalogFrames ds))
+    → Each (λ id. (1 ≤ id) × (id ≤ 65534)) (idsOf ds)
+unfolding wordsOfAll
+in-range [] s a = tt
+in-range (d ∷ ds) s a =
+    let zero = s .0 .notZero in
+    let marker = s .0 .notMarker in
+    let register : d .id < 65536 = a .1 .0 in
+    ((omega arith, omega arith), in-range ds (s .1) (frames-behind (definitionFrames d) (catalogFrames ds) a))
+
+-- The ids of an accepted catalog's models are 1 to 65534, where its words are registers.
+pub ids-in-range : (ws : List ℕ) (n : ℕ) → AreRegisters ws → checked ws ≡ accepted n
+    → Each (λ id. (1 ≤ id) × (id ≤ 65534)) (idsOf (definitions ws))
+ids-in-range ws n a e =
+    in-range (definitions ws) (accepted-is-sound ws n e .0 .each) (subst AreRegisters (sym (words-of-definitions ws n e)) a)

@@ -1,0 +1,100 @@
+-- The frames of models keep rule 6 just where the ids are new and, in each model, the numbers are distinct and none is 0.
+use mathlib.Core.Path.{_≡_, sym, subst}
+use mathlib.Core.Bool.{false, _||_}
+use mathlib.Core.List.{List, [], _∷_, _++_}
+use mathlib.Core.Logic.{_↔_}
+use Prim.Native.Nat.{ℕ, _≤_}
+use native.Mathlib.Omega.{arith}
+use borrow.Author.Tests.{eqb-false, ne-eqb}
+use lib.Dec.{eqb}
+use Rattle.values.specs.Each.{Each}
+use Rattle.catalog.specs.Frames.{Point, Frame, modelFrame, groupFrame, pointFrame, endFrame, malformed}
+use Rattle.catalog.specs.Rules.{among}
+use Rattle.catalog.specs.Definitions.{Groups, noGroup, group, Definition, pointFrames, groupFrames, definitionFrames}
+use Rattle.catalog.specs.Soundness.{Distinct, numbersOf}
+use Rattle.catalog.proofs.TestLaws.{neither}
+use Rattle.catalog.proofs.AcceptedFrames.{Numbered}
+use Rattle.catalog.proofs.TreeFrames.{group-frames}
+use Rattle.catalog.proofs.NewNumbers.{New, all-new}
+
+-- The frame is no model frame.
+abbrev InModel : Frame → Type 0
+InModel (modelFrame id) = ⊥
+InModel (groupFrame h) = Unit {0}
+InModel (pointFrame p) = Unit {0}
+InModel endFrame = Unit {0}
+InModel malformed = Unit {0}
+
+-- The frames of points, in front of frames that stand in a model, stand in it.
+points-in-model : (ps : List Point) (fs : List Frame) → Each InModel fs → Each InModel (pointFrames ps ++ fs)
+points-in-model [] fs e = e
+points-in-model (p ∷ ps) fs e = (tt, points-in-model ps fs e)
+
+-- So do the frames of groups.
+groups-in-model : (g : Groups) (fs : List Frame) → Each InModel fs → Each InModel (groupFrames g ++ fs)
+groups-in-model noGroup fs e = e
+groups-in-model (group h ps inside behind) fs e =
+    let tail = groupFrames behind ++ fs in
+    let inner = groups-in-model inside (endFrame ∷ tail) (tt, groups-in-model behind fs e) in
+    subst (Each InModel) (sym (group-frames h ps inside behind fs))
+    (tt, points-in-model ps (groupFrames inside ++ (endFrame ∷ tail)) inner)
+
+-- The numbers `ns`, the newest first, in front of those used.
+abbrev pub usedAfter : List ℕ → List ℕ → List ℕ
+usedAfter [] used = used
+usedAfter (n ∷ ns) used = usedAfter ns (n ∷ used)
+
+-- A number in front keeps rule 6: it is not 0 and new, and what is asked of the numbers behind it holds.
+one-more : {A B : Type 0} (n : ℕ) (used ns : List ℕ) → A ↔ (Each (λ m. 1 ≤ m) ns × New (n ∷ used) ns × B)
+    → ((eqb n 0 || among n used ≡ false) × A) ↔ (Each (λ m. 1 ≤ m) (n ∷ ns) × New used (n ∷ ns) × B)
+one-more n used ns rest =
+    let h = neither (eqb n 0) (among n used) in (
+      λ w.
+          let f = h .0 (w .0) in
+          let z = eqb-false n 0 (f .0) in
+          let r = rest .0 (w .1) in
+          ((omega arith, r .0), (f .1, r .1), r .2),
+      λ w.
+          let z = w .0 .0 in
+          (h .1 (ne-eqb n 0 (λ q. absurd (omega arith)), w .1 .0), rest .1 (w .0 .1, w .1 .1, w .2)),
+    )
+
+module _ (n : ℕ) where
+  -- Frames in a model keep rule 6: their numbers are not 0 and new; then the frames behind.
+  numbers-in-model : (ids used : List ℕ) (fs behind : List Frame) → Each InModel fs
+      → Numbered n ids used (fs ++ behind)
+      ↔ (Each (λ m. 1 ≤ m) (numbersOf fs) × New used (numbersOf fs) × Numbered n ids (usedAfter (numbersOf fs) used) behind)
+  numbers-in-model ids used [] behind e = (λ w. (tt, tt, w), λ w. w .2)
+  numbers-in-model ids used (modelFrame id ∷ fs) behind e = absurd (e .0)
+  numbers-in-model ids used (groupFrame h ∷ fs) behind e =
+      one-more (h .number) used (numbersOf fs) (numbers-in-model ids (h .number ∷ used) fs behind (e .1))
+  numbers-in-model ids used (pointFrame p ∷ fs) behind e =
+      one-more (p .number) used (numbersOf fs) (numbers-in-model ids (p .number ∷ used) fs behind (e .1))
+  numbers-in-model ids used (endFrame ∷ fs) behind e = numbers-in-model ids used fs behind (e .1)
+  numbers-in-model ids used (malformed ∷ fs) behind e = numbers-in-model ids used fs behind (e .1)
+
+  -- A model's frames keep rule 6: its id is not 0 or 65535 and new, its numbers are not 0 and distinct; then the frames behind.
+  pub numbered-model : (ids used : List ℕ) (d : Definition) (fs : List Frame)
+      → Numbered n ids used (definitionFrames d ++ fs)
+      ↔ (((d .id ≡ 0 → ⊥) × (d .id ≡ 65535 → ⊥) × (among (d .id) ids ≡ false))
+      × Each (λ m. 1 ≤ m) (numbersOf (definitionFrames d))
+      × Distinct (numbersOf (definitionFrames d))
+      × Numbered n (d .id ∷ ids) (usedAfter (numbersOf (definitionFrames d)) []) fs)
+  numbered-model ids used d fs =
+      let id = d .id in
+      let groups = groupFrames (d .top .groups) ++ (endFrame ∷ []) in
+      let in-model = points-in-model (d .top .points) groups (groups-in-model (d .top .groups) (endFrame ∷ []) (tt, tt)) in
+      let rest = numbers-in-model (id ∷ ids) [] (pointFrames (d .top .points) ++ groups) fs in-model in
+      let both = neither (eqb id 0 || eqb id 65535) (among id ids) in
+      let ends = neither (eqb id 0) (eqb id 65535) in
+      let distinct = all-new (numbersOf (definitionFrames d)) in (
+        λ w.
+            let b = both .0 (w .0) in
+            let e = ends .0 (b .0) in
+            let r = rest .0 (w .1) in
+            ((eqb-false id 0 (e .0), eqb-false id 65535 (e .1), b .1), r .0, distinct .0 (r .1), r .2),
+        λ w. (
+          both .1 (ends .1 (ne-eqb id 0 (w .0 .0), ne-eqb id 65535 (w .0 .1)), w .0 .2),
+          rest .1 (w .1, distinct .1 (w .2), w .3),
+        ),
+      )

@@ -1,0 +1,104 @@
+-- A point frame and a group frame break no rule just where the point and the group's head are sound.
+use mathlib.Core.Path.{_≡_, refl, sym, ap}
+use mathlib.Core.Bool.{true, false, not, _||_}
+use mathlib.Core.List.{List, [], _∷_}
+use mathlib.Core.Logic.{_↔_}
+use Prim.Native.Nat.{suc}
+use native.Mathlib.Omega.{arith}
+use borrow.Author.Tests.{eqb-true, eqb-false, leb-false, ltb-false, eq-eqb, ne-eqb, lt-leb, le-ltb, not-true, not-false}
+use lib.Dec.{eqb, leb, ltb}
+use lib.ListN.{length}
+use Rattle.values.specs.Rows.{mayScale}
+use Rattle.values.specs.Classes.{twosComplement, isScaleFactor}
+use Rattle.catalog.specs.Frames.{Point, Head, pointFrame, noScale, fixedScale, scaleByPoint, constantCount, countByPoint, fill}
+use Rattle.catalog.specs.State.{Level}
+use Rattle.catalog.specs.Rules.{inTop, topPoints, hasScaleFactor, hasCountPoint, isSizeOf, any, isMistyped, scaleFaults, countFaults}
+use Rattle.catalog.specs.Definitions.{Groups, noGroup}
+use Rattle.catalog.specs.Soundness.{SoundPoint, SoundHead}
+use Rattle.catalog.proofs.TestLaws.{clash, neither, excludes, clause, none-of}
+
+-- A point frame breaks neither rule 7 nor rule 8 just where the point is sound.
+pub sound-point : (reach : List Point) (p : Point)
+    → ((isMistyped (pointFrame p) ≡ false) × (any (scaleFaults reach p) ≡ false)) ↔ SoundPoint reach p
+sound-point reach p =
+    let k = p .scaleKind in
+    let size = isSizeOf (p .typeCode) (p .size) in
+    let flags = neither (not size || ltb 1 (p .mandatory)) (ltb 1 (p .access)) in
+    let sizes = neither (not size) (ltb 1 (p .mandatory)) in
+    let faults = none-of (scaleFaults reach p) in
+    let unscaled = clause k noScale (eqb (p .scale) 0) in
+    let scalable = excludes (not (eqb k noScale)) (not (mayScale (p .typeCode))) in
+    let fixed = clause k fixedScale (isScaleFactor (twosComplement 16 (p .scale))) in
+    let found = clause k scaleByPoint (hasScaleFactor (p .scale) reach) in (
+      λ e.
+          let f = flags .0 (e .0) in
+          let g = sizes .0 (f .0) in
+          let c = faults .0 (e .1) in
+          record {
+            sized = not-false size (g .0);
+            mandatoryFlag = ltb-false 1 (p .mandatory) (g .1);
+            accessFlag = ltb-false 1 (p .access) (f .1);
+            scaleKnown = ltb-false 2 k (c .0);
+            unscaled = λ q. eqb-true (p .scale) 0 (unscaled .0 (c .1 .0) q);
+            scalable = λ q. not-false (mayScale (p .typeCode)) (scalable .0 (c .1 .1 .0) (rw (ne-eqb k noScale q)));
+            inRange = fixed .0 (c .1 .1 .1 .0);
+            resolved = found .0 (c .1 .1 .1 .1 .0);
+          },
+      λ s.
+          let sized = sizes .1 (ap not (s .sized), le-ltb 1 (p .mandatory) (s .mandatoryFlag)) in
+          let known = le-ltb 2 k (s .scaleKnown) in
+          let none = unscaled .1 (λ q. eq-eqb (p .scale) 0 (s .unscaled q)) in
+          let some = scalable .1 (λ q. ap not (s .scalable (eqb-false k noScale (not-true (eqb k noScale) q)))) in
+          let named = found .1 (s .resolved) in (
+            flags .1 (sized, le-ltb 1 (p .access) (s .accessFlag)),
+            faults .1 (known, (none, (some, (fixed .1 (s .inRange), (named, tt))))),
+          ),
+    )
+
+-- The top group is the innermost open one just where a group in it is at level 2.
+in-top : (ls : List Level) → (inTop ls ≡ true) ↔ (suc (length ls) ≡ 2)
+in-top [] = (λ e. clash (sym e), λ e. absurd (omega arith))
+in-top (l ∷ []) = (λ e. refl, λ e. refl)
+in-top (l ∷ k ∷ ls) = (λ e. clash (sym e), λ e. absurd (omega arith))
+
+-- A group frame in these open groups breaks none of the rules 5, 7 and 9.
+abbrev pub HeadUnbroken : List Level → Head → Type 0
+HeadUnbroken ls h =
+    (leb 4 (length ls) ≡ false) × (ltb 1 (h .groupType) ≡ false) × (any (countFaults (topPoints ls) (inTop ls) h) ≡ false)
+
+-- It breaks none of them, and no group stands behind a fill group in the top group, just where the group's head is sound.
+pub sound-head : (ls : List Level) (h : Head) (behind : Groups)
+    → (HeadUnbroken ls h × (h .countKind ≡ fill → inTop ls ≡ true → behind ≡ noGroup))
+    ↔ SoundHead (topPoints ls) (suc (length ls)) h behind
+sound-head ls h behind =
+    let k = h .countKind in
+    let faults = none-of (countFaults (topPoints ls) (inTop ls) h) in
+    let constant = excludes (eqb k constantCount) (eqb (h .count) 0) in
+    let counted = clause k countByPoint (hasCountPoint (h .count) (topPoints ls)) in
+    let direct = clause k fill (inTop ls) in
+    let uncounted = clause k fill (eqb (h .count) 0) in (
+      λ e.
+          let c = faults .0 (e .0 .2) in
+          record {
+            deep = leb-false 4 (length ls) (e .0 .0);
+            typeFlag = ltb-false 1 (h .groupType) (e .0 .1);
+            countKnown = ltb-false 2 k (c .0);
+            constant = λ q. let some = eqb-false (h .count) 0 (constant .0 (c .1 .0) (eq-eqb k constantCount q)) in omega arith;
+            counted = counted .0 (c .1 .1 .0);
+            filling = λ q. let top = direct .0 (c .1 .1 .1 .0) q in (
+              in-top ls .0 top,
+              e .1 q top,
+              eqb-true (h .count) 0 (uncounted .0 (c .1 .1 .1 .1 .0) q),
+            );
+          },
+      λ s.
+          let known = le-ltb 2 k (s .countKnown) in
+          let positive = constant .1 λ t.
+          ne-eqb (h .count) 0 (λ z. let c = s .constant (eqb-true k constantCount t) in absurd (omega arith)) in
+          let top = direct .1 (λ q. in-top ls .1 (s .filling q .0)) in
+          let zero = uncounted .1 (λ q. eq-eqb (h .count) 0 (s .filling q .2)) in
+          let unbroken = faults .1 (known, (positive, (counted .1 (s .counted), (top, (zero, tt))))) in (
+            (lt-leb 4 (length ls) (s .deep), le-ltb 1 (h .groupType) (s .typeFlag), unbroken),
+            λ q t. s .filling q .1,
+          ),
+    )

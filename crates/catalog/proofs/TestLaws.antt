@@ -1,0 +1,57 @@
+-- Laws of tests: what it means that they fail. A law with ↔ is read left to right by `.0` and right to left by `.1`.
+use mathlib.Core.Path.{_≡_, refl, sym, ap, _∙_}
+use mathlib.Core.Bool.{Bool, true, false, not, _&&_, _||_}
+use mathlib.Core.List.{List, [], _∷_}
+use mathlib.Core.Logic.{_↔_, Iff·rfl, Iff·trans, Iff·and}
+use mathlib.Core.Option.{Option, none}
+use Prim.Native.Nat.{ℕ}
+use native.Mathlib.Omega.{arith}
+use borrow.Author.Tests.{eqb-true, eq-eqb, not-false}
+use lib.Dec.{eqb}
+use Rattle.values.specs.Each.{Each}
+use Rattle.catalog.specs.Rules.{any, firstBroken}
+
+-- No test comes out both ways.
+pub clash : {A : Type 0} → true ≡ false → A
+clash e = let z : _≡_ {A = ℕ} 0 1 = cc in absurd (omega arith)
+
+-- What holds of both outcomes of a test holds of the one that it picks.
+pub by-test : {A : Type 0} (P : A → Type 0) (b : Bool) {x y : A} → (b ≡ true → P x) → (b ≡ false → P y)
+    → P (elim b [ true ↦ x | false ↦ y ])
+by-test P true t f = t refl
+by-test P false t f = f refl
+
+-- Where two tests hold together, each holds.
+pub both : (a b : Bool) → a && b ≡ true → (a ≡ true) × (b ≡ true)
+both true b e = (refl, e)
+both false b e = clash (sym e)
+
+-- Not even one of two tests holds.
+pub neither : (a b : Bool) → (a || b ≡ false) ↔ ((a ≡ false) × (b ≡ false))
+neither true b = (λ e. clash e, λ h. h .0)
+neither false b = (λ e. (refl, e), λ h. h .1)
+
+-- Where one test holds, another does not.
+pub excludes : (a b : Bool) → (a && b ≡ false) ↔ (a ≡ true → b ≡ false)
+excludes true b = (λ e t. e, λ h. h refl)
+excludes false b = (λ e t. clash (sym t), λ h. refl)
+
+-- A clause of a rule is not broken: in its case, what it asks for holds.
+pub clause : (n case : ℕ) (asked : Bool) → (eqb n case && not asked ≡ false) ↔ (n ≡ case → asked ≡ true)
+clause n case asked =
+    let x = excludes (eqb n case) (not asked) in
+    (λ e q. not-false asked (x .0 e (eq-eqb n case q)), λ h. x .1 (λ t. ap not (h (eqb-true n case t))))
+
+-- None of these tests holds.
+pub none-of : (ts : List Bool) → (any ts ≡ false) ↔ Each (λ t. t ≡ false) ts
+none-of [] = (λ e. tt, λ e. refl)
+none-of (t ∷ ts) = Iff·trans (neither t (any ts)) (Iff·and Iff·rfl (none-of ts))
+
+-- None of these rules is broken.
+pub none-broken : (rs : List (Bool × ℕ)) → (firstBroken rs ≡ none) ↔ Each (λ r. r .0 ≡ false) rs
+none-broken [] = (λ e. tt, λ e. refl)
+none-broken (r ∷ rs) =
+    let P : Option ℕ → Type 0 = λ o. (o ≡ none) ↔ ((r .0 ≡ false) × Each (λ q. q .0 ≡ false) rs) in
+    let rest = none-broken rs in
+    by-test P (r .0) (λ t. (λ e. let z : _≡_ {A = ℕ} 0 1 = cc in absurd (omega arith), λ h. clash (sym t ∙ h .0)))
+    (λ f. (λ e. (f, rest .0 e), λ h. rest .1 (h .1)))

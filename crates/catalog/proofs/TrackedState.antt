@@ -1,0 +1,253 @@
+-- The code's state goes on standing for that of the check, from the start and from frame to frame.
+use mathlib.Core.Path.{_≡_, refl, sym, ap, subst, _∙_}
+use mathlib.Core.Logic.{_≢_}
+use mathlib.Core.Bool.{Bool, true, false, not, _&&_, _||_}
+use mathlib.Core.List.{List, [], _∷_, _++_, append-assoc}
+use mathlib.Core.Option.{Option, none, some}
+use Prim.Native.Nat.{ℕ, zero, suc, _+_, _-_, _/_, _≤_, _<_}
+use native.Mathlib.Nat.{zero-add}
+use native.Mathlib.Numerals.{add-one}
+use native.Mathlib.Omega.{arith}
+use borrow.Author.Tests.{leb-false}
+use lib.Dec.{eqb, leb}
+use lib.ListN.{length, getD, set, length-set}
+use lib.Seq.{getD-set-same, getD-set-other}
+use Rattle.catalog.specs.Frames.{Point, Head, Frame, modelFrame, groupFrame, pointFrame, endFrame, malformed, word, frameAt, wordsOf, fill}
+use Rattle.catalog.specs.State as check
+use Rattle.catalog.specs.State.{Level, start, opened, next}
+use Rattle.catalog.specs.Rules.{run, noModel, inTop, afterGroup, isMalformed, rules, fault}
+use Rattle.catalog.specs.Scans.{framesAfter, numbersBefore}
+use Rattle.catalog.specs.Tracking.{Within, Tracks, Opens, Room, aheadOf, stateBehind}
+use Rattle.catalog.specs.declared.state.State.{State}
+use Rattle.catalog.proofs.FrameWords.{eight-back}
+use Rattle.catalog.proofs.OpenGroups.{one-deeper}
+use Rattle.catalog.proofs.TestLaws.{none-broken, clash, neither}
+use Rattle.catalog.proofs.TrackedRules.{no-point-ahead}
+
+-- Before the first frame.
+pub tracks-start : (ws : List ℕ)
+    → Tracks ws 0 (record { models = 0; depth = 0; firsts = 0 ∷ 0 ∷ 0 ∷ 0 ∷ []; «has_group» = false; «has_fill» = false }) start
+unfolding numbersBefore
+tracks-start ws =
+    record {
+      within = record { few = omega arith; deep = omega arith; four = refl; passed = all-zero };
+      models = refl;
+      ids = refl;
+      depth = refl;
+      numbers = λ h. absurd (omega (arith, h));
+      hasFill = refl;
+      levels = tt;
+    }
+  where
+    all-zero : (k : ℕ) → getD (0 ∷ 0 ∷ 0 ∷ 0 ∷ []) k 0 ≤ 0
+    all-zero zero = omega arith
+    all-zero (suc zero) = omega arith
+    all-zero (suc (suc zero)) = omega arith
+    all-zero (suc (suc (suc zero))) = omega arith
+    all-zero (suc (suc (suc (suc k)))) = omega arith
+
+-- ---- Numbers of the frames so far
+
+module _ (ws : List ℕ) (low high first n i : ℕ) (e : first + n ≡ i) where
+  number-added : leb low (word ws i 0) && leb (word ws i 0) high ≡ true
+      → numbersBefore ws low high first (suc n) ≡ word ws i 1 ∷ numbersBefore ws low high first n
+  unfolding numbersBefore
+  number-added h = let g = rw (← e) at h in rw (← e, numbersBefore, g)
+
+  nothing-added : leb low (word ws i 0) && leb (word ws i 0) high ≡ false
+      → numbersBefore ws low high first (suc n) ≡ numbersBefore ws low high first n
+  unfolding numbersBefore
+  nothing-added h = let g = rw (← e) at h in simp (numbersBefore, g)
+
+-- The words of a frame that is not malformed.
+words-here : (ws : List ℕ) (i : ℕ) (f : Frame) → frameAt ws i ≡ f → isMalformed f ≡ false
+    → wordsOf f ≡ word ws i 0 ∷ word ws i 1 ∷ word ws i 2 ∷ word ws i 3 ∷ word ws i 4 ∷ word ws i 5 ∷ word ws i 6 ∷ word ws i 7 ∷ []
+words-here ws i f e =
+    subst (λ x. isMalformed x ≡ false → wordsOf x ≡ word ws i 0 ∷ word ws i 1 ∷ word ws i 2 ∷ word ws i 3 ∷ word ws i 4 ∷ word ws i 5 ∷ word ws i 6 ∷ word ws i 7 ∷ [])
+    e (eight-back (word ws i 0) (word ws i 1) (word ws i 2) (word ws i 3) (word ws i 4) (word ws i 5) (word ws i 6) (word ws i 7))
+
+-- The ids and numbers so far, behind a frame of this kind and with this number.
+module _ (ws : List ℕ) (i : ℕ) (c : State) (s : check.State) (t : Tracks ws i c s) where
+  ids-kept : (k : ℕ) → word ws i 0 ≡ k → leb 1 k && leb k 1 ≡ false → s .ids ≡ numbersBefore ws 1 1 0 (i + 1)
+  ids-kept k e h = rw (add-one i, nothing-added ws 1 1 0 i i (zero-add i) (rw e h)) (t .ids)
+
+  id-added : (id : ℕ) → word ws i 0 ≡ 1 → word ws i 1 ≡ id → id ∷ s .ids ≡ numbersBefore ws 1 1 0 (i + 1)
+  id-added id e q = rw (add-one i, number-added ws 1 1 0 i i (zero-add i) (rw e), q) (ap (λ ns. id ∷ ns) (t .ids))
+
+  numbers-kept : 1 ≤ c .depth → (k : ℕ) → word ws i 0 ≡ k → leb 2 k && leb k 3 ≡ false
+      → s .numbers ≡ numbersBefore ws 2 3 (getD (c .firsts) 0 0) (i + 1 - getD (c .firsts) 0 0)
+  numbers-kept d k e h =
+      let p = t .within .passed 0 in
+      let f = getD (c .firsts) 0 0 in
+      let m : i + 1 - f ≡ suc (i - f) = omega arith in
+      rw (m, nothing-added ws 2 3 f (i - f) i (omega arith) (rw e h)) (t .numbers d)
+
+  number-more : 1 ≤ c .depth → (k n : ℕ) → word ws i 0 ≡ k → leb 2 k && leb k 3 ≡ true → word ws i 1 ≡ n
+      → n ∷ s .numbers ≡ numbersBefore ws 2 3 (getD (c .firsts) 0 0) (i + 1 - getD (c .firsts) 0 0)
+  number-more d k n e h q =
+      let p = t .within .passed 0 in
+      let f = getD (c .firsts) 0 0 in
+      let m : i + 1 - f ≡ suc (i - f) = omega arith in
+      rw (m, number-added ws 2 3 f (i - f) i (omega arith) (rw e h), q) (ap (λ ns. n ∷ ns) (t .numbers d))
+
+  -- The bounds of a state that stays, one frame later.
+  later : Within ws (i + 1) c
+  later =
+      let w = t .within in
+      let few = w .few in
+      record { few = omega arith; deep = w .deep; four = w .four; passed = λ k. let p = w .passed k in omega arith }
+
+-- A store keeps a bound on all entries.
+still-bounded : (xs : List ℕ) (d v b : ℕ) → ((k : ℕ) → getD xs k 0 ≤ b) → v ≤ b → (k : ℕ) → getD (set xs d v) k 0 ≤ b
+still-bounded [] d v b h g k = omega arith
+still-bounded (x ∷ xs) zero v b h g zero = g
+still-bounded (x ∷ xs) zero v b h g (suc k) = h (suc k)
+still-bounded (x ∷ xs) (suc d) v b h g zero = h 0
+still-bounded (x ∷ xs) (suc d) v b h g (suc k) = still-bounded xs d v b (λ j. h (suc j)) g k
+
+-- ---- Behind each kind of frame
+
+module _ (ws : List ℕ) (i : ℕ) (c : State) (s : check.State) (t : Tracks ws i c s) where
+  behind-model : (id : ℕ) → frameAt ws i ≡ modelFrame id
+      → Tracks ws (i + 1) (stateBehind c i (modelFrame id)) (next s (modelFrame id))
+  unfolding numbersBefore
+  behind-model id e =
+      let w = words-here ws i (modelFrame id) e refl in
+      let few = t .within .few in
+      let none-yet : i + 1 - (i + 1) ≡ 0 = omega arith in
+      record {
+        within = record { few = omega arith; deep = omega arith; four = refl; passed = here };
+        models = ap (λ n. n + 1) (t .models) ∙ add-one (length (s .ids));
+        ids = id-added ws i c s t id (sym (ap (λ l. getD l 0 0) w)) (sym (ap (λ l. getD l 1 0) w));
+        depth = refl;
+        numbers = λ h. rw none-yet;
+        hasFill = refl;
+        levels = (refl, refl, tt);
+      }
+    where
+      here : (k : ℕ) → getD ((i + 1) ∷ 0 ∷ 0 ∷ 0 ∷ []) k 0 ≤ i + 1
+      here zero = omega arith
+      here (suc zero) = omega arith
+      here (suc (suc zero)) = omega arith
+      here (suc (suc (suc zero))) = omega arith
+      here (suc (suc (suc (suc k)))) = omega arith
+
+  module _ (l : Level) (ls : List Level) (q : s .levels ≡ l ∷ ls) where
+    depth-here : c .depth ≡ suc (length ls)
+    depth-here = t .depth ∙ ap length q
+
+    behind-group : (h : Head) → frameAt ws i ≡ groupFrame h → run (framesAfter ws i) ≡ [] → c .depth < 4
+        → Tracks ws (i + 1) (stateBehind c i (groupFrame h)) (next s (groupFrame h))
+    behind-group h e r deep =
+        let w = words-here ws i (groupFrame h) e refl in
+        let few = t .within .few in
+        let d = depth-here in
+        let o = subst (Opens ws (c .firsts) (c .«has_group») []) q (no-point-ahead ws i c s t r) in
+        let f = getD-set-other (c .firsts) (c .depth) 0 (i + 1) 0 (λ z. omega (arith, z, d)) in
+        let four = t .within .four in
+        let stored = getD-set-same (c .firsts) (c .depth) (i + 1) 0 (omega arith) in
+        let kept = one-deeper ws (c .firsts) true [] (record { points = l .points; hasGroup = true } ∷ ls) (c .depth) (i + 1) (omega arith) (o .0, refl, o .2) in
+        record {
+          within = record {
+            few = omega arith;
+            deep = omega arith;
+            four = length-set (c .firsts) (c .depth) (i + 1) ∙ four;
+            passed = still-bounded (c .firsts) (c .depth) (i + 1) (i + 1) (λ k. let p = t .within .passed k in omega arith) (omega arith);
+          };
+          models = t .models;
+          ids = ids-kept ws i c s t 2 (sym (ap (λ l. getD l 0 0) w)) refl;
+          depth = rw q (omega arith);
+          numbers = λ h. rw f (number-more ws i c s t (omega arith) 2 _ (sym (ap (λ l. getD l 0 0) w)) refl (sym (ap (λ l. getD l 1 0) w)));
+          hasFill = ap (λ b. b || eqb (h .countKind) fill) (t .hasFill);
+          levels = rw q (rw (← d, stored), refl, kept);
+        }
+
+    behind-point : (p : Point) → frameAt ws i ≡ pointFrame p → run (framesAfter ws i) ≡ p ∷ run (framesAfter ws (i + 1))
+        → l .hasGroup ≡ false → Tracks ws (i + 1) (stateBehind c i (pointFrame p)) (next s (pointFrame p))
+    behind-point p e r g =
+        let w = words-here ws i (pointFrame p) e refl in
+        let d = depth-here in
+        let o = subst (Opens ws (c .firsts) (c .«has_group») (aheadOf ws i (c .«has_group»))) q (t .levels) in
+        let b : c .«has_group» ≡ false = sym (o .1) ∙ g in
+        let same : aheadOf ws i (c .«has_group») ≡ p ∷ run (framesAfter ws (i + 1)) = ap (aheadOf ws i) b ∙ r in
+        let on : aheadOf ws (i + 1) (c .«has_group») ≡ run (framesAfter ws (i + 1)) = ap (aheadOf ws (i + 1)) b in
+        let split = append-assoc (l .points) (p ∷ []) (run (framesAfter ws (i + 1))) in
+        record {
+          within = later ws i c s t;
+          models = t .models;
+          ids = ids-kept ws i c s t 3 (sym (ap (λ l. getD l 0 0) w)) refl;
+          depth = rw q d;
+          numbers = λ h. number-more ws i c s t h 3 _ (sym (ap (λ l. getD l 0 0) w)) refl (sym (ap (λ l. getD l 1 0) w));
+          hasFill = t .hasFill;
+          levels = rw q (o .0 ∙ ap (λ ps. l .points ++ ps) same ∙ sym (ap (λ ps. (l .points ++ (p ∷ [])) ++ ps) on ∙ split), o .1, o .2);
+        }
+
+    behind-end : frameAt ws i ≡ endFrame → run (framesAfter ws i) ≡ []
+        → Tracks ws (i + 1) (stateBehind c i endFrame) (next s endFrame)
+    behind-end e r =
+        let w = words-here ws i endFrame e refl in
+        let few = t .within .few in
+        let deep = t .within .deep in
+        let d = depth-here in
+        let kind = sym (ap (λ l. getD l 0 0) w) in
+        let o = subst (Opens ws (c .firsts) (c .«has_group») []) q (no-point-ahead ws i c s t r) in
+        record {
+          within = record {
+            few = omega arith;
+            deep = omega arith;
+            four = t .within .four;
+            passed = later ws i c s t .passed;
+          };
+          models = t .models;
+          ids = ids-kept ws i c s t 4 kind refl;
+          depth = rw q (omega arith);
+          numbers = λ h. numbers-kept ws i c s t (omega arith) 4 kind refl;
+          hasFill = t .hasFill;
+          levels = rw q (o .2);
+        }
+
+-- ---- Whatever the frame
+
+module _ (ws : List ℕ) (i : ℕ) (c : State) (s : check.State) (t : Tracks ws i c s) where
+  -- With an open model there is an innermost open group.
+  inside : (X : Type 0) → noModel (s .levels) ≡ false → ((l : Level) (ls : List Level) → s .levels ≡ l ∷ ls → X) → X
+  inside X h k = go (s .levels) refl h
+    where
+      go : (ls : List Level) → s .levels ≡ ls → noModel ls ≡ false → X
+      go [] q g = clash g
+      go (l ∷ ls) q g = k l ls q
+
+  -- A frame that breaks no rule finds room for the group that it opens, and a group to end.
+  pub has-room : (f : Frame) (ahead : List Point) → fault s f ahead ≡ none → Room c f
+  has-room (modelFrame id) ahead n = tt
+  has-room (groupFrame h) ahead n =
+      let x = none-broken (rules s (groupFrame h) ahead) .0 n .1 .1 .0 in
+      let d = t .depth in
+      let y = leb-false 4 (length (s .levels)) x in
+      omega arith
+  has-room (pointFrame p) ahead n = tt
+  has-room endFrame ahead n =
+      let x = none-broken (rules s endFrame ahead) .0 n .1 .0 in
+      inside (1 ≤ c .depth) x (λ l ls q. let d = t .depth ∙ ap length q in omega arith)
+  has-room malformed ahead n = tt
+
+  -- Behind a frame that breaks no rule.
+  pub tracks-next : (f : Frame) → frameAt ws i ≡ f → framesAfter ws i ≡ f ∷ framesAfter ws (i + 1)
+      → fault s f (run (framesAfter ws i)) ≡ none → Tracks ws (i + 1) (stateBehind c i f) (next s f)
+  tracks-next (modelFrame id) e a n = behind-model ws i c s t id e
+  tracks-next (groupFrame h) e a n =
+      let b = none-broken (rules s (groupFrame h) (run (framesAfter ws i))) .0 n in
+      let x = neither (noModel (s .levels)) (inTop (s .levels) && s .hasFill) .0 (b .1 .0) .0 in
+      let room = has-room (groupFrame h) (run (framesAfter ws i)) n in
+      inside (Tracks ws (i + 1) (stateBehind c i (groupFrame h)) (next s (groupFrame h))) x
+      (λ l ls q. behind-group ws i c s t l ls q h e (ap run a) room)
+  tracks-next (pointFrame p) e a n =
+      let b = none-broken (rules s (pointFrame p) (run (framesAfter ws i))) .0 n in
+      let x = neither (noModel (s .levels)) (afterGroup (s .levels)) .0 (b .1 .0) in
+      inside (Tracks ws (i + 1) (stateBehind c i (pointFrame p)) (next s (pointFrame p))) (x .0)
+      (λ l ls q. behind-point ws i c s t l ls q p e (ap run a) (sym (ap afterGroup q) ∙ x .1))
+  tracks-next endFrame e a n =
+      let b = none-broken (rules s endFrame (run (framesAfter ws i))) .0 n in
+      inside (Tracks ws (i + 1) (stateBehind c i endFrame) (next s endFrame)) (b .1 .0)
+      (λ l ls q. behind-end ws i c s t l ls q e (ap run a))
+  tracks-next malformed e a n = let z : _≡_ {A = ℕ} 0 1 = cc in absurd (omega arith)

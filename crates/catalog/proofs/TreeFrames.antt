@@ -1,0 +1,30 @@
+-- The frames of groups and of a model, with further frames behind them.
+use mathlib.Core.Path.{_≡_, refl, ap}
+use mathlib.Core.List.{List, [], _∷_, _++_, append-assoc}
+use Rattle.catalog.specs.Frames.{Point, Head, Frame, modelFrame, groupFrame, endFrame}
+use Rattle.catalog.specs.Rules.{run}
+use Rattle.catalog.specs.Definitions.{Groups, noGroup, group, Definition, pointFrames, groupFrames, definitionFrames}
+
+-- The frames of what a group holds, to its end frame, and those behind.
+abbrev pub contentFrames : List Point → Groups → List Frame → List Frame
+contentFrames ps g behind = pointFrames ps ++ (groupFrames g ++ (endFrame ∷ behind))
+
+-- A group's frames are its group frame, those of what it holds, and those of the groups behind it.
+pub group-frames : (h : Head) (ps : List Point) (inside behind : Groups) (fs : List Frame)
+    → groupFrames (group h ps inside behind) ++ fs ≡ groupFrame h ∷ contentFrames ps inside (groupFrames behind ++ fs)
+group-frames h ps inside behind fs = simp append-assoc
+
+-- A model's frames are its model frame and those of what its top group holds.
+pub definition-frames : (d : Definition) (fs : List Frame)
+    → definitionFrames d ++ fs ≡ modelFrame (d .id) ∷ contentFrames (d .top .points) (d .top .groups) fs
+definition-frames d fs = simp append-assoc
+
+-- The run of point frames ends where something else begins.
+pub run-points : (ps : List Point) (fs : List Frame) → run fs ≡ [] → run (pointFrames ps ++ fs) ≡ ps
+run-points [] fs e = e
+run-points (p ∷ ps) fs e = ap {B = List Point} (λ r. p ∷ r) (run-points ps fs e)
+
+-- No point frame follows the points of a group.
+pub run-groups : (g : Groups) (fs : List Frame) → run (groupFrames g ++ (endFrame ∷ fs)) ≡ []
+run-groups noGroup fs = refl
+run-groups (group h ps inside behind) fs = refl

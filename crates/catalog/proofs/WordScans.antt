@@ -1,0 +1,112 @@
+-- The code's searches over frames, step by step.
+use mathlib.Core.Path.{_≡_, refl, sym, ap, _∙_}
+use mathlib.Core.Bool.{Bool, true, false, _&&_, _||_}
+use mathlib.Core.List.{List, [], _∷_, _++_}
+use Prim.Native.Nat.{ℕ, zero, suc, _+_, _-_, _/_, _≤_, _<_}
+use native.Mathlib.Numerals.{add-one}
+use native.Mathlib.Omega.{arith}
+use borrow.Author.Tests.{eq-eqb, ne-eqb}
+use lib.Dec.{eqb, leb}
+use lib.ListN.{length, getD}
+use Rattle.catalog.specs.Frames.{Point, Frame, modelFrame, groupFrame, pointFrame, endFrame, malformed, word, frameOf, frameAt, framesFrom}
+use Rattle.catalog.specs.Rules.{among, run, hasPoint, hasScaleFactor, isScaleFactorPoint}
+use Rattle.catalog.specs.Scans.{zeroWords, isNumber, numbersBefore, isSought, framesAfter, pointWords, runsOf}
+use Rattle.catalog.specs.declared.scans.Sought.{Sought}
+use Rattle.catalog.proofs.FrameKinds as kinds
+
+-- ---- Words that are 0
+
+module _ (ws : List ℕ) (i k n : ℕ) where
+  pub zero-none : n ≤ 0 → zeroWords ws i k n ≡ true
+  unfolding zeroWords
+  zero-none h = let e : n ≡ 0 = omega arith in rw e
+
+  module _ (m : ℕ) (e : n ≡ m + 1) (w : ℕ) (q : w ≡ word ws i k) where
+    pub zero-stops : (w ≡ 0 → ⊥) → zeroWords ws i k n ≡ false
+    unfolding zeroWords
+    zero-stops h = rw (e, add-one m, zeroWords, ← q, ne-eqb w 0 h)
+
+    pub zero-goes : w ≡ 0 → zeroWords ws i (k + 1) m ≡ zeroWords ws i k n
+    unfolding zeroWords
+    zero-goes h = rw (e, add-one m, zeroWords, ← q, eq-eqb w 0 h, add-one k)
+
+-- ---- Numbers of frames
+
+module _ (ws : List ℕ) (low high first number : ℕ) where
+  -- One frame more.
+  number-more : (m : ℕ)
+      → among number (numbersBefore ws low high first (suc m)) ≡ isNumber ws low high number (first + m) || among number (numbersBefore ws low high first m)
+  unfolding numbersBefore
+  number-more m = go (leb low (word ws (first + m) 0) && leb (word ws (first + m) 0) high)
+    where
+      go : (b : Bool)
+          → among number (elim b [ true ↦ word ws (first + m) 1 ∷ numbersBefore ws low high first m | false ↦ numbersBefore ws low high first m ])
+          ≡ (b && eqb number (word ws (first + m) 1)) || among number (numbersBefore ws low high first m)
+      go true = refl
+      go false = refl
+
+  module _ (n m j : ℕ) (e : n ≡ m + 1) (q : j ≡ first + m) where
+    pub number-here : isNumber ws low high number j ≡ true → among number (numbersBefore ws low high first n) ≡ true
+    number-here h = rw (e, add-one m, number-more m, ← q, h)
+
+    pub number-not-here : isNumber ws low high number j ≡ false
+        → among number (numbersBefore ws low high first n) ≡ among number (numbersBefore ws low high first m)
+    number-not-here h = rw (e, add-one m, number-more m, ← q, h)
+
+  pub number-nowhere : (n : ℕ) → n ≤ 0 → among number (numbersBefore ws low high first n) ≡ false
+  unfolding numbersBefore
+  number-nowhere n h = let e : n ≡ 0 = omega arith in rw e
+
+-- ---- Runs of points
+
+-- A point of another number is not the one that is looked for.
+pub other-number : (x : Sought) (n : ℕ) (p : Point) → (p .number ≡ n → ⊥) → isSought x n p ≡ false
+other-number Sought.ScaleFactor n p h = rw (ne-eqb (p .number) n h)
+other-number Sought.CountPoint n p h = rw (ne-eqb (p .number) n h)
+
+-- The frames from frame j on: that one and those behind it, or none.
+pub frames-more : (ws : List ℕ) (j : ℕ) → j < length ws / 8 → framesAfter ws j ≡ frameAt ws j ∷ framesAfter ws (j + 1)
+unfolding framesFrom
+frames-more ws j h =
+    let e : length ws / 8 - j ≡ suc (length ws / 8 - (j + 1)) = omega arith in
+    rw (e, framesFrom, add-one j)
+
+pub frames-none : (ws : List ℕ) (j : ℕ) → length ws / 8 ≤ j → framesAfter ws j ≡ []
+unfolding framesFrom
+frames-none ws j h = let e : length ws / 8 - j ≡ 0 = omega arith in rw (e, framesFrom)
+
+-- A run begins with the point of a point frame, and nothing else begins one.
+module _ (ws : List ℕ) (j k : ℕ) (h : j < length ws / 8) (q : k ≡ word ws j 0) where
+  pub run-goes : k ≡ 3 → run (framesAfter ws j) ≡ pointWords ws j ∷ run (framesAfter ws (j + 1))
+  run-goes e = rw (frames-more ws j h, kinds.kind-3 ws j k q e)
+
+  pub run-ends : (k ≡ 3 → ⊥) → run (framesAfter ws j) ≡ []
+  run-ends n = rw (frames-more ws j h) (kinds.no-point-here ws j k q n (framesAfter ws (j + 1)))
+
+-- ---- The runs of the open groups
+
+pub has-either : (such : Point → Bool) (ps qs : List Point) → hasPoint such (ps ++ qs) ≡ hasPoint such ps || hasPoint such qs
+has-either such [] qs = refl
+has-either such (p ∷ ps) qs = go (such p) (has-either such ps qs)
+  where
+    go : (b : Bool) → hasPoint such (ps ++ qs) ≡ hasPoint such ps || hasPoint such qs
+        → b || hasPoint such (ps ++ qs) ≡ (b || hasPoint such ps) || hasPoint such qs
+    go true e = refl
+    go false e = e
+
+module _ (ws firsts : List ℕ) (n k m : ℕ) (e : k ≡ m + 1) where
+  -- One group more.
+  reach-more : hasScaleFactor n (runsOf ws firsts k) ≡ hasScaleFactor n (run (framesAfter ws (getD firsts m 0))) || hasScaleFactor n (runsOf ws firsts m)
+  unfolding runsOf
+  reach-more = rw (e, add-one m) (has-either (isScaleFactorPoint n) (run (framesAfter ws (getD firsts m 0))) (runsOf ws firsts m))
+
+  pub reach-here : hasScaleFactor n (run (framesAfter ws (getD firsts m 0))) ≡ true → hasScaleFactor n (runsOf ws firsts k) ≡ true
+  reach-here h = rw (reach-more, h)
+
+  pub reach-not-here : hasScaleFactor n (run (framesAfter ws (getD firsts m 0))) ≡ false
+      → hasScaleFactor n (runsOf ws firsts k) ≡ hasScaleFactor n (runsOf ws firsts m)
+  reach-not-here h = rw (reach-more, h)
+
+pub reach-nowhere : (ws firsts : List ℕ) (n k : ℕ) → k ≤ 0 → hasScaleFactor n (runsOf ws firsts k) ≡ false
+unfolding runsOf
+reach-nowhere ws firsts n k h = let e : k ≡ 0 = omega arith in rw e

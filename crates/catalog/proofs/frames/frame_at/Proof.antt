@@ -1,0 +1,90 @@
+-- `catalog::frames::frame_at` meets its contract: the arm of each kind is that kind's line of `frameOf`.
+use mathlib.Core.Path.{_≡_, sym, ap, _∙_}
+use borrow.Author.Tests.{not-true, not-false}
+use Rattle.catalog.specs.Frames.{modelFrame, groupFrame, pointFrame, endFrame}
+use Rattle.catalog.proofs.FrameKinds as kinds
+use borrow.Author.Needs.{needs}
+use Rattle.catalog.proofs.frames.frame_at.Statement.{statement}
+use Rattle.catalog.proofs.frames.frame_at.Tie as tie
+
+word-of-requires : tie.Need-word-of-requires
+word-of-requires c κs = search needs
+
+zero-from-requires : tie.Need-zero-from-requires
+zero-from-requires c κs = search needs
+
+returns : tie.Need-returns
+returns c =
+    let kind = c .before .before .before .word-of in
+    rw (kinds.kind-1 _ _ _ (kind .ensures) (c .before .before .match .keys1), ← c .before .zero-from .ensures, not-true (c .before .zero-from .result) (c .if1 .taken))
+
+word-of-requires-2 : tie.Need-word-of-requires-2
+word-of-requires-2 c κs = search needs
+
+zero-from-requires-2 : tie.Need-zero-from-requires-2
+zero-from-requires-2 c κs = search needs
+
+returns-2 : tie.Need-returns-2
+returns-2 c =
+    let kind = c .before .before .before .word-of in
+    rw (kinds.kind-2 _ _ _ (kind .ensures) (c .before .before .match .keys2), ← c .before .zero-from2 .ensures, not-true (c .before .zero-from2 .result) (c .if2 .taken))
+
+head-at-requires : tie.Need-head-at-requires
+head-at-requires c κs = search needs
+
+point-at-requires : tie.Need-point-at-requires
+point-at-requires c κs = search needs
+
+zero-from-requires-3 : tie.Need-zero-from-requires-3
+zero-from-requires-3 c κs = search needs
+
+returns-3 : tie.Need-returns-3
+returns-3 c =
+    let kind = c .before .before .before .word-of in
+    rw (kinds.kind-4 _ _ _ (kind .ensures) (c .before .before .match .keys4), ← c .before .zero-from3 .ensures, not-true (c .before .zero-from3 .result) (c .if3 .taken))
+
+returns-4 : tie.Need-returns-4
+returns-4 c =
+    let kind = c .before .before .before .before .word-of in
+    rw (kinds.kind-1 _ _ _ (kind .ensures) (c .before .before .before .match .keys1), ← c .before .before .zero-from .ensures, not-false (c .before .before .zero-from .result) (c .before .if1 .left)) (ap modelFrame (c .word-of2 .ensures))
+
+returns-5 : tie.Need-returns-5
+returns-5 c =
+    let kind = c .before .before .before .before .word-of in
+    rw (kinds.kind-2 _ _ _ (kind .ensures) (c .before .before .before .match .keys2), ← c .before .before .zero-from2 .ensures, not-false (c .before .before .zero-from2 .result) (c .before .if2 .left)) (ap groupFrame (c .head-at .ensures))
+
+returns-6 : tie.Need-returns-6
+returns-6 c =
+    let kind = c .before .before .word-of in
+    rw (kinds.kind-3 _ _ _ (kind .ensures) (c .before .match .keys3)) (ap pointFrame (c .point-at .ensures))
+
+returns-7 : tie.Need-returns-7
+returns-7 c =
+    let kind = c .before .before .before .word-of in
+    rw (kinds.kind-4 _ _ _ (kind .ensures) (c .before .before .match .keys4), ← c .before .zero-from3 .ensures, not-false (c .before .zero-from3 .result) (c .if3 .left))
+
+returns-8 : tie.Need-returns-8
+returns-8 c =
+    let a = c .before .before .before .args in
+    let n = c .match .rest in
+    sym (kinds.no-kind (a .catalog .now) (a .i) _ (c .before .word-of .ensures) (n .0 .0 .0 .1) (n .0 .0 .1) (n .0 .1) (n .1))
+
+pub frame-at-spec : {M : Type 1} → statement M
+frame-at-spec =
+    tie.close
+    (tie.spec
+    word-of-requires
+    zero-from-requires
+    returns
+    word-of-requires-2
+    zero-from-requires-2
+    returns-2
+    head-at-requires
+    point-at-requires
+    zero-from-requires-3
+    returns-3
+    returns-4
+    returns-5
+    returns-6
+    returns-7
+    returns-8)

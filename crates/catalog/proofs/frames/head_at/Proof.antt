@@ -1,0 +1,26 @@
+-- `catalog::frames::head_at` meets its contract: each word is the one that the head names.
+use mathlib.Core.Path.{_≡_}
+use borrow.Author.Needs.{needs}
+use Rattle.catalog.proofs.frames.head_at.Statement.{statement}
+use Rattle.catalog.proofs.frames.head_at.Tie as tie
+
+word-of-requires : tie.Need-word-of-requires
+word-of-requires c κs = search needs
+
+word-of-requires-2 : tie.Need-word-of-requires-2
+word-of-requires-2 c κs = search needs
+
+word-of-requires-3 : tie.Need-word-of-requires-3
+word-of-requires-3 c κs = search needs
+
+word-of-requires-4 : tie.Need-word-of-requires-4
+word-of-requires-4 c κs = search needs
+
+returns : tie.Need-returns
+returns c =
+    simp (← c .before .before .before .word-of .ensures, ← c .before .before .word-of2 .ensures, ← c .before .word-of3 .ensures, ← c .word-of4 .ensures)
+
+pub head-at-spec : {M : Type 1} → statement M
+head-at-spec =
+    tie.close
+    (tie.spec word-of-requires word-of-requires-2 word-of-requires-3 word-of-requires-4 returns)

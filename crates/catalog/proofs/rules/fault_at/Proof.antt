@@ -1,0 +1,66 @@
+-- `catalog::rules::fault_at` meets its contract: each kind of frame has its rules.
+use mathlib.Core.Path.{_≡_}
+use borrow.Author.Needs.{needs}
+use Rattle.catalog.proofs.rules.fault_at.Statement.{statement}
+use Rattle.catalog.proofs.rules.fault_at.Tie as tie
+
+enum-known-frame : tie.Need-enum-known-frame
+enum-known-frame c = search needs
+
+model-fault-requires : tie.Need-model-fault-requires
+model-fault-requires c κs = search needs
+
+enum-known-frame-2 : tie.Need-enum-known-frame-2
+enum-known-frame-2 c = search needs
+
+group-fault-requires : tie.Need-group-fault-requires
+group-fault-requires c κs = search needs
+
+enum-known-frame-3 : tie.Need-enum-known-frame-3
+enum-known-frame-3 c = search needs
+
+point-fault-requires : tie.Need-point-fault-requires
+point-fault-requires c κs = search needs
+
+enum-told : tie.Need-enum-told
+enum-told c = search needs
+
+end-fault-requires : tie.Need-end-fault-requires
+end-fault-requires c κs = search needs
+
+enum-told-2 : tie.Need-enum-told-2
+enum-told-2 c = search needs
+
+returns : tie.Need-returns
+returns c = rw (c .before .before .frame .given .1) (c .model-fault .ensures)
+
+returns-2 : tie.Need-returns-2
+returns-2 c = rw (c .before .before .frame2 .given .1) (c .group-fault .ensures)
+
+returns-3 : tie.Need-returns-3
+returns-3 c = rw (c .before .before .frame3 .given .1) (c .point-fault .ensures)
+
+returns-4 : tie.Need-returns-4
+returns-4 c = rw (c .before .enum-told .given .1) (c .end-fault .ensures)
+
+returns-5 : tie.Need-returns-5
+returns-5 c = search needs
+
+pub fault-at-spec : {M : Type 1} → statement M
+fault-at-spec =
+    tie.close
+    (tie.spec
+    enum-known-frame
+    model-fault-requires
+    enum-known-frame-2
+    group-fault-requires
+    enum-known-frame-3
+    point-fault-requires
+    enum-told
+    end-fault-requires
+    enum-told-2
+    returns
+    returns-2
+    returns-3
+    returns-4
+    returns-5)

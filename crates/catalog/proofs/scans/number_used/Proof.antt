@@ -1,0 +1,60 @@
+-- `catalog::scans::number_used` meets its contract: the frames still to be read decide.
+use mathlib.Core.Path.{_≡_, refl, sym, _∙_}
+use Prim.Native.Nat.{ℕ, _-_, _+_, _≤_}
+use native.Mathlib.Omega.{arith}
+use Rattle.catalog.specs.Rules.{among}
+use Rattle.catalog.specs.Scans.{numbersBefore}
+use Rattle.catalog.proofs.WordScans as laws
+use borrow.Author.Needs.{needs}
+use Rattle.catalog.proofs.scans.number_used.Statement.{statement}
+use Rattle.catalog.proofs.scans.number_used.Tie as tie
+
+abbrev Inv-loop : tie.InvT-loop
+Inv-loop catalog first end low high number j₀ j =
+    (first ≤ j) × (j ≤ end) × (among number (numbersBefore catalog low high first (j - first)) ≡ among number (numbersBefore catalog low high first (end - first)))
+
+abbrev μ-loop : tie.MeasureT-loop
+μ-loop catalog first end low high number j₀ j = j
+
+loop-holds : tie.Need-loop-holds Inv-loop μ-loop
+loop-holds c = (search needs, search needs, refl)
+
+sub-j : tie.Need-sub-j Inv-loop μ-loop
+sub-j c = search needs
+
+has-number-requires : tie.Need-has-number-requires Inv-loop μ-loop
+has-number-requires c κs = search needs
+
+returns : tie.Need-returns Inv-loop μ-loop
+returns c =
+    let l = c .before .before .before .loop in
+    let a = c .before .before .before .before .before .args in
+    sym (laws.number-here _ _ _ (a .first) _ (l .j - a .first) (l .j - 1 - a .first) (l .j - 1) (omega arith) (omega arith) (sym (c .before .has-number .ensures) ∙ c .if1 .taken)) ∙ l .inv .2
+
+loop-less : tie.Need-loop-less Inv-loop μ-loop
+loop-less c = search needs
+
+loop-again : tie.Need-loop-again Inv-loop μ-loop
+loop-again c =
+    let l = c .before .before .before .loop in
+    let a = c .before .before .before .before .before .args in
+    (omega arith, omega arith, sym (laws.number-not-here _ _ _ (a .first) _ (l .j - a .first) (l .j - 1 - a .first) (l .j - 1) (omega arith) (omega arith) (sym (c .before .has-number .ensures) ∙ c .if1 .left)) ∙ l .inv .2)
+
+returns-2 : tie.Need-returns-2 Inv-loop μ-loop
+returns-2 c =
+    let l = c .before .loop in
+    sym (laws.number-nowhere _ _ _ _ _ (l .j - c .before .before .before .args .first) (omega arith)) ∙ l .inv .2
+
+pub number-used-spec : {M : Type 1} → statement M
+number-used-spec =
+    tie.close
+    (tie.spec
+    Inv-loop
+    μ-loop
+    loop-holds
+    sub-j
+    has-number-requires
+    returns
+    loop-less
+    loop-again
+    returns-2)

@@ -1,0 +1,33 @@
+-- Checking a catalog (document 01, "Checking"): frame by frame, with 1, 2 and 11 around the rules of a frame.
+use mathlib.Core.Bool.{true, false}
+use mathlib.Core.List.{List, [], _∷_}
+use mathlib.Core.Option.{none, some}
+use Prim.Native.Nat.{ℕ, suc, _/_, _%_}
+use lib.Dec.{eqb, ltb}
+use lib.ListN.{length}
+use Rattle.catalog.specs.Frames.{Frame, frames}
+use Rattle.catalog.specs.State.{State, start, next}
+use Rattle.catalog.specs.Rules.{noModel, run, fault}
+
+-- What checking answers: the number of models, or a refusal's number and the index of its frame.
+pub data Verdict : Type 0 where
+  accepted : ℕ → Verdict
+  refused : ℕ → ℕ → Verdict
+
+-- At the end of the frames, i of them. 11: a model is still open.
+abbrev pub verdictAtEnd : State → ℕ → Verdict
+verdictAtEnd s i = elim (noModel (s .levels)) [ true ↦ accepted (length (s .ids)) | false ↦ refused 11 i ]
+
+-- Frame by frame, from frame i on: the first fault decides.
+unfoldable pub checkFrom : State → ℕ → List Frame → Verdict
+checkFrom s i [] = verdictAtEnd s i
+checkFrom s i (f ∷ fs) =
+    elim (fault s f (run (f ∷ fs))) [ none ↦ checkFrom (next s f) (suc i) fs | some n ↦ refused n i ]
+
+-- 1: the length is not a multiple of 8. 2: over 4,096 frames. Then frame by frame.
+unfoldable pub checked : List ℕ → Verdict
+checked ws =
+    elim (eqb (length ws % 8) 0) [
+      | false ↦ refused 1 0
+      | true ↦ elim (ltb 4096 (length ws / 8)) [ true ↦ refused 2 0 | false ↦ checkFrom start 0 (frames ws) ]
+    ]

@@ -1,0 +1,95 @@
+-- The model definitions of a catalog as trees of groups (document 01, "The book": a model frame opens the top group, a group frame a
+-- group in the innermost open one, an end frame ends that one).
+use mathlib.Core.List.{List, [], _∷_, _++_}
+use Prim.Native.Nat.{ℕ, _+_}
+use Rattle.catalog.specs.Frames.{Point, Head, Frame, modelFrame, groupFrame, pointFrame, endFrame, malformed, frames}
+
+-- Groups standing side by side in a group: none, or a first one, by its head, its own points and the groups in it, and then the
+-- groups behind it.
+pub data Groups : Type 0 where
+  noGroup : Groups
+  group : Head → List Point → Groups → Groups → Groups
+
+-- What a group holds: its own points, then groups.
+pub record Content : Type 0 where
+  pub points : List Point
+  pub groups : Groups
+
+-- A model's definition: its id and its top group.
+pub record Definition : Type 0 where
+  pub id : ℕ
+  pub top : Content
+
+-- The registers of points.
+abbrev pub width : List Point → ℕ
+width [] = 0
+width (p ∷ ps) = p .size + width ps
+
+-- ---- The frames of a definition
+
+abbrev pub pointFrames : List Point → List Frame
+pointFrames [] = []
+pointFrames (p ∷ ps) = pointFrame p ∷ pointFrames ps
+
+-- Each group from its group frame to its end frame.
+abbrev pub groupFrames : Groups → List Frame
+groupFrames noGroup = []
+groupFrames (group h ps inside behind) =
+    (groupFrame h ∷ pointFrames ps) ++ (groupFrames inside ++ (endFrame ∷ groupFrames behind))
+
+-- A model's frames, from its model frame to the end frame of its top group.
+abbrev pub definitionFrames : Definition → List Frame
+definitionFrames d =
+    (modelFrame (d .id) ∷ pointFrames (d .top .points)) ++ (groupFrames (d .top .groups) ++ (endFrame ∷ []))
+
+-- The frames of several, one behind the other.
+abbrev pub catalogFrames : List Definition → List Frame
+catalogFrames [] = []
+catalogFrames (d ∷ ds) = definitionFrames d ++ catalogFrames ds
+
+-- ---- The definitions of frames
+
+-- Of the frames from one on: what each group that is open there still holds, the innermost first, and the models that begin there.
+pub record Parsed : Type 0 where
+  pub rest : List Content
+  pub models : List Definition
+
+abbrev pub empty : Content
+empty = record { points = []; groups = noGroup }
+
+-- What the innermost open group still holds, and what those around it do.
+abbrev pub inner : List Content → Content
+inner [] = empty
+inner (c ∷ cs) = c
+
+abbrev pub outer : List Content → List Content
+outer [] = []
+outer (c ∷ cs) = cs
+
+-- A frame in front. Reading goes from the last frame to the first: an end frame opens a group that holds nothing yet, a point or a
+-- group is put in front of what its group holds already, and a group or model frame takes the group as it then is. Forwards it
+-- would take a group to be entered before its size is known; a law (`proofs/ModelFrames.antt`) says that the frames of what is read are
+-- the frames.
+abbrev pub inFront : Frame → Parsed → Parsed
+inFront (modelFrame id) r =
+    record { rest = outer (r .rest); models = record { id = id; top = inner (r .rest) } ∷ r .models }
+inFront (groupFrame h) r =
+    let here = inner (r .rest) in
+    let around = inner (outer (r .rest)) in
+    record {
+      rest = record { points = around .points; groups = group h (here .points) (here .groups) (around .groups) } ∷ outer (outer (r .rest));
+      models = r .models;
+    }
+inFront (pointFrame p) r =
+    let here = inner (r .rest) in
+    record { rest = record { points = p ∷ here .points; groups = here .groups } ∷ outer (r .rest); models = r .models }
+inFront endFrame r = record { rest = empty ∷ r .rest; models = r .models }
+inFront malformed r = r
+
+unfoldable pub parsed : List Frame → Parsed
+parsed [] = record { rest = []; models = [] }
+parsed (f ∷ fs) = inFront f (parsed fs)
+
+-- The model definitions of a catalog.
+abbrev pub definitions : List ℕ → List Definition
+definitions ws = parsed (frames ws) .models

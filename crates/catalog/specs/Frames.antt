@@ -1,0 +1,108 @@
+-- The frames of a catalog (document 01, "The book": the book's frames): eight words each, and what the words are called.
+use mathlib.Core.Bool.{Bool, true, false, _&&_}
+use mathlib.Core.List.{List, [], _∷_, _++_}
+use Prim.Native.Nat.{ℕ, zero, suc, _+_, _*_, _/_}
+use lib.Dec.{eqb}
+use lib.ListN.{length, getD}
+
+-- Words 1 to 7 of a point frame. `scale` is the fixed scale factor, as a register holds it, or the number of the point that gives it.
+pub record Point : Type 0 where
+  pub number : ℕ
+  pub typeCode : ℕ
+  pub size : ℕ
+  pub scaleKind : ℕ
+  pub scale : ℕ
+  pub mandatory : ℕ
+  pub access : ℕ
+
+-- Words 1 to 4 of a group frame. `count` is the constant count or the number of the point that gives it.
+pub record Head : Type 0 where
+  pub number : ℕ
+  pub groupType : ℕ
+  pub countKind : ℕ
+  pub count : ℕ
+
+-- A frame by its kind. It is malformed (rule 3) where its kind is none of the four or a word that its kind does not name is not 0.
+pub data Frame : Type 0 where
+  modelFrame : ℕ → Frame
+  groupFrame : Head → Frame
+  pointFrame : Point → Frame
+  endFrame : Frame
+  malformed : Frame
+
+-- The scale kinds: no scale factor, a fixed one, the value of a point.
+abbrev pub noScale : ℕ
+noScale = 0
+
+abbrev pub fixedScale : ℕ
+fixedScale = 1
+
+abbrev pub scaleByPoint : ℕ
+scaleByPoint = 2
+
+-- The count kinds: a constant, the value of a point, as many as fill the model.
+abbrev pub constantCount : ℕ
+constantCount = 0
+
+abbrev pub countByPoint : ℕ
+countByPoint = 1
+
+abbrev pub fill : ℕ
+fill = 2
+
+-- Are these words all 0?
+abbrev pub allZero : List ℕ → Bool
+allZero [] = true
+allZero (w ∷ ws) = eqb w 0 && allZero ws
+
+-- The frame, if the words that its kind does not name are 0.
+abbrev pub unless : List ℕ → Frame → Frame
+unless ws f = elim (allZero ws) [ true ↦ f | false ↦ malformed ]
+
+-- The frame of eight words, the first of which is its kind: 1 model, 2 group, 3 point, 4 end.
+unfoldable pub frameOf : ℕ → ℕ → ℕ → ℕ → ℕ → ℕ → ℕ → ℕ → Frame
+frameOf kind a b c d e f g =
+    elim (eqb kind 1) [
+      | true ↦ unless (b ∷ c ∷ d ∷ e ∷ f ∷ g ∷ []) (modelFrame a)
+      | false ↦ elim (eqb kind 2) [
+        | true ↦ unless (e ∷ f ∷ g ∷ []) (groupFrame (record { number = a; groupType = b; countKind = c; count = d }))
+        | false ↦ elim (eqb kind 3) [
+          | true ↦ pointFrame (record { number = a; typeCode = b; size = c; scaleKind = d; scale = e; mandatory = f; access = g })
+          | false ↦ elim (eqb kind 4) [
+            | true ↦ unless (a ∷ b ∷ c ∷ d ∷ e ∷ f ∷ g ∷ []) endFrame
+            | false ↦ malformed
+          ]
+        ]
+      ]
+    ]
+
+-- Word k of frame i.
+abbrev pub word : List ℕ → ℕ → ℕ → ℕ
+word ws i k = getD ws (8 * i + k) 0
+
+-- Frame i.
+abbrev pub frameAt : List ℕ → ℕ → Frame
+frameAt ws i =
+    frameOf (word ws i 0) (word ws i 1) (word ws i 2) (word ws i 3) (word ws i 4) (word ws i 5) (word ws i 6) (word ws i 7)
+
+-- n frames from frame i on.
+unfoldable pub framesFrom : List ℕ → ℕ → ℕ → List Frame
+framesFrom ws i zero = []
+framesFrom ws i (suc n) = frameAt ws i ∷ framesFrom ws (suc i) n
+
+-- All whole frames.
+abbrev pub frames : List ℕ → List Frame
+frames ws = framesFrom ws 0 (length ws / 8)
+
+-- The eight words of a frame; a malformed one is written with kind 0.
+abbrev pub wordsOf : Frame → List ℕ
+wordsOf (modelFrame id) = 1 ∷ id ∷ 0 ∷ 0 ∷ 0 ∷ 0 ∷ 0 ∷ 0 ∷ []
+wordsOf (groupFrame h) = 2 ∷ h .number ∷ h .groupType ∷ h .countKind ∷ h .count ∷ 0 ∷ 0 ∷ 0 ∷ []
+wordsOf (pointFrame p) = 3 ∷ p .number ∷ p .typeCode ∷ p .size ∷ p .scaleKind ∷ p .scale ∷ p .mandatory ∷ p .access ∷ []
+wordsOf endFrame = 4 ∷ 0 ∷ 0 ∷ 0 ∷ 0 ∷ 0 ∷ 0 ∷ 0 ∷ []
+wordsOf malformed = 0 ∷ 0 ∷ 0 ∷ 0 ∷ 0 ∷ 0 ∷ 0 ∷ 0 ∷ []
+
+-- The words of a catalog of these frames.
+unfoldable pub wordsOfAll : List Frame → List ℕ
+wordsOfAll [] = []
+wordsOfAll (f ∷ fs) = wordsOf f ++ wordsOfAll fs

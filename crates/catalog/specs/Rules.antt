@@ -1,0 +1,205 @@
+-- The rules 3 to 10 of a frame (document 01, "Checking"), in their order: the first that is broken decides.
+use mathlib.Core.Bool.{Bool, true, false, not, _&&_, _||_}
+use mathlib.Core.List.{List, [], _∷_, _++_}
+use mathlib.Core.Option.{Option, none, some}
+use Prim.Native.Nat.{ℕ}
+use lib.Dec.{eqb, leb, ltb}
+use lib.ListN.{length}
+use Rattle.values.specs.Rows.{mayScale, registersOf}
+use Rattle.values.specs.Classes.{twosComplement, isScaleFactor}
+use Rattle.catalog.specs.Frames.{Point, Head, Frame, modelFrame, groupFrame, pointFrame, endFrame, malformed, noScale, fixedScale, scaleByPoint, constantCount, countByPoint, fill}
+use Rattle.catalog.specs.State.{Level, State}
+
+-- ---- What the rules look at
+
+-- Is a number one of these?
+abbrev pub among : ℕ → List ℕ → Bool
+among n [] = false
+among n (m ∷ ms) = eqb n m || among n ms
+
+-- No model is open.
+abbrev pub noModel : List Level → Bool
+noModel [] = true
+noModel (l ∷ ls) = false
+
+-- The top group is the innermost open one.
+abbrev pub inTop : List Level → Bool
+inTop [] = false
+inTop (l ∷ ls) = noModel ls
+
+-- A group stands directly in the innermost open one.
+abbrev pub afterGroup : List Level → Bool
+afterGroup [] = false
+afterGroup (l ∷ ls) = l .hasGroup
+
+-- The points of the unbroken run of point frames that begins these frames.
+abbrev pub run : List Frame → List Point
+run [] = []
+run (modelFrame id ∷ fs) = []
+run (groupFrame h ∷ fs) = []
+run (pointFrame p ∷ fs) = p ∷ run fs
+run (endFrame ∷ fs) = []
+run (malformed ∷ fs) = []
+
+-- The points of these groups.
+abbrev pub pointsOf : List Level → List Point
+pointsOf [] = []
+pointsOf (l ∷ ls) = l .points ++ pointsOf ls
+
+-- The points that a scale reference may name: those of the same unbroken run of point frames, so far and from here on,
+-- and those directly in an enclosing group.
+abbrev pub inReach : List Level → List Point → List Point
+inReach [] ahead = ahead
+inReach (l ∷ ls) ahead = (l .points ++ ahead) ++ pointsOf ls
+
+-- The points of the top group.
+abbrev pub topPoints : List Level → List Point
+topPoints [] = []
+topPoints (l ∷ ls) = elim (noModel ls) [ true ↦ l .points | false ↦ topPoints ls ]
+
+-- Is one of these points such a point?
+abbrev pub hasPoint : (Point → Bool) → List Point → Bool
+hasPoint such [] = false
+hasPoint such (p ∷ ps) = such p || hasPoint such ps
+
+-- Does a sunssf point of this number stand among these?
+abbrev pub isScaleFactorPoint : ℕ → Point → Bool
+isScaleFactorPoint n p = eqb (p .number) n && eqb (p .typeCode) 8
+
+abbrev pub hasScaleFactor : ℕ → List Point → Bool
+hasScaleFactor n ps = hasPoint (isScaleFactorPoint n) ps
+
+-- Does a uint16 point of this number with access R stand among these?
+abbrev pub isCountPoint : ℕ → Point → Bool
+isCountPoint n p = eqb (p .number) n && eqb (p .typeCode) 2 && eqb (p .access) 0
+
+abbrev pub hasCountPoint : ℕ → List Point → Bool
+hasCountPoint n ps = hasPoint (isCountPoint n) ps
+
+-- Is this a size of the type? No size is one of an unknown type.
+unfoldable pub isSizeOf : ℕ → ℕ → Bool
+isSizeOf code size =
+    elim (registersOf code) [ none ↦ false | some r ↦ leb (r .0) size && leb size (r .1) ]
+
+-- One of these tests holds.
+abbrev pub any : List Bool → Bool
+any [] = false
+any (t ∷ ts) = t || any ts
+
+-- ---- The rules: each says of a frame, in a state, whether it is broken
+
+-- 3: the kind is not 1–4, or an unnamed word is not zero.
+abbrev pub isMalformed : Frame → Bool
+isMalformed (modelFrame id) = false
+isMalformed (groupFrame h) = false
+isMalformed (pointFrame p) = false
+isMalformed endFrame = false
+isMalformed malformed = true
+
+-- 4: a model frame inside a model; any other with no model open; a point after a group in the same group; a group directly in the
+-- top group after a fill group.
+abbrev pub isMisplaced : State → Frame → Bool
+isMisplaced s (modelFrame id) = not (noModel (s .levels))
+isMisplaced s (groupFrame h) = noModel (s .levels) || inTop (s .levels) && s .hasFill
+isMisplaced s (pointFrame p) = noModel (s .levels) || afterGroup (s .levels)
+isMisplaced s endFrame = noModel (s .levels)
+isMisplaced s malformed = false
+
+-- 5: a fifth level; the top group is level 1.
+abbrev pub isTooDeep : State → Frame → Bool
+isTooDeep s (modelFrame id) = false
+isTooDeep s (groupFrame h) = leb 4 (length (s .levels))
+isTooDeep s (pointFrame p) = false
+isTooDeep s endFrame = false
+isTooDeep s malformed = false
+
+-- 6: a model id 0, 65535 or already used; a point's or group's number 0 or already used in this model.
+abbrev pub isMisnumbered : State → Frame → Bool
+isMisnumbered s (modelFrame id) = eqb id 0 || eqb id 65535 || among id (s .ids)
+isMisnumbered s (groupFrame h) = eqb (h .number) 0 || among (h .number) (s .numbers)
+isMisnumbered s (pointFrame p) = eqb (p .number) 0 || among (p .number) (s .numbers)
+isMisnumbered s endFrame = false
+isMisnumbered s malformed = false
+
+-- 7: an unknown type or wrong size; group type, mandatory or access not 0 or 1.
+abbrev pub isMistyped : Frame → Bool
+isMistyped (modelFrame id) = false
+isMistyped (groupFrame h) = ltb 1 (h .groupType)
+isMistyped (pointFrame p) = not (isSizeOf (p .typeCode) (p .size)) || ltb 1 (p .mandatory) || ltb 1 (p .access)
+isMistyped endFrame = false
+isMistyped malformed = false
+
+-- 8, clause by clause, of a point and the points in its reach.
+abbrev pub scaleFaults : List Point → Point → List Bool
+scaleFaults reach p =
+    ltb 2 (p .scaleKind)
+    ∷ (eqb (p .scaleKind) noScale && not (eqb (p .scale) 0))
+    ∷ (not (eqb (p .scaleKind) noScale) && not (mayScale (p .typeCode)))
+    ∷ (eqb (p .scaleKind) fixedScale && not (isScaleFactor (twosComplement 16 (p .scale))))
+    ∷ (eqb (p .scaleKind) scaleByPoint && not (hasScaleFactor (p .scale) reach))
+    ∷ []
+
+-- 8: a scale kind over 2; no scale factor but word 5 not 0; a scale factor on a type that may not carry one; a fixed one outside
+-- −10 to 10; a reference that no sunssf point in reach answers.
+abbrev pub isMisscaled : State → List Point → Frame → Bool
+isMisscaled s ahead (modelFrame id) = false
+isMisscaled s ahead (groupFrame h) = false
+isMisscaled s ahead (pointFrame p) = any (scaleFaults (inReach (s .levels) ahead) p)
+isMisscaled s ahead endFrame = false
+isMisscaled s ahead malformed = false
+
+-- 9, clause by clause, of a group: `top` is the points of the top group, `direct` whether the group stands directly in it.
+abbrev pub countFaults : List Point → Bool → Head → List Bool
+countFaults top direct h =
+    ltb 2 (h .countKind)
+    ∷ (eqb (h .countKind) constantCount && eqb (h .count) 0)
+    ∷ (eqb (h .countKind) countByPoint && not (hasCountPoint (h .count) top))
+    ∷ (eqb (h .countKind) fill && not direct)
+    ∷ (eqb (h .countKind) fill && not (eqb (h .count) 0))
+    ∷ []
+
+-- 9: a count kind over 2; a constant 0; a count point that is no uint16 R point directly in the top group; fill outside the top
+-- group, or with word 4 not 0.
+abbrev pub isMiscounted : State → Frame → Bool
+isMiscounted s (modelFrame id) = false
+isMiscounted s (groupFrame h) = any (countFaults (topPoints (s .levels)) (inTop (s .levels)) h)
+isMiscounted s (pointFrame p) = false
+isMiscounted s endFrame = false
+isMiscounted s malformed = false
+
+-- Has the group no point of its own?
+abbrev pub noPoint : List Point → Bool
+noPoint [] = true
+noPoint (p ∷ ps) = false
+
+-- 10: the end of a lower group with no point of its own, or of a top group with neither point nor group.
+abbrev pub isHollow : List Level → Frame → Bool
+isHollow ls (modelFrame id) = false
+isHollow ls (groupFrame h) = false
+isHollow ls (pointFrame p) = false
+isHollow [] endFrame = false
+isHollow (l ∷ ls) endFrame = noPoint (l .points) && not (noModel ls && l .hasGroup)
+isHollow ls malformed = false
+
+-- ---- The rules in order
+
+-- The rules of a frame in their order, each with its number. `ahead` is the run of points from the frame on.
+abbrev pub rules : State → Frame → List Point → List (Bool × ℕ)
+rules s f ahead =
+    (isMalformed f, 3)
+    ∷ (isMisplaced s f, 4)
+    ∷ (isTooDeep s f, 5)
+    ∷ (isMisnumbered s f, 6)
+    ∷ (isMistyped f, 7)
+    ∷ (isMisscaled s ahead f, 8)
+    ∷ (isMiscounted s f, 9)
+    ∷ (isHollow (s .levels) f, 10)
+    ∷ []
+
+-- The number of the first rule that is broken, if one is.
+abbrev pub firstBroken : List (Bool × ℕ) → Option ℕ
+firstBroken [] = none
+firstBroken (r ∷ rs) = elim (r .0) [ true ↦ some (r .1) | false ↦ firstBroken rs ]
+
+abbrev pub fault : State → Frame → List Point → Option ℕ
+fault s f ahead = firstBroken (rules s f ahead)

@@ -1,0 +1,59 @@
+-- What the code's searches over frames give, by the words that they read.
+use mathlib.Core.Bool.{Bool, true, false, _&&_}
+use mathlib.Core.List.{List, [], _∷_, _++_}
+use Prim.Native.Nat.{ℕ, zero, suc, _+_, _-_, _/_}
+use lib.Dec.{eqb, leb}
+use lib.ListN.{length, getD}
+use Rattle.catalog.specs.Frames.{Point, Head, Frame, word, framesFrom}
+use Rattle.catalog.specs.Rules.{run, isScaleFactorPoint, isCountPoint}
+use Rattle.catalog.specs.declared.scans.Sought.{Sought}
+
+-- Are n words of frame i from word k on all 0?
+unfoldable pub zeroWords : List ℕ → ℕ → ℕ → ℕ → Bool
+zeroWords ws i k zero = true
+zeroWords ws i k (suc n) = eqb (word ws i k) 0 && zeroWords ws i (suc k) n
+
+-- All frames from frame i on.
+abbrev pub framesAfter : List ℕ → ℕ → List Frame
+framesAfter ws i = framesFrom ws i (length ws / 8 - i)
+
+-- Is frame j of a kind from low to high, with this number?
+abbrev pub isNumber : List ℕ → ℕ → ℕ → ℕ → ℕ → Bool
+isNumber ws low high number j = leb low (word ws j 0) && leb (word ws j 0) high && eqb number (word ws j 1)
+
+-- The numbers of n frames from frame `first` on, where their kind is from low to high, the last first.
+unfoldable pub numbersBefore : List ℕ → ℕ → ℕ → ℕ → ℕ → List ℕ
+numbersBefore ws low high first zero = []
+numbersBefore ws low high first (suc n) =
+    elim (leb low (word ws (first + n) 0) && leb (word ws (first + n) 0) high) [
+      | true ↦ word ws (first + n) 1 ∷ numbersBefore ws low high first n
+      | false ↦ numbersBefore ws low high first n
+    ]
+
+-- The head of group frame j, by its words.
+abbrev pub headWords : List ℕ → ℕ → Head
+headWords ws j =
+    record { number = word ws j 1; groupType = word ws j 2; countKind = word ws j 3; count = word ws j 4 }
+
+-- The point of frame j, by its words.
+abbrev pub pointWords : List ℕ → ℕ → Point
+pointWords ws j =
+    record {
+      number = word ws j 1;
+      typeCode = word ws j 2;
+      size = word ws j 3;
+      scaleKind = word ws j 4;
+      scale = word ws j 5;
+      mandatory = word ws j 6;
+      access = word ws j 7;
+    }
+
+-- Is a point the one that is looked for?
+abbrev pub isSought : Sought → ℕ → Point → Bool
+isSought Sought.ScaleFactor n p = isScaleFactorPoint n p
+isSought Sought.CountPoint n p = isCountPoint n p
+
+-- The runs of points that begin at the first k of these frames, the last first.
+unfoldable pub runsOf : List ℕ → List ℕ → ℕ → List Point
+runsOf ws firsts zero = []
+runsOf ws firsts (suc k) = run (framesAfter ws (getD firsts k 0)) ++ runsOf ws firsts k

@@ -1,0 +1,130 @@
+-- The code's state between two frames, the rules as the code asks them, and how both stand for those of the check.
+use mathlib.Core.Path.{_≡_}
+use mathlib.Core.Bool.{Bool, true, false, not, _&&_, _||_}
+use mathlib.Core.List.{List, [], _∷_, _++_}
+use Prim.Native.Nat.{ℕ, zero, suc, _+_, _-_, _/_, _≤_, _<_}
+use lib.Dec.{eqb, leb, ltb}
+use lib.ListN.{length, getD, set}
+use Rattle.catalog.specs.Frames.{Point, Head, Frame, modelFrame, groupFrame, pointFrame, endFrame, malformed, fill}
+use Rattle.catalog.specs.State as check
+use Rattle.catalog.specs.State.{Level}
+use Rattle.catalog.specs.Rules.{among, run, noPoint, isMistyped, any, scaleFaults, countFaults}
+use Rattle.catalog.specs.Scans.{framesAfter, numbersBefore, runsOf}
+use Rattle.catalog.specs.declared.state.State.{State}
+
+-- ---- The rules as the code asks them, before frame i of a catalog
+
+-- The run of points that begins at the first frame inside the open group at level k + 1.
+abbrev pub runIn : List ℕ → State → ℕ → List Point
+runIn ws c k = run (framesAfter ws (getD (c .firsts) k 0))
+
+-- Is a point's or group's number wrong?
+abbrev pub wrongNumber : List ℕ → ℕ → State → ℕ → Bool
+wrongNumber ws i c n =
+    eqb n 0 || among n (numbersBefore ws 2 3 (getD (c .firsts) 0 0) (i - getD (c .firsts) 0 0))
+
+abbrev pub modelRules : List ℕ → ℕ → State → ℕ → List (Bool × ℕ)
+modelRules ws i c id =
+    (not (eqb (c .depth) 0), 4)
+    ∷ (eqb id 0 || eqb id 65535 || among id (numbersBefore ws 1 1 0 i), 6)
+    ∷ []
+
+abbrev pub groupRules : List ℕ → ℕ → State → Head → List (Bool × ℕ)
+groupRules ws i c h =
+    (eqb (c .depth) 0 || eqb (c .depth) 1 && c .«has_fill», 4)
+    ∷ (leb 4 (c .depth), 5)
+    ∷ (wrongNumber ws i c (h .number), 6)
+    ∷ (ltb 1 (h .groupType), 7)
+    ∷ (any (countFaults (runIn ws c 0) (eqb (c .depth) 1) h), 9)
+    ∷ []
+
+abbrev pub pointRules : List ℕ → ℕ → State → Point → List (Bool × ℕ)
+pointRules ws i c p =
+    (eqb (c .depth) 0 || c .«has_group», 4)
+    ∷ (wrongNumber ws i c (p .number), 6)
+    ∷ (isMistyped (pointFrame p), 7)
+    ∷ (any (scaleFaults (runsOf ws (c .firsts) (c .depth)) p), 8)
+    ∷ []
+
+abbrev pub endRules : List ℕ → State → List (Bool × ℕ)
+endRules ws c =
+    (eqb (c .depth) 0, 4)
+    ∷ (noPoint (runIn ws c (c .depth - 1)) && not (eqb (c .depth) 1 && c .«has_group»), 10)
+    ∷ []
+
+abbrev pub codeRules : List ℕ → ℕ → State → Frame → List (Bool × ℕ)
+codeRules ws i c (modelFrame id) = modelRules ws i c id
+codeRules ws i c (groupFrame h) = groupRules ws i c h
+codeRules ws i c (pointFrame p) = pointRules ws i c p
+codeRules ws i c endFrame = endRules ws c
+codeRules ws i c malformed = (true, 3) ∷ []
+
+-- ---- The code's state behind frame i
+
+abbrev pub behindModel : State → ℕ → State
+behindModel c i =
+    record { models = c .models + 1; depth = 1; firsts = (i + 1) ∷ 0 ∷ 0 ∷ 0 ∷ []; «has_group» = false; «has_fill» = false }
+
+abbrev pub behindGroup : State → ℕ → Head → State
+behindGroup c i h =
+    record {
+      models = c .models;
+      depth = c .depth + 1;
+      firsts = set (c .firsts) (c .depth) (i + 1);
+      «has_group» = false;
+      «has_fill» = c .«has_fill» || eqb (h .countKind) fill;
+    }
+
+abbrev pub behindEnd : State → State
+behindEnd c =
+    record {
+      models = c .models;
+      depth = c .depth - 1;
+      firsts = c .firsts;
+      «has_group» = true;
+      «has_fill» = c .«has_fill»;
+    }
+
+abbrev pub stateBehind : State → ℕ → Frame → State
+stateBehind c i (modelFrame id) = behindModel c i
+stateBehind c i (groupFrame h) = behindGroup c i h
+stateBehind c i (pointFrame p) = c
+stateBehind c i endFrame = behindEnd c
+stateBehind c i malformed = c
+
+-- ---- What the code's state is
+
+-- Before frame i the numbers of the state stay within bounds.
+pub record Within (ws : List ℕ) (i : ℕ) (c : State) : Type 0 where
+  pub few : c .models ≤ i
+  pub deep : c .depth ≤ 4
+  pub four : length (c .firsts) ≡ 4
+  pub passed : (k : ℕ) → getD (c .firsts) k 0 ≤ i
+
+-- There is room for the group that a frame opens, and a group to end.
+abbrev pub Room : State → Frame → Type 0
+Room c (modelFrame id) = Unit {0}
+Room c (groupFrame h) = c .depth < 4
+Room c (pointFrame p) = Unit {0}
+Room c endFrame = 1 ≤ c .depth
+Room c malformed = Unit {0}
+
+-- What is left of the run of the innermost open group before frame i: nothing once a group stands in it.
+abbrev pub aheadOf : List ℕ → ℕ → Bool → List Point
+aheadOf ws i hasGroup = elim hasGroup [ true ↦ [] | false ↦ run (framesAfter ws i) ]
+
+-- Each open group's run of points is its points so far and then what is ahead; a group stands in each but the innermost.
+abbrev pub Opens : List ℕ → List ℕ → Bool → List Point → List Level → Type 0
+Opens ws firsts hasGroup ahead [] = Unit {0}
+Opens ws firsts hasGroup ahead (l ∷ ls) =
+    (run (framesAfter ws (getD firsts (length ls) 0)) ≡ l .points ++ ahead) × (l .hasGroup ≡ hasGroup) × Opens ws firsts true [] ls
+
+-- The code's state stands for a state of the check before frame i.
+pub record Tracks (ws : List ℕ) (i : ℕ) (c : State) (s : check.State) : Type 0 where
+  pub within : Within ws i c
+  pub models : c .models ≡ length (s .ids)
+  pub ids : s .ids ≡ numbersBefore ws 1 1 0 i
+  pub depth : c .depth ≡ length (s .levels)
+  pub numbers : 1 ≤ c .depth → s .numbers ≡ numbersBefore ws 2 3 (getD (c .firsts) 0 0) (i - getD (c .firsts) 0 0)
+  pub hasFill : c .«has_fill» ≡ s .hasFill
+  pub levels : Opens ws (c .firsts) (c .«has_group») (aheadOf ws i (c .«has_group»)) (s .levels)

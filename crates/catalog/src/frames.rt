@@ -1,0 +1,130 @@
+// The frames of a catalog: eight words each, of which word 0 is the kind.
+ghost use mathlib.Core.Path.{_≡_};
+ghost use Prim.Native.Nat.{_/_, _-_, _<_, _≤_};
+ghost use lib.ListN.{length};
+ghost use Rattle.catalog.specs.Frames.{word, frameAt};
+ghost use Rattle.catalog.specs.Answers.{frameForm, headForm, pointForm};
+ghost use Rattle.catalog.specs.Scans.{headWords, pointWords, zeroWords};
+
+// The words of a frame.
+pub(crate) const WORDS: usize = 8;
+
+// The kinds of frames.
+pub(crate) const MODEL: u16 = 1;
+
+pub(crate) const GROUP: u16 = 2;
+
+pub(crate) const POINT: u16 = 3;
+
+pub(crate) const END: u16 = 4;
+
+// The named words of a point frame. Scale is the fixed scale factor or the number of the point that gives it.
+pub(crate) struct Point {
+    pub(crate) number: u16,
+    pub(crate) type_code: u16,
+    pub(crate) size: u16,
+    pub(crate) scale_kind: u16,
+    pub(crate) scale: u16,
+    pub(crate) mandatory: u16,
+    pub(crate) access: u16,
+}
+
+// The named words of a group frame. Count is the constant count or the number of the point that gives it.
+pub(crate) struct Head {
+    pub(crate) number: u16,
+    pub(crate) group_type: u16,
+    pub(crate) count_kind: u16,
+    pub(crate) count: u16,
+}
+
+// A frame by its kind. It is malformed where the kind is none of the four, or a word that the kind does
+// not name is not 0.
+pub(crate) enum Frame {
+    Model(u16),
+    Group(Head),
+    Point(Point),
+    End,
+    Malformed,
+}
+
+// Word k of frame i.
+pub(crate) fn word_of(catalog: &[u16], i: usize, k: usize) -> u16
+    requires { ⌜ (i < length (now catalog) / 8) × (k < 8) ⌝ }
+    ensures { λ r. ⌜ r ≡ word (now (catalog .entry)) i k ⌝ }
+{
+    catalog[WORDS * i + k]
+}
+
+// Frame i.
+pub(crate) fn frame_at(catalog: &[u16], i: usize) -> Frame
+    requires { ⌜ i < length (now catalog) / 8 ⌝ }
+    ensures { λ r. ⌜ frameForm r ≡ frameAt (now (catalog .entry)) i ⌝ }
+{
+    let kind = word_of(catalog, i, 0);
+    match kind {
+        MODEL => {
+            if !zero_from(catalog, i, 2) {
+                return Frame::Malformed;
+            }
+            Frame::Model(word_of(catalog, i, 1))
+        }
+        GROUP => {
+            if !zero_from(catalog, i, 5) {
+                return Frame::Malformed;
+            }
+            Frame::Group(head_at(catalog, i))
+        }
+        POINT => Frame::Point(point_at(catalog, i)),
+        END => {
+            if !zero_from(catalog, i, 1) {
+                return Frame::Malformed;
+            }
+            Frame::End
+        }
+        _ => Frame::Malformed,
+    }
+}
+
+// The words of a group frame.
+fn head_at(catalog: &[u16], i: usize) -> Head
+    requires { ⌜ i < length (now catalog) / 8 ⌝ }
+    ensures { λ r. ⌜ headForm r ≡ headWords (now (catalog .entry)) i ⌝ }
+{
+    Head {
+        number: word_of(catalog, i, 1),
+        group_type: word_of(catalog, i, 2),
+        count_kind: word_of(catalog, i, 3),
+        count: word_of(catalog, i, 4),
+    }
+}
+
+// The words of a point frame.
+fn point_at(catalog: &[u16], i: usize) -> Point
+    requires { ⌜ i < length (now catalog) / 8 ⌝ }
+    ensures { λ r. ⌜ pointForm r ≡ pointWords (now (catalog .entry)) i ⌝ }
+{
+    Point {
+        number: word_of(catalog, i, 1),
+        type_code: word_of(catalog, i, 2),
+        size: word_of(catalog, i, 3),
+        scale_kind: word_of(catalog, i, 4),
+        scale: word_of(catalog, i, 5),
+        mandatory: word_of(catalog, i, 6),
+        access: word_of(catalog, i, 7),
+    }
+}
+
+// Are the words of frame i from word k on all 0? At most seven are read.
+fn zero_from(catalog: &[u16], i: usize, from: usize) -> bool
+    requires { ⌜ (i < length (now catalog) / 8) × (from ≤ 8) ⌝ }
+    ensures { λ r. ⌜ r ≡ zeroWords (now (catalog .entry)) i from (8 - from) ⌝ }
+{
+    let mut k = from;
+    while k < WORDS {
+        if word_of(catalog, i, k) != 0 {
+            return false;
+        }
+        k += 1;
+    }
+    true
+}

@@ -1,0 +1,227 @@
+// The rules 3 to 10 of a frame: for each kind the tests that can hold, in the order of their numbers.
+use crate::frames::Frame;
+use crate::frames::GROUP;
+use crate::frames::Head;
+use crate::frames::MODEL;
+use crate::frames::POINT;
+use crate::frames::Point;
+use crate::frames::word_of;
+use crate::scans::Sought;
+use crate::scans::number_used;
+use crate::scans::run_has;
+use crate::scans::scale_factor_in_reach;
+use crate::state::LEVELS;
+use crate::state::State;
+use values::RegisterCount;
+ghost use mathlib.Core.Path.{_≡_};
+ghost use mathlib.Core.Bool.{_&&_};
+ghost use Prim.Native.Nat.{_/_, _≤_, _<_};
+ghost use lib.Dec.{eqb};
+ghost use lib.ListN.{length, getD};
+ghost use Rattle.catalog.specs.Frames.{pointFrame};
+ghost use Rattle.catalog.specs.Rules.{isSizeOf, isMistyped, any, scaleFaults, countFaults, firstBroken};
+ghost use Rattle.catalog.specs.Scans.{runsOf};
+ghost use Rattle.catalog.specs.Answers.{frameForm, headForm, pointForm, faultForm};
+ghost use Rattle.catalog.specs.Tracking.{Within, codeRules, modelRules, groupRules, pointRules, endRules, runIn, wrongNumber};
+
+// The first rule that a frame breaks.
+pub(crate) enum Fault {
+    Nothing,
+    Rule(u16),
+}
+
+// The fault of frame i.
+pub(crate) fn fault_at(catalog: &[u16], i: usize, state: State, frame: Frame) -> Fault
+    requires { ⌜ i < length (now catalog) / 8 ⌝ }
+    requires { ⌜ Within (now catalog) i state ⌝ }
+    ensures { λ r. ⌜ faultForm r ≡ firstBroken (codeRules (now (catalog .entry)) i state (frameForm frame)) ⌝ }
+{
+    match frame {
+        Frame::Model(id) => model_fault(catalog, i, state, id),
+        Frame::Group(head) => group_fault(catalog, i, state, head),
+        Frame::Point(point) => point_fault(catalog, i, state, point),
+        Frame::End => end_fault(catalog, i, state),
+        Frame::Malformed => Fault::Rule(3),
+    }
+}
+
+fn model_fault(catalog: &[u16], i: usize, state: State, id: u16) -> Fault
+    requires { ⌜ i < length (now catalog) / 8 ⌝ }
+    ensures { λ r. ⌜ faultForm r ≡ firstBroken (modelRules (now (catalog .entry)) i state id) ⌝ }
+{
+    if state.depth != 0 {
+        return Fault::Rule(4);
+    }
+    if id == 0 {
+        return Fault::Rule(6);
+    }
+    if id == 65535 {
+        return Fault::Rule(6);
+    }
+    if number_used(catalog, 0, i, MODEL, MODEL, id) {
+        return Fault::Rule(6);
+    }
+    Fault::Nothing
+}
+
+fn group_fault(catalog: &[u16], i: usize, state: State, head: Head) -> Fault
+    requires { ⌜ i < length (now catalog) / 8 ⌝ }
+    requires { ⌜ Within (now catalog) i state ⌝ }
+    ensures { λ r. ⌜ faultForm r ≡ firstBroken (groupRules (now (catalog .entry)) i state (headForm head)) ⌝ }
+{
+    if state.depth == 0 {
+        return Fault::Rule(4);
+    }
+    if is_after_fill(state) {
+        return Fault::Rule(4);
+    }
+    if LEVELS <= state.depth {
+        return Fault::Rule(5);
+    }
+    if is_misnumbered(catalog, i, state, head.number) {
+        return Fault::Rule(6);
+    }
+    if 1 < head.group_type {
+        return Fault::Rule(7);
+    }
+    if is_miscounted(catalog, state, head) {
+        return Fault::Rule(9);
+    }
+    Fault::Nothing
+}
+
+fn point_fault(catalog: &[u16], i: usize, state: State, point: Point) -> Fault
+    requires { ⌜ i < length (now catalog) / 8 ⌝ }
+    requires { ⌜ Within (now catalog) i state ⌝ }
+    ensures { λ r. ⌜ faultForm r ≡ firstBroken (pointRules (now (catalog .entry)) i state (pointForm point)) ⌝ }
+{
+    if state.depth == 0 {
+        return Fault::Rule(4);
+    }
+    if state.has_group {
+        return Fault::Rule(4);
+    }
+    if is_misnumbered(catalog, i, state, point.number) {
+        return Fault::Rule(6);
+    }
+    if is_mistyped(point) {
+        return Fault::Rule(7);
+    }
+    if is_misscaled(catalog, state, point) {
+        return Fault::Rule(8);
+    }
+    Fault::Nothing
+}
+
+fn end_fault(catalog: &[u16], i: usize, state: State) -> Fault
+    requires { ⌜ i < length (now catalog) / 8 ⌝ }
+    requires { ⌜ Within (now catalog) i state ⌝ }
+    ensures { λ r. ⌜ faultForm r ≡ firstBroken (endRules (now (catalog .entry)) state) ⌝ }
+{
+    if state.depth == 0 {
+        return Fault::Rule(4);
+    }
+    if word_of(catalog, state.firsts[state.depth - 1], 0) == POINT {
+        return Fault::Nothing;
+    }
+    if state.depth != 1 {
+        return Fault::Rule(10);
+    }
+    if !state.has_group {
+        return Fault::Rule(10);
+    }
+    Fault::Nothing
+}
+
+// Is the top group the innermost open one, with a fill group in it?
+fn is_after_fill(state: State) -> bool
+    ensures { λ r. ⌜ r ≡ eqb (state .depth) 1 && state .«has_fill» ⌝ }
+{
+    if state.depth != 1 {
+        return false;
+    }
+    state.has_fill
+}
+
+// Is the number of a point or group 0, or used in this model? Reads the frames of the model so far once.
+fn is_misnumbered(catalog: &[u16], i: usize, state: State, number: u16) -> bool
+    requires { ⌜ i < length (now catalog) / 8 ⌝ }
+    requires { ⌜ Within (now catalog) i state ⌝ }
+    ensures { λ r. ⌜ r ≡ wrongNumber (now (catalog .entry)) i state number ⌝ }
+{
+    if number == 0 {
+        return true;
+    }
+    number_used(catalog, state.firsts[0], i, GROUP, POINT, number)
+}
+
+// Is the type unknown, the size wrong, or mandatory or access not 0 or 1?
+fn is_mistyped(point: Point) -> bool
+    ensures { λ r. ⌜ r ≡ isMistyped (pointFrame (pointForm point)) ⌝ }
+{
+    if !is_size_of(point.type_code, point.size) {
+        return true;
+    }
+    if 1 < point.mandatory {
+        return true;
+    }
+    1 < point.access
+}
+
+// Is this a size of the type?
+fn is_size_of(type_code: u16, size: u16) -> bool
+    ensures { λ r. ⌜ r ≡ isSizeOf «type_code» size ⌝ }
+{
+    let count = values::register_count(type_code);
+    match count {
+        RegisterCount::Between { fewest, most } => {
+            if size < fewest {
+                return false;
+            }
+            size <= most
+        }
+        RegisterCount::UnknownType => false,
+    }
+}
+
+// Is the scale factor of a point wrong?
+fn is_misscaled(catalog: &[u16], state: State, point: Point) -> bool
+    requires { ⌜ state .depth ≤ 4 ⌝ }
+    ensures { λ r. ⌜ r ≡ any (scaleFaults (runsOf (now (catalog .entry)) (state .firsts) (state .depth)) (pointForm point)) ⌝ }
+{
+    let kind = point.scale_kind;
+    match kind {
+        0 => point.scale != 0,
+        1 => {
+            if !values::scalable(point.type_code) {
+                return true;
+            }
+            !values::scale_factor_in_range(point.scale)
+        }
+        2 => {
+            if !values::scalable(point.type_code) {
+                return true;
+            }
+            !scale_factor_in_reach(catalog, state, point.scale)
+        }
+        _ => true,
+    }
+}
+
+// Is the count of a group wrong?
+fn is_miscounted(catalog: &[u16], state: State, head: Head) -> bool
+    ensures { λ r. ⌜ r ≡ any (countFaults (runIn (now (catalog .entry)) state 0) (eqb (state .depth) 1) (headForm head)) ⌝ }
+{
+    let kind = head.count_kind;
+    match kind {
+        0 => head.count == 0,
+        1 => !run_has(catalog, state.firsts[0], Sought::CountPoint, head.count),
+        2 => {
+            if state.depth != 1 {
+                return true;
+            }
+            head.count != 0
+        }
+        _ => true,
+    }
+}

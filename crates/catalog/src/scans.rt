@@ -1,0 +1,109 @@
+// Searches over frames. Each reads every frame of its stretch once at most.
+use crate::frames::POINT;
+use crate::frames::WORDS;
+use crate::frames::word_of;
+use crate::state::State;
+ghost use mathlib.Core.Path.{_≡_};
+ghost use Prim.Native.Nat.{_+_, _-_, _/_, _≤_, _<_};
+ghost use lib.ListN.{length};
+ghost use Rattle.catalog.specs.Rules.{among, hasPoint, hasScaleFactor, run};
+ghost use Rattle.catalog.specs.Scans.{framesAfter, isNumber, isSought, numbersBefore, pointWords, runsOf};
+
+// The point that a reference looks for.
+pub(crate) enum Sought {
+    ScaleFactor,
+    CountPoint,
+}
+
+// Does frame j, of a kind from low to high, have this number?
+fn has_number(catalog: &[u16], j: usize, low: u16, high: u16, number: u16) -> bool
+    requires { ⌜ j < length (now catalog) / 8 ⌝ }
+    ensures { λ r. ⌜ r ≡ isNumber (now (catalog .entry)) low high number j ⌝ }
+{
+    let kind = word_of(catalog, j, 0);
+    if kind < low {
+        return false;
+    }
+    if high < kind {
+        return false;
+    }
+    number == word_of(catalog, j, 1)
+}
+
+// Does one of the frames from first up to, not including, end, of a kind from low to high, have this
+// number? Reads each of these frames once.
+pub(crate) fn number_used(
+    catalog: &[u16],
+    first: usize,
+    end: usize,
+    low: u16,
+    high: u16,
+    number: u16,
+) -> bool
+    requires { ⌜ (first ≤ end) × (end ≤ length (now catalog) / 8) ⌝ }
+    ensures { λ r. ⌜ r ≡ among number (numbersBefore (now (catalog .entry)) low high first (end - first)) ⌝ }
+{
+    let mut j = end;
+    while first < j {
+        j -= 1;
+        if has_number(catalog, j, low, high, number) {
+            return true;
+        }
+    }
+    false
+}
+
+// Is the point of frame j the one that is looked for?
+fn is_sought(catalog: &[u16], j: usize, sought: Sought, number: u16) -> bool
+    requires { ⌜ j < length (now catalog) / 8 ⌝ }
+    ensures { λ r. ⌜ r ≡ isSought sought number (pointWords (now (catalog .entry)) j) ⌝ }
+{
+    if word_of(catalog, j, 1) != number {
+        return false;
+    }
+    let type_code = word_of(catalog, j, 2);
+    match sought {
+        Sought::ScaleFactor => type_code == 8,
+        Sought::CountPoint => {
+            if type_code != 2 {
+                return false;
+            }
+            word_of(catalog, j, 7) == 0
+        }
+    }
+}
+
+// Is the point that is looked for in the unbroken run of point frames from frame `from` on? Reads the
+// run once.
+pub(crate) fn run_has(catalog: &[u16], from: usize, sought: Sought, number: u16) -> bool
+    ensures { λ r. ⌜ r ≡ hasPoint (isSought sought number) (run (framesAfter (now (catalog .entry)) from)) ⌝ }
+{
+    let frames = catalog.len() / WORDS;
+    let mut j = from;
+    while j < frames {
+        if word_of(catalog, j, 0) != POINT {
+            return false;
+        }
+        if is_sought(catalog, j, sought, number) {
+            return true;
+        }
+        j += 1;
+    }
+    false
+}
+
+// Does a sunssf point of this number stand in the run of points of an open group? The run of the innermost
+// one goes on ahead. Reads the runs of at most four groups of one model.
+pub(crate) fn scale_factor_in_reach(catalog: &[u16], state: State, number: u16) -> bool
+    requires { ⌜ state .depth ≤ 4 ⌝ }
+    ensures { λ r. ⌜ r ≡ hasScaleFactor number (runsOf (now (catalog .entry)) (state .firsts) (state .depth)) ⌝ }
+{
+    let mut k = state.depth;
+    while 0 < k {
+        k -= 1;
+        if run_has(catalog, state.firsts[k], Sought::ScaleFactor, number) {
+            return true;
+        }
+    }
+    false
+}
