@@ -1,16 +1,15 @@
 -- Checking step by step: where it starts, one frame, the end.
-use mathlib.Core.Path.{_≡_, refl, sym, ap, subst, _∙_}
+use mathlib.Core.Path.{_≡_, ap}
 use mathlib.Core.Bool.{Bool, true, false}
 use mathlib.Core.List.{List, [], _∷_}
 use mathlib.Core.Option.{none, some}
-use Prim.Native.Nat.{ℕ, suc, _/_, _%_, _≤_, _+_}
+use Prim.Native.Nat.{ℕ, _/_, _%_, _≤_, _+_}
 use native.Mathlib.Nat.{sub-zero}
 use native.Mathlib.Numerals.{add-one}
 use borrow.Author.Tests.{eq-eqb, ne-eqb, lt-ltb, le-ltb}
 use Prim.Native.Nat.{_<_}
-use lib.Dec.{eqb, ltb}
 use lib.ListN.{length}
-use Rattle.catalog.specs.Frames.{Frame, frames, framesFrom}
+use Rattle.catalog.specs.Frames.{Frame}
 use Rattle.catalog.specs.State.{State, start, next}
 use Rattle.catalog.specs.Rules.{noModel, run, fault}
 use Rattle.catalog.specs.Checking.{Verdict, accepted, refused, checkFrom, checked}

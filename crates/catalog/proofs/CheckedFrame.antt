@@ -2,7 +2,7 @@
 use mathlib.Core.Path.{_≡_, sym, ap, _∙_}
 use mathlib.Core.Bool.{Bool, true, false}
 use mathlib.Core.List.{List, _∷_}
-use mathlib.Core.Option.{Option, none, some}
+use mathlib.Core.Option.{none, some}
 use Prim.Native.Nat.{ℕ, _+_, _/_, _≤_, _<_}
 use native.Mathlib.Omega.{arith}
 use borrow.Author.Tests.{eq-eqb, ne-eqb}
@@ -49,7 +49,8 @@ module _ (ws : List ℕ) (i : ℕ) (c : State) (d : Decides ws i c) (f : Frame) 
 
   pub refused-here : (r : ℕ) → some r ≡ firstBroken (codeRules ws i c f) → refused r i ≡ checked ws
   refused-here r n =
-      sym (steps.is-refused (d .state) i f (framesAfter ws (i + 1)) (framesAfter ws i) frames-here r (sym (n ∙ fault-here))) ∙ d .rest
+      let broken = sym (n ∙ fault-here) in
+      sym (steps.is-refused (d .state) i f (framesAfter ws (i + 1)) (framesAfter ws i) frames-here r broken) ∙ d .rest
 
 -- At the end.
 module _ (ws : List ℕ) (i : ℕ) (c : State) (d : Decides ws i c) (h : length ws / 8 ≤ i) where

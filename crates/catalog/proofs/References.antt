@@ -5,7 +5,7 @@ use mathlib.Core.List.{List, [], _∷_}
 use Prim.Native.Nat.{ℕ}
 use borrow.Author.Tests.{eqb-true}
 use lib.Dec.{eqb}
-use Rattle.catalog.specs.Frames.{Point, Head, scaleByPoint, countByPoint}
+use Rattle.catalog.specs.Frames.{Point, Head, scaleByPoint, countByPoint, uint16, sunssf, readOnly}
 use Rattle.catalog.specs.Rules.{hasPoint, isScaleFactorPoint, hasScaleFactor, isCountPoint, hasCountPoint}
 use Rattle.catalog.specs.Definitions.{Groups}
 use Rattle.catalog.specs.Soundness.{SoundPoint, SoundHead}
@@ -29,7 +29,7 @@ point-found such (p ∷ ps) e = go (such p) refl e (point-found such ps)
 
 -- A scale reference names a sunssf point.
 pub scale-factor-found : (n : ℕ) (ps : List Point) → hasScaleFactor n ps ≡ true
-    → (p : Point) × (In p ps) × (p .number ≡ n) × (p .typeCode ≡ 8)
+    → (p : Point) × (In p ps) × (p .number ≡ n) × (p .typeCode ≡ sunssf)
 scale-factor-found n ps e =
     let r = point-found (isScaleFactorPoint n) ps e in
     let p = r .0 in
@@ -38,7 +38,7 @@ scale-factor-found n ps e =
 
 -- A count reference names a uint16 point with access R.
 pub count-point-found : (n : ℕ) (ps : List Point) → hasCountPoint n ps ≡ true
-    → (p : Point) × (In p ps) × (p .number ≡ n) × (p .typeCode ≡ 2) × (p .access ≡ 0)
+    → (p : Point) × (In p ps) × (p .number ≡ n) × (p .typeCode ≡ uint16) × (p .access ≡ readOnly)
 count-point-found n ps e =
     let r = point-found (isCountPoint n) ps e in
     let p = r .0 in
@@ -48,10 +48,11 @@ count-point-found n ps e =
 
 -- A sound point whose scale factor is a point's value: that point is in its reach.
 pub scale-resolved : (reach : List Point) (p : Point) → SoundPoint reach p → p .scaleKind ≡ scaleByPoint
-    → (q : Point) × (In q reach) × (q .number ≡ p .scale) × (q .typeCode ≡ 8)
+    → (q : Point) × (In q reach) × (q .number ≡ p .scale) × (q .typeCode ≡ sunssf)
 scale-resolved reach p s k = scale-factor-found (p .scale) reach (s .resolved k)
 
 -- A sound group whose count is a point's value: that point is in the top group.
 pub count-resolved : (top : List Point) (level : ℕ) (h : Head) (behind : Groups) → SoundHead top level h behind
-    → h .countKind ≡ countByPoint → (q : Point) × (In q top) × (q .number ≡ h .count) × (q .typeCode ≡ 2) × (q .access ≡ 0)
+    → h .countKind ≡ countByPoint
+    → (q : Point) × (In q top) × (q .number ≡ h .count) × (q .typeCode ≡ uint16) × (q .access ≡ readOnly)
 count-resolved top level h behind s k = count-point-found (h .count) top (s .counted k)

@@ -1,13 +1,13 @@
 -- The rules as the code asks them find the same fault as the rules of the check.
 use mathlib.Core.Path.{_≡_, refl, sym, ap, subst, _∙_}
-use mathlib.Core.Bool.{Bool, true, false, not, _&&_, _||_}
-use mathlib.Core.List.{List, [], _∷_, _++_, append-nil}
-use mathlib.Core.Option.{Option, none, some}
-use Prim.Native.Nat.{ℕ, zero, suc, _+_, _-_, _/_, _≤_, _<_}
+use mathlib.Core.Bool.{Bool, true, false, _||_}
+use mathlib.Core.List.{List, [], _∷_, append-nil}
+use mathlib.Core.Option.{Option}
+use Prim.Native.Nat.{ℕ, suc, _-_}
 use native.Mathlib.Omega.{arith}
 use borrow.Author.Tests.{eq-eqb, ne-eqb}
 use lib.Dec.{eqb}
-use lib.ListN.{length, getD}
+use lib.ListN.{length}
 use Rattle.catalog.specs.Frames.{Point, Head, Frame, modelFrame, groupFrame, pointFrame, endFrame, malformed}
 use Rattle.catalog.specs.State as check
 use Rattle.catalog.specs.State.{Level}
@@ -43,8 +43,10 @@ module _ (ws : List ℕ) (i : ℕ) (c : State) (s : check.State) (t : Tracks ws 
   -- The open groups, at a frame that is no point's.
   pub no-point-ahead : run (framesAfter ws i) ≡ [] → Opens ws (c .firsts) (c .«has_group») [] (s .levels)
   no-point-ahead e =
-      subst (λ (ps : List Point). Opens ws (c .firsts) (c .«has_group») ps (s .levels)) (nothing-ahead ws i (c .«has_group») e) (t .levels)
+      let none-left = nothing-ahead ws i (c .«has_group») e in
+      subst (λ (ps : List Point). Opens ws (c .firsts) (c .«has_group») ps (s .levels)) none-left (t .levels)
 
+  -- The same fault, kind by kind.
   model-fault : (id : ℕ) (ahead : List Point) → firstBroken (codeRules ws i c (modelFrame id)) ≡ fault s (modelFrame id) ahead
   model-fault id ahead = rw (none-open (c .depth) (s .levels) (t .depth), t .ids)
 
@@ -57,7 +59,15 @@ module _ (ws : List ℕ) (i : ℕ) (c : State) (s : check.State) (t : Tracks ws 
       go (l ∷ ls) q =
           let d : c .depth ≡ suc (length ls) = t .depth ∙ ap length q in
           let o = subst (Opens ws (c .firsts) (c .«has_group») []) q (no-point-ahead e) in
-          rw (none-open (c .depth) (l ∷ ls) d, one-open (c .depth) ls d, t .hasFill, ← t .numbers (omega (arith, d)), run-of-top ws (c .firsts) (c .«has_group») l ls o, t .depth, q)
+          rw (
+            none-open (c .depth) (l ∷ ls) d,
+            one-open (c .depth) ls d,
+            t .hasFill,
+            ← t .numbers (omega (arith, d)),
+            run-of-top ws (c .firsts) (c .«has_group») l ls o,
+            t .depth,
+            q,
+          )
 
   point-fault : (p : Point) → firstBroken (codeRules ws i c (pointFrame p)) ≡ fault s (pointFrame p) (run (framesAfter ws i))
   point-fault p = go (s .levels) refl
@@ -77,18 +87,22 @@ module _ (ws : List ℕ) (i : ℕ) (c : State) (s : check.State) (t : Tracks ws 
           let o = opens l ls q false g in
           let r : runsOf ws (c .firsts) (c .depth) ≡ inReach (l ∷ ls) (run (framesAfter ws i)) =
           ap (runsOf ws (c .firsts)) d ∙ runs-in-reach ws (c .firsts) false (run (framesAfter ws i)) l ls o in
-          let placed : eqb (c .depth) 0 || c .«has_group» ≡ isMisplaced s (pointFrame p) = rw (none-open (c .depth) (l ∷ ls) d, g, q, o .1) in
+          let placed : eqb (c .depth) 0 || c .«has_group» ≡ isMisplaced s (pointFrame p) =
+          rw (none-open (c .depth) (l ∷ ls) d, g, q, o .1) in
           let numbered : wrongNumber ws i c (p .number) ≡ isMisnumbered s (pointFrame p) =
           ap (λ ns. eqb (p .number) 0 || among (p .number) ns) (sym (t .numbers (omega (arith, d)))) in
-          let scaled : any (scaleFaults (runsOf ws (c .firsts) (c .depth)) p) ≡ isMisscaled s (run (framesAfter ws i)) (pointFrame p) =
+          let scaled : any (scaleFaults (runsOf ws (c .firsts) (c .depth)) p)
+          ≡ isMisscaled s (run (framesAfter ws i)) (pointFrame p) =
           ap (λ reach. any (scaleFaults reach p)) (r ∙ sym (ap (λ ls. inReach ls (run (framesAfter ws i))) q)) in
           same-tests _ _ _ _ (isMistyped (pointFrame p)) _ _ placed numbered scaled
 
-      go : (ls : List Level) → s .levels ≡ ls → firstBroken (codeRules ws i c (pointFrame p)) ≡ fault s (pointFrame p) (run (framesAfter ws i))
+      go : (ls : List Level) → s .levels ≡ ls
+          → firstBroken (codeRules ws i c (pointFrame p)) ≡ fault s (pointFrame p) (run (framesAfter ws i))
       go [] q = rw (none-open (c .depth) [] (t .depth ∙ ap length q), q)
       go (l ∷ ls) q = inside l ls q (c .«has_group») refl
 
-  end-fault : (ahead : List Point) → run (framesAfter ws i) ≡ [] → firstBroken (codeRules ws i c endFrame) ≡ fault s endFrame ahead
+  end-fault : (ahead : List Point) → run (framesAfter ws i) ≡ []
+      → firstBroken (codeRules ws i c endFrame) ≡ fault s endFrame ahead
   end-fault ahead e = go (s .levels) refl
     where
       go : (ls : List Level) → s .levels ≡ ls → firstBroken (codeRules ws i c endFrame) ≡ fault s endFrame ahead
@@ -100,7 +114,8 @@ module _ (ws : List ℕ) (i : ℕ) (c : State) (s : check.State) (t : Tracks ws 
           rw (none-open (c .depth) (l ∷ ls) d, one-open (c .depth) ls d, m, o .0, append-nil (l .points), ← o .1, q)
 
   -- The same fault, whatever the frame.
-  pub same-fault : (f : Frame) → (fs : List Frame) → framesAfter ws i ≡ f ∷ fs → firstBroken (codeRules ws i c f) ≡ fault s f (run (f ∷ fs))
+  pub same-fault : (f : Frame) (fs : List Frame) → framesAfter ws i ≡ f ∷ fs
+      → firstBroken (codeRules ws i c f) ≡ fault s f (run (f ∷ fs))
   same-fault (modelFrame id) fs e = model-fault id []
   same-fault (groupFrame h) fs e = group-fault h [] (ap run e)
   same-fault (pointFrame p) fs e = point-fault p ∙ ap (λ fs. fault s (pointFrame p) (run fs)) e

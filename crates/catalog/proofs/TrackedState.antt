@@ -1,10 +1,9 @@
 -- The code's state goes on standing for that of the check, from the start and from frame to frame.
 use mathlib.Core.Path.{_≡_, refl, sym, ap, subst, _∙_}
-use mathlib.Core.Logic.{_≢_}
-use mathlib.Core.Bool.{Bool, true, false, not, _&&_, _||_}
+use mathlib.Core.Bool.{true, false, _&&_, _||_}
 use mathlib.Core.List.{List, [], _∷_, _++_, append-assoc}
-use mathlib.Core.Option.{Option, none, some}
-use Prim.Native.Nat.{ℕ, zero, suc, _+_, _-_, _/_, _≤_, _<_}
+use mathlib.Core.Option.{none}
+use Prim.Native.Nat.{ℕ, zero, suc, _+_, _-_, _≤_, _<_}
 use native.Mathlib.Nat.{zero-add}
 use native.Mathlib.Numerals.{add-one}
 use native.Mathlib.Omega.{arith}
@@ -14,7 +13,7 @@ use lib.ListN.{length, getD, set, length-set}
 use lib.Seq.{getD-set-same, getD-set-other}
 use Rattle.catalog.specs.Frames.{Point, Head, Frame, modelFrame, groupFrame, pointFrame, endFrame, malformed, word, frameAt, wordsOf, fill}
 use Rattle.catalog.specs.State as check
-use Rattle.catalog.specs.State.{Level, start, opened, next}
+use Rattle.catalog.specs.State.{Level, start, next}
 use Rattle.catalog.specs.Rules.{run, noModel, inTop, afterGroup, isMalformed, rules, fault}
 use Rattle.catalog.specs.Scans.{framesAfter, numbersBefore}
 use Rattle.catalog.specs.Tracking.{Within, Tracks, Opens, Room, aheadOf, stateBehind}
@@ -60,11 +59,15 @@ module _ (ws : List ℕ) (low high first n i : ℕ) (e : first + n ≡ i) where
   nothing-added h = let g = rw (← e) at h in simp (numbersBefore, g)
 
 -- The words of a frame that is not malformed.
-words-here : (ws : List ℕ) (i : ℕ) (f : Frame) → frameAt ws i ≡ f → isMalformed f ≡ false
-    → wordsOf f ≡ word ws i 0 ∷ word ws i 1 ∷ word ws i 2 ∷ word ws i 3 ∷ word ws i 4 ∷ word ws i 5 ∷ word ws i 6 ∷ word ws i 7 ∷ []
+abbrev eightWords : List ℕ → ℕ → List ℕ
+eightWords ws i =
+    word ws i 0 ∷ word ws i 1 ∷ word ws i 2 ∷ word ws i 3 ∷ word ws i 4 ∷ word ws i 5 ∷ word ws i 6 ∷ word ws i 7 ∷ []
+
+words-here : (ws : List ℕ) (i : ℕ) (f : Frame) → frameAt ws i ≡ f → isMalformed f ≡ false → wordsOf f ≡ eightWords ws i
 words-here ws i f e =
-    subst (λ x. isMalformed x ≡ false → wordsOf x ≡ word ws i 0 ∷ word ws i 1 ∷ word ws i 2 ∷ word ws i 3 ∷ word ws i 4 ∷ word ws i 5 ∷ word ws i 6 ∷ word ws i 7 ∷ [])
-    e (eight-back (word ws i 0) (word ws i 1) (word ws i 2) (word ws i 3) (word ws i 4) (word ws i 5) (word ws i 6) (word ws i 7))
+    let w = word ws i in
+    let back = eight-back (w 0) (w 1) (w 2) (w 3) (w 4) (w 5) (w 6) (w 7) in
+    subst (λ x. isMalformed x ≡ false → wordsOf x ≡ eightWords ws i) e back
 
 -- The ids and numbers so far, behind a frame of this kind and with this number.
 module _ (ws : List ℕ) (i : ℕ) (c : State) (s : check.State) (t : Tracks ws i c s) where
@@ -146,18 +149,22 @@ module _ (ws : List ℕ) (i : ℕ) (c : State) (s : check.State) (t : Tracks ws 
         let f = getD-set-other (c .firsts) (c .depth) 0 (i + 1) 0 (λ z. omega (arith, z, d)) in
         let four = t .within .four in
         let stored = getD-set-same (c .firsts) (c .depth) (i + 1) 0 (omega arith) in
-        let kept = one-deeper ws (c .firsts) true [] (record { points = l .points; hasGroup = true } ∷ ls) (c .depth) (i + 1) (omega arith) (o .0, refl, o .2) in
+        let around : List Level = record { points = l .points; hasGroup = true } ∷ ls in
+        let kept = one-deeper ws (c .firsts) true [] around (c .depth) (i + 1) (omega arith) (o .0, refl, o .2) in
+        let passed : (k : ℕ) → getD (c .firsts) k 0 ≤ i + 1 = λ k. let p = t .within .passed k in omega arith in
+        let kind = sym (ap (λ l. getD l 0 0) w) in
+        let number = sym (ap (λ l. getD l 1 0) w) in
         record {
           within = record {
             few = omega arith;
             deep = omega arith;
             four = length-set (c .firsts) (c .depth) (i + 1) ∙ four;
-            passed = still-bounded (c .firsts) (c .depth) (i + 1) (i + 1) (λ k. let p = t .within .passed k in omega arith) (omega arith);
+            passed = still-bounded (c .firsts) (c .depth) (i + 1) (i + 1) passed (omega arith);
           };
           models = t .models;
-          ids = ids-kept ws i c s t 2 (sym (ap (λ l. getD l 0 0) w)) refl;
+          ids = ids-kept ws i c s t 2 kind refl;
           depth = rw q (omega arith);
-          numbers = λ h. rw f (number-more ws i c s t (omega arith) 2 _ (sym (ap (λ l. getD l 0 0) w)) refl (sym (ap (λ l. getD l 1 0) w)));
+          numbers = λ h. rw f (number-more ws i c s t (omega arith) 2 _ kind refl number);
           hasFill = ap (λ b. b || eqb (h .countKind) fill) (t .hasFill);
           levels = rw q (rw (← d, stored), refl, kept);
         }
@@ -171,7 +178,8 @@ module _ (ws : List ℕ) (i : ℕ) (c : State) (s : check.State) (t : Tracks ws 
         let b : c .«has_group» ≡ false = sym (o .1) ∙ g in
         let same : aheadOf ws i (c .«has_group») ≡ p ∷ run (framesAfter ws (i + 1)) = ap (aheadOf ws i) b ∙ r in
         let on : aheadOf ws (i + 1) (c .«has_group») ≡ run (framesAfter ws (i + 1)) = ap (aheadOf ws (i + 1)) b in
-        let split = append-assoc (l .points) (p ∷ []) (run (framesAfter ws (i + 1))) in
+        let behind = append-assoc (l .points) (p ∷ []) (run (framesAfter ws (i + 1))) in
+        let moved = ap (λ ps. (l .points ++ (p ∷ [])) ++ ps) on ∙ behind in
         record {
           within = later ws i c s t;
           models = t .models;
@@ -179,7 +187,7 @@ module _ (ws : List ℕ) (i : ℕ) (c : State) (s : check.State) (t : Tracks ws 
           depth = rw q d;
           numbers = λ h. number-more ws i c s t h 3 _ (sym (ap (λ l. getD l 0 0) w)) refl (sym (ap (λ l. getD l 1 0) w));
           hasFill = t .hasFill;
-          levels = rw q (o .0 ∙ ap (λ ps. l .points ++ ps) same ∙ sym (ap (λ ps. (l .points ++ (p ∷ [])) ++ ps) on ∙ split), o .1, o .2);
+          levels = rw q (o .0 ∙ ap (λ ps. l .points ++ ps) same ∙ sym moved, o .1, o .2);
         }
 
     behind-end : frameAt ws i ≡ endFrame → run (framesAfter ws i) ≡ []

@@ -1,14 +1,14 @@
 -- The code's searches over frames, step by step.
-use mathlib.Core.Path.{_≡_, refl, sym, ap, _∙_}
+use mathlib.Core.Path.{_≡_, refl}
 use mathlib.Core.Bool.{Bool, true, false, _&&_, _||_}
 use mathlib.Core.List.{List, [], _∷_, _++_}
-use Prim.Native.Nat.{ℕ, zero, suc, _+_, _-_, _/_, _≤_, _<_}
+use Prim.Native.Nat.{ℕ, suc, _+_, _-_, _/_, _≤_, _<_}
 use native.Mathlib.Numerals.{add-one}
 use native.Mathlib.Omega.{arith}
 use borrow.Author.Tests.{eq-eqb, ne-eqb}
 use lib.Dec.{eqb, leb}
 use lib.ListN.{length, getD}
-use Rattle.catalog.specs.Frames.{Point, Frame, modelFrame, groupFrame, pointFrame, endFrame, malformed, word, frameOf, frameAt, framesFrom}
+use Rattle.catalog.specs.Frames.{Point, word, frameAt, framesFrom}
 use Rattle.catalog.specs.Rules.{among, run, hasPoint, hasScaleFactor, isScaleFactorPoint}
 use Rattle.catalog.specs.Scans.{zeroWords, isNumber, numbersBefore, isSought, framesAfter, pointWords, runsOf}
 use Rattle.catalog.specs.declared.scans.Sought.{Sought}
@@ -35,15 +35,17 @@ module _ (ws : List ℕ) (i k n : ℕ) where
 module _ (ws : List ℕ) (low high first number : ℕ) where
   -- One frame more.
   number-more : (m : ℕ)
-      → among number (numbersBefore ws low high first (suc m)) ≡ isNumber ws low high number (first + m) || among number (numbersBefore ws low high first m)
+      → among number (numbersBefore ws low high first (suc m))
+      ≡ isNumber ws low high number (first + m) || among number (numbersBefore ws low high first m)
   unfolding numbersBefore
-  number-more m = go (leb low (word ws (first + m) 0) && leb (word ws (first + m) 0) high)
+  number-more m =
+      let k = word ws (first + m) 0 in
+      go (word ws (first + m) 1) (numbersBefore ws low high first m) (leb low k && leb k high)
     where
-      go : (b : Bool)
-          → among number (elim b [ true ↦ word ws (first + m) 1 ∷ numbersBefore ws low high first m | false ↦ numbersBefore ws low high first m ])
-          ≡ (b && eqb number (word ws (first + m) 1)) || among number (numbersBefore ws low high first m)
-      go true = refl
-      go false = refl
+      go : (w : ℕ) (ns : List ℕ) (b : Bool)
+          → among number (elim b [ true ↦ w ∷ ns | false ↦ ns ]) ≡ (b && eqb number w) || among number ns
+      go w ns true = refl
+      go w ns false = refl
 
   module _ (n m j : ℕ) (e : n ≡ m + 1) (q : j ≡ first + m) where
     pub number-here : isNumber ws low high number j ≡ true → among number (numbersBefore ws low high first n) ≡ true
@@ -96,7 +98,8 @@ has-either such (p ∷ ps) qs = go (such p) (has-either such ps qs)
 
 module _ (ws firsts : List ℕ) (n k m : ℕ) (e : k ≡ m + 1) where
   -- One group more.
-  reach-more : hasScaleFactor n (runsOf ws firsts k) ≡ hasScaleFactor n (run (framesAfter ws (getD firsts m 0))) || hasScaleFactor n (runsOf ws firsts m)
+  reach-more : hasScaleFactor n (runsOf ws firsts k)
+      ≡ hasScaleFactor n (run (framesAfter ws (getD firsts m 0))) || hasScaleFactor n (runsOf ws firsts m)
   unfolding runsOf
   reach-more = rw (e, add-one m) (has-either (isScaleFactorPoint n) (run (framesAfter ws (getD firsts m 0))) (runsOf ws firsts m))
 

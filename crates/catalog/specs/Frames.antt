@@ -50,6 +50,16 @@ countByPoint = 1
 abbrev pub fill : ℕ
 fill = 2
 
+-- The type codes that references ask for, and the access that a count point has (document 01: R).
+abbrev pub uint16 : ℕ
+uint16 = 2
+
+abbrev pub sunssf : ℕ
+sunssf = 8
+
+abbrev pub readOnly : ℕ
+readOnly = 0
+
 -- Are these words all 0?
 abbrev pub allZero : List ℕ → Bool
 allZero [] = true

@@ -7,7 +7,7 @@ use lib.Dec.{eqb, leb, ltb}
 use lib.ListN.{length}
 use Rattle.values.specs.Rows.{mayScale, registersOf}
 use Rattle.values.specs.Classes.{twosComplement, isScaleFactor}
-use Rattle.catalog.specs.Frames.{Point, Head, Frame, modelFrame, groupFrame, pointFrame, endFrame, malformed, noScale, fixedScale, scaleByPoint, constantCount, countByPoint, fill}
+use Rattle.catalog.specs.Frames.{Point, Head, Frame, modelFrame, groupFrame, pointFrame, endFrame, malformed, noScale, fixedScale, scaleByPoint, constantCount, countByPoint, fill, uint16, sunssf, readOnly}
 use Rattle.catalog.specs.State.{Level, State}
 
 -- ---- What the rules look at
@@ -64,14 +64,14 @@ hasPoint such (p ∷ ps) = such p || hasPoint such ps
 
 -- Does a sunssf point of this number stand among these?
 abbrev pub isScaleFactorPoint : ℕ → Point → Bool
-isScaleFactorPoint n p = eqb (p .number) n && eqb (p .typeCode) 8
+isScaleFactorPoint n p = eqb (p .number) n && eqb (p .typeCode) sunssf
 
 abbrev pub hasScaleFactor : ℕ → List Point → Bool
 hasScaleFactor n ps = hasPoint (isScaleFactorPoint n) ps
 
 -- Does a uint16 point of this number with access R stand among these?
 abbrev pub isCountPoint : ℕ → Point → Bool
-isCountPoint n p = eqb (p .number) n && eqb (p .typeCode) 2 && eqb (p .access) 0
+isCountPoint n p = eqb (p .number) n && eqb (p .typeCode) uint16 && eqb (p .access) readOnly
 
 abbrev pub hasCountPoint : ℕ → List Point → Bool
 hasCountPoint n ps = hasPoint (isCountPoint n) ps

@@ -10,7 +10,7 @@ use Rattle.values.specs.Rows.{mayScale}
 use Rattle.values.specs.Classes.{twosComplement, isScaleFactor}
 use Rattle.catalog.specs.Frames.{Point, Head, Frame, modelFrame, groupFrame, pointFrame, endFrame, malformed, noScale, fixedScale, scaleByPoint, constantCount, countByPoint, fill}
 use Rattle.catalog.specs.Rules.{among, isSizeOf, hasScaleFactor, hasCountPoint}
-use Rattle.catalog.specs.Definitions.{Groups, noGroup, group, Content, Definition, definitionFrames, catalogFrames}
+use Rattle.catalog.specs.Definitions.{Groups, noGroup, group, Definition, definitionFrames, catalogFrames}
 
 -- No number comes twice.
 abbrev pub Distinct : List ℕ → Type 0

@@ -18,6 +18,27 @@ pub(crate) const POINT: u16 = 3;
 
 pub(crate) const END: u16 = 4;
 
+// The scale kinds of a point: none, fixed, a point's value.
+pub(crate) const NO_SCALE: u16 = 0;
+
+pub(crate) const FIXED_SCALE: u16 = 1;
+
+pub(crate) const SCALE_BY_POINT: u16 = 2;
+
+// The count kinds of a group: a constant, a point's value, as many as fill the model.
+pub(crate) const CONSTANT_COUNT: u16 = 0;
+
+pub(crate) const COUNT_BY_POINT: u16 = 1;
+
+pub(crate) const FILL: u16 = 2;
+
+// The type codes that a reference asks for, and the access that a count point has.
+pub(crate) const UINT16: u16 = 2;
+
+pub(crate) const SUNSSF: u16 = 8;
+
+pub(crate) const READ_ONLY: u16 = 0;
+
 // The named words of a point frame. Scale is the fixed scale factor or the number of the point that gives it.
 pub(crate) struct Point {
     pub(crate) number: u16,

@@ -1,10 +1,16 @@
 // The rules 3 to 10 of a frame: for each kind the tests that can hold, in the order of their numbers.
+use crate::frames::CONSTANT_COUNT;
+use crate::frames::COUNT_BY_POINT;
+use crate::frames::FILL;
+use crate::frames::FIXED_SCALE;
 use crate::frames::Frame;
 use crate::frames::GROUP;
 use crate::frames::Head;
 use crate::frames::MODEL;
+use crate::frames::NO_SCALE;
 use crate::frames::POINT;
 use crate::frames::Point;
+use crate::frames::SCALE_BY_POINT;
 use crate::frames::word_of;
 use crate::scans::Sought;
 use crate::scans::number_used;
@@ -191,14 +197,14 @@ fn is_misscaled(catalog: &[u16], state: State, point: Point) -> bool
 {
     let kind = point.scale_kind;
     match kind {
-        0 => point.scale != 0,
-        1 => {
+        NO_SCALE => point.scale != 0,
+        FIXED_SCALE => {
             if !values::scalable(point.type_code) {
                 return true;
             }
             !values::scale_factor_in_range(point.scale)
         }
-        2 => {
+        SCALE_BY_POINT => {
             if !values::scalable(point.type_code) {
                 return true;
             }
@@ -214,9 +220,9 @@ fn is_miscounted(catalog: &[u16], state: State, head: Head) -> bool
 {
     let kind = head.count_kind;
     match kind {
-        0 => head.count == 0,
-        1 => !run_has(catalog, state.firsts[0], Sought::CountPoint, head.count),
-        2 => {
+        CONSTANT_COUNT => head.count == 0,
+        COUNT_BY_POINT => !run_has(catalog, state.firsts[0], Sought::CountPoint, head.count),
+        FILL => {
             if state.depth != 1 {
                 return true;
             }

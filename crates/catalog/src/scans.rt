@@ -1,5 +1,8 @@
 // Searches over frames. Each reads every frame of its stretch once at most.
 use crate::frames::POINT;
+use crate::frames::READ_ONLY;
+use crate::frames::SUNSSF;
+use crate::frames::UINT16;
 use crate::frames::WORDS;
 use crate::frames::word_of;
 use crate::state::State;
@@ -63,12 +66,12 @@ fn is_sought(catalog: &[u16], j: usize, sought: Sought, number: u16) -> bool
     }
     let type_code = word_of(catalog, j, 2);
     match sought {
-        Sought::ScaleFactor => type_code == 8,
+        Sought::ScaleFactor => type_code == SUNSSF,
         Sought::CountPoint => {
-            if type_code != 2 {
+            if type_code != UINT16 {
                 return false;
             }
-            word_of(catalog, j, 7) == 0
+            word_of(catalog, j, 7) == READ_ONLY
         }
     }
 }

@@ -1,4 +1,5 @@
 // What the check knows between two frames.
+use crate::frames::FILL;
 use crate::frames::Frame;
 use crate::frames::Head;
 ghost use mathlib.Core.Path.{_≡_};
@@ -60,7 +61,7 @@ fn behind_group(state: State, i: usize, head: Head) -> State
         depth: state.depth + 1,
         firsts,
         has_group: false,
-        has_fill: state.has_fill || head.count_kind == 2,
+        has_fill: state.has_fill || head.count_kind == FILL,
     }
 }
 

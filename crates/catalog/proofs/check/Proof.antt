@@ -1,9 +1,8 @@
 -- `catalog::check` meets its contract: from each frame on, what is left decides as the whole does.
-use mathlib.Core.Path.{_≡_, sym, ap, _∙_}
+use mathlib.Core.Path.{sym, ap, _∙_}
 use Prim.Native.Nat.{_-_, _≤_}
 use native.Mathlib.Omega.{arith}
 use Rattle.catalog.specs.State.{start}
-use Rattle.catalog.specs.Checking.{refused, checked}
 use Rattle.catalog.specs.Answers.{faultForm, frameForm}
 use Rattle.catalog.proofs.CheckSteps as steps
 use Rattle.catalog.proofs.CheckedFrame as frame
@@ -43,8 +42,11 @@ behind-requires : tie.Need-behind-requires Inv-loop μ-loop
 behind-requires c κs =
     let l = c .before .before .before .before .before .loop in
     let here = c .before .before .before .frame-at in
-    let unbroken = sym (ap faultForm (c .enum-told .given .1)) ∙ c .before .before .fault-at .ensures in
-    ((l .inv .1 .tracks .within .few, omega arith), frame.room-here _ (l .i) (l .state) (l .inv .1) (frameForm (here .result)) (omega arith) (here .ensures) unbroken)
+    let unbroken = sym (ap faultForm (c .enum-told .given .1)) ∙ c .before .before .fault-at .ensures in (
+      (l .inv .1 .tracks .within .few, omega arith),
+      frame.room-here _ (l .i) (l .state) (l .inv .1)
+          (frameForm (here .result)) (omega arith) (here .ensures) unbroken,
+    )
 
 enum-known-fault : tie.Need-enum-known-fault Inv-loop μ-loop
 enum-known-fault c = search needs

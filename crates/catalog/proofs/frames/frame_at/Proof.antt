@@ -1,7 +1,7 @@
 -- `catalog::frames::frame_at` meets its contract: the arm of each kind is that kind's line of `frameOf`.
-use mathlib.Core.Path.{_≡_, sym, ap, _∙_}
+use mathlib.Core.Path.{sym, ap}
 use borrow.Author.Tests.{not-true, not-false}
-use Rattle.catalog.specs.Frames.{modelFrame, groupFrame, pointFrame, endFrame}
+use Rattle.catalog.specs.Frames.{modelFrame, groupFrame, pointFrame}
 use Rattle.catalog.proofs.FrameKinds as kinds
 use borrow.Author.Needs.{needs}
 use Rattle.catalog.proofs.frames.frame_at.Statement.{statement}
@@ -16,7 +16,11 @@ zero-from-requires c κs = search needs
 returns : tie.Need-returns
 returns c =
     let kind = c .before .before .before .word-of in
-    rw (kinds.kind-1 _ _ _ (kind .ensures) (c .before .before .match .keys1), ← c .before .zero-from .ensures, not-true (c .before .zero-from .result) (c .if1 .taken))
+    rw (
+      kinds.kind-1 _ _ _ (kind .ensures) (c .before .before .match .keys1),
+      ← c .before .zero-from .ensures,
+      not-true (c .before .zero-from .result) (c .if1 .taken),
+    )
 
 word-of-requires-2 : tie.Need-word-of-requires-2
 word-of-requires-2 c κs = search needs
@@ -27,7 +31,11 @@ zero-from-requires-2 c κs = search needs
 returns-2 : tie.Need-returns-2
 returns-2 c =
     let kind = c .before .before .before .word-of in
-    rw (kinds.kind-2 _ _ _ (kind .ensures) (c .before .before .match .keys2), ← c .before .zero-from2 .ensures, not-true (c .before .zero-from2 .result) (c .if2 .taken))
+    rw (
+      kinds.kind-2 _ _ _ (kind .ensures) (c .before .before .match .keys2),
+      ← c .before .zero-from2 .ensures,
+      not-true (c .before .zero-from2 .result) (c .if2 .taken),
+    )
 
 head-at-requires : tie.Need-head-at-requires
 head-at-requires c κs = search needs
@@ -41,17 +49,29 @@ zero-from-requires-3 c κs = search needs
 returns-3 : tie.Need-returns-3
 returns-3 c =
     let kind = c .before .before .before .word-of in
-    rw (kinds.kind-4 _ _ _ (kind .ensures) (c .before .before .match .keys4), ← c .before .zero-from3 .ensures, not-true (c .before .zero-from3 .result) (c .if3 .taken))
+    rw (
+      kinds.kind-4 _ _ _ (kind .ensures) (c .before .before .match .keys4),
+      ← c .before .zero-from3 .ensures,
+      not-true (c .before .zero-from3 .result) (c .if3 .taken),
+    )
 
 returns-4 : tie.Need-returns-4
 returns-4 c =
     let kind = c .before .before .before .before .word-of in
-    rw (kinds.kind-1 _ _ _ (kind .ensures) (c .before .before .before .match .keys1), ← c .before .before .zero-from .ensures, not-false (c .before .before .zero-from .result) (c .before .if1 .left)) (ap modelFrame (c .word-of2 .ensures))
+    rw (
+      kinds.kind-1 _ _ _ (kind .ensures) (c .before .before .before .match .keys1),
+      ← c .before .before .zero-from .ensures,
+      not-false (c .before .before .zero-from .result) (c .before .if1 .left),
+    ) (ap modelFrame (c .word-of2 .ensures))
 
 returns-5 : tie.Need-returns-5
 returns-5 c =
     let kind = c .before .before .before .before .word-of in
-    rw (kinds.kind-2 _ _ _ (kind .ensures) (c .before .before .before .match .keys2), ← c .before .before .zero-from2 .ensures, not-false (c .before .before .zero-from2 .result) (c .before .if2 .left)) (ap groupFrame (c .head-at .ensures))
+    rw (
+      kinds.kind-2 _ _ _ (kind .ensures) (c .before .before .before .match .keys2),
+      ← c .before .before .zero-from2 .ensures,
+      not-false (c .before .before .zero-from2 .result) (c .before .if2 .left),
+    ) (ap groupFrame (c .head-at .ensures))
 
 returns-6 : tie.Need-returns-6
 returns-6 c =
@@ -61,7 +81,11 @@ returns-6 c =
 returns-7 : tie.Need-returns-7
 returns-7 c =
     let kind = c .before .before .before .word-of in
-    rw (kinds.kind-4 _ _ _ (kind .ensures) (c .before .before .match .keys4), ← c .before .zero-from3 .ensures, not-false (c .before .zero-from3 .result) (c .if3 .left))
+    rw (
+      kinds.kind-4 _ _ _ (kind .ensures) (c .before .before .match .keys4),
+      ← c .before .zero-from3 .ensures,
+      not-false (c .before .zero-from3 .result) (c .if3 .left),
+    )
 
 returns-8 : tie.Need-returns-8
 returns-8 c =

@@ -1,5 +1,4 @@
 -- `catalog::frames::head_at` meets its contract: each word is the one that the head names.
-use mathlib.Core.Path.{_≡_}
 use borrow.Author.Needs.{needs}
 use Rattle.catalog.proofs.frames.head_at.Statement.{statement}
 use Rattle.catalog.proofs.frames.head_at.Tie as tie
@@ -18,7 +17,12 @@ word-of-requires-4 c κs = search needs
 
 returns : tie.Need-returns
 returns c =
-    simp (← c .before .before .before .word-of .ensures, ← c .before .before .word-of2 .ensures, ← c .before .word-of3 .ensures, ← c .word-of4 .ensures)
+    simp (
+      ← c .before .before .before .word-of .ensures,
+      ← c .before .before .word-of2 .ensures,
+      ← c .before .word-of3 .ensures,
+      ← c .word-of4 .ensures,
+    )
 
 pub head-at-spec : {M : Type 1} → statement M
 head-at-spec =

@@ -26,7 +26,15 @@ word-of-requires-7 c κs = search needs
 
 returns : tie.Need-returns
 returns c =
-    simp (← c .before .before .before .before .before .before .word-of .ensures, ← c .before .before .before .before .before .word-of2 .ensures, ← c .before .before .before .before .word-of3 .ensures, ← c .before .before .before .word-of4 .ensures, ← c .before .before .word-of5 .ensures, ← c .before .word-of6 .ensures, ← c .word-of7 .ensures)
+    simp (
+      ← c .before .before .before .before .before .before .word-of .ensures,
+      ← c .before .before .before .before .before .word-of2 .ensures,
+      ← c .before .before .before .before .word-of3 .ensures,
+      ← c .before .before .before .word-of4 .ensures,
+      ← c .before .before .word-of5 .ensures,
+      ← c .before .word-of6 .ensures,
+      ← c .word-of7 .ensures,
+    )
 
 pub point-at-spec : {M : Type 1} → statement M
 point-at-spec =

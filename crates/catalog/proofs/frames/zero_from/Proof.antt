@@ -1,6 +1,6 @@
 -- `catalog::frames::zero_from` meets its contract: from each word on, what is left to read decides.
 use mathlib.Core.Path.{_≡_, refl, sym, _∙_}
-use Prim.Native.Nat.{ℕ, _-_, _+_, _≤_}
+use Prim.Native.Nat.{_-_, _+_, _≤_}
 use native.Mathlib.Omega.{arith}
 use Rattle.catalog.specs.Scans.{zeroWords}
 use Rattle.catalog.proofs.WordScans as laws
@@ -23,7 +23,8 @@ word-of-requires c κs = search needs
 returns : tie.Need-returns Inv-loop μ-loop
 returns c =
     let l = c .before .before .before .loop in
-    sym (laws.zero-stops _ _ (l .k) (8 - l .k) (7 - l .k) (omega arith) _ (c .before .word-of .ensures) (c .if1 .taken)) ∙ l .inv .1
+    sym (laws.zero-stops _ _ (l .k) (8 - l .k) (7 - l .k) (omega arith) _ (c .before .word-of .ensures) (c .if1 .taken))
+    ∙ l .inv .1
 
 add-k : tie.Need-add-k Inv-loop μ-loop
 add-k c = search needs
@@ -33,8 +34,11 @@ loop-less c = search needs
 
 loop-again : tie.Need-loop-again Inv-loop μ-loop
 loop-again c =
-    let l = c .before .before .before .loop in
-    (omega arith, laws.zero-goes _ _ (l .k) (8 - l .k) (8 - (l .k + 1)) (omega arith) _ (c .before .word-of .ensures) (c .if1 .left) ∙ l .inv .1)
+    let l = c .before .before .before .loop in (
+      omega arith,
+      laws.zero-goes _ _ (l .k) (8 - l .k) (8 - (l .k + 1)) (omega arith) _ (c .before .word-of .ensures)
+          (c .if1 .left) ∙ l .inv .1,
+    )
 
 returns-2 : tie.Need-returns-2 Inv-loop μ-loop
 returns-2 c =

@@ -1,9 +1,8 @@
 -- `catalog::rules::end_fault` meets its contract: the first frame inside a group tells whether it has a point.
-use mathlib.Core.Path.{_≡_}
-use Prim.Native.Nat.{_-_}
+use Prim.Native.Nat.{_-_, _/_, _<_}
 use native.Mathlib.Omega.{arith}
 use borrow.Author.Tests.{eq-eqb, ne-eqb, not-true, not-false}
-use lib.ListN.{getD}
+use lib.ListN.{length, getD}
 use Rattle.catalog.proofs.WordScans.{run-goes, run-ends}
 use borrow.Author.Needs.{needs}
 use Rattle.catalog.proofs.rules.end_fault.Statement.{statement}
@@ -30,26 +29,51 @@ word-of-requires c κs =
 returns-2 : tie.Need-returns-2
 returns-2 c =
     let s = c .before .before .before .before .before in
+    let first = getD (s .args .t3 .firsts) (s .args .t3 .depth - 1) 0 in
     let p = s .pre .1 .passed (s .args .t3 .depth - 1) in
-    rw (ne-eqb _ _ (c .before .before .before .if1 .left), run-goes (s .args .catalog .now) (getD (s .args .t3 .firsts) (s .args .t3 .depth - 1) 0) _ (omega (arith, p, s .pre .0)) (c .before .word-of .ensures) (c .if2 .taken))
+    let h : first < length (s .args .catalog .now) / 8 = omega (arith, p, s .pre .0) in
+    rw (
+      ne-eqb _ _ (c .before .before .before .if1 .left),
+      run-goes (s .args .catalog .now) first _ h (c .before .word-of .ensures) (c .if2 .taken),
+    )
 
 returns-3 : tie.Need-returns-3
 returns-3 c =
     let s = c .before .before .before .before .before .before in
+    let first = getD (s .args .t3 .firsts) (s .args .t3 .depth - 1) 0 in
     let p = s .pre .1 .passed (s .args .t3 .depth - 1) in
-    rw (ne-eqb _ _ (c .before .before .before .before .if1 .left), run-ends (s .args .catalog .now) (getD (s .args .t3 .firsts) (s .args .t3 .depth - 1) 0) _ (omega (arith, p, s .pre .0)) (c .before .before .word-of .ensures) (c .before .if2 .left), ne-eqb _ _ (c .if3 .taken))
+    let h : first < length (s .args .catalog .now) / 8 = omega (arith, p, s .pre .0) in
+    rw (
+      ne-eqb _ _ (c .before .before .before .before .if1 .left),
+      run-ends (s .args .catalog .now) first _ h (c .before .before .word-of .ensures) (c .before .if2 .left),
+      ne-eqb _ _ (c .if3 .taken),
+    )
 
 returns-4 : tie.Need-returns-4
 returns-4 c =
     let s = c .before .before .before .before .before .before .before in
+    let first = getD (s .args .t3 .firsts) (s .args .t3 .depth - 1) 0 in
     let p = s .pre .1 .passed (s .args .t3 .depth - 1) in
-    rw (ne-eqb _ _ (c .before .before .before .before .before .if1 .left), run-ends (s .args .catalog .now) (getD (s .args .t3 .firsts) (s .args .t3 .depth - 1) 0) _ (omega (arith, p, s .pre .0)) (c .before .before .before .word-of .ensures) (c .before .before .if2 .left), eq-eqb _ _ (c .before .if3 .left), not-true (s .args .t3 .«has_group») (c .if4 .taken))
+    let h : first < length (s .args .catalog .now) / 8 = omega (arith, p, s .pre .0) in
+    rw (
+      ne-eqb _ _ (c .before .before .before .before .before .if1 .left),
+      run-ends (s .args .catalog .now) first _ h (c .before .before .before .word-of .ensures) (c .before .before .if2 .left),
+      eq-eqb _ _ (c .before .if3 .left),
+      not-true (s .args .t3 .«has_group») (c .if4 .taken),
+    )
 
 returns-5 : tie.Need-returns-5
 returns-5 c =
     let s = c .before .before .before .before .before .before .before in
+    let first = getD (s .args .t3 .firsts) (s .args .t3 .depth - 1) 0 in
     let p = s .pre .1 .passed (s .args .t3 .depth - 1) in
-    rw (ne-eqb _ _ (c .before .before .before .before .before .if1 .left), run-ends (s .args .catalog .now) (getD (s .args .t3 .firsts) (s .args .t3 .depth - 1) 0) _ (omega (arith, p, s .pre .0)) (c .before .before .before .word-of .ensures) (c .before .before .if2 .left), eq-eqb _ _ (c .before .if3 .left), not-false (s .args .t3 .«has_group») (c .if4 .left))
+    let h : first < length (s .args .catalog .now) / 8 = omega (arith, p, s .pre .0) in
+    rw (
+      ne-eqb _ _ (c .before .before .before .before .before .if1 .left),
+      run-ends (s .args .catalog .now) first _ h (c .before .before .before .word-of .ensures) (c .before .before .if2 .left),
+      eq-eqb _ _ (c .before .if3 .left),
+      not-false (s .args .t3 .«has_group») (c .if4 .left),
+    )
 
 pub end-fault-spec : {M : Type 1} → statement M
 end-fault-spec =

@@ -1,5 +1,4 @@
 -- `catalog::rules::fault_at` meets its contract: each kind of frame has its rules.
-use mathlib.Core.Path.{_≡_}
 use borrow.Author.Needs.{needs}
 use Rattle.catalog.proofs.rules.fault_at.Statement.{statement}
 use Rattle.catalog.proofs.rules.fault_at.Tie as tie

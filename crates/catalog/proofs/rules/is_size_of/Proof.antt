@@ -1,5 +1,5 @@
 -- `catalog::rules::is_size_of` meets its contract: the registers of the type are the table's.
-use mathlib.Core.Path.{_≡_, sym, ap, _∙_}
+use mathlib.Core.Path.{sym, ap, _∙_}
 use borrow.Author.Tests.{lt-leb, le-leb}
 use Rattle.values.specs.Answers.{countAnswer}
 use Rattle.catalog.specs.Rules.{isSizeOf}
@@ -16,7 +16,11 @@ enum-known-count c = search needs
 returns : tie.Need-returns
 unfolding isSizeOf
 returns c =
-    simp (isSizeOf, sym (c .before .before .before .before .register-count .ensures) ∙ ap countAnswer (c .before .before .count .given .1), lt-leb _ _ (c .if1 .taken))
+    simp (
+      isSizeOf,
+      sym (c .before .before .before .before .register-count .ensures) ∙ ap countAnswer (c .before .before .count .given .1),
+      lt-leb _ _ (c .if1 .taken),
+    )
 
 enum-told : tie.Need-enum-told
 enum-told c = search needs
@@ -24,7 +28,11 @@ enum-told c = search needs
 returns-2 : tie.Need-returns-2
 unfolding isSizeOf
 returns-2 c =
-    simp (isSizeOf, sym (c .before .before .before .before .register-count .ensures) ∙ ap countAnswer (c .before .before .count .given .1), le-leb _ _ (c .if1 .left))
+    simp (
+      isSizeOf,
+      sym (c .before .before .before .before .register-count .ensures) ∙ ap countAnswer (c .before .before .count .given .1),
+      le-leb _ _ (c .if1 .left),
+    )
 
 returns-3 : tie.Need-returns-3
 unfolding isSizeOf

@@ -19,13 +19,27 @@ number-used-requires c κs = search needs
 
 returns-4 : tie.Need-returns-4
 returns-4 c =
-    let used = rw (sub-zero (c .before .before .before .before .before .before .before .args .i)) at (c .before .number-used .ensures) in
-    rw (eq-eqb _ _ (c .before .before .before .before .if1 .left), ne-eqb _ _ (c .before .before .before .if2 .left), ne-eqb _ _ (c .before .before .if3 .left), ← used, c .if4 .taken)
+    let i = c .before .before .before .before .before .before .before .args .i in
+    let used = rw (sub-zero i) at (c .before .number-used .ensures) in
+    rw (
+      eq-eqb _ _ (c .before .before .before .before .if1 .left),
+      ne-eqb _ _ (c .before .before .before .if2 .left),
+      ne-eqb _ _ (c .before .before .if3 .left),
+      ← used,
+      c .if4 .taken,
+    )
 
 returns-5 : tie.Need-returns-5
 returns-5 c =
-    let used = rw (sub-zero (c .before .before .before .before .before .before .before .args .i)) at (c .before .number-used .ensures) in
-    rw (eq-eqb _ _ (c .before .before .before .before .if1 .left), ne-eqb _ _ (c .before .before .before .if2 .left), ne-eqb _ _ (c .before .before .if3 .left), ← used, c .if4 .left)
+    let i = c .before .before .before .before .before .before .before .args .i in
+    let used = rw (sub-zero i) at (c .before .number-used .ensures) in
+    rw (
+      eq-eqb _ _ (c .before .before .before .before .if1 .left),
+      ne-eqb _ _ (c .before .before .before .if2 .left),
+      ne-eqb _ _ (c .before .before .if3 .left),
+      ← used,
+      c .if4 .left,
+    )
 
 pub model-fault-spec : {M : Type 1} → statement M
 model-fault-spec =

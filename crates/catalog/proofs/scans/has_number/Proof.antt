@@ -1,6 +1,5 @@
 -- `catalog::scans::has_number` meets its contract.
-use borrow.Author.Tests.{lt-leb, le-leb, le-ltb}
-use native.Mathlib.Omega.{arith}
+use borrow.Author.Tests.{lt-leb, le-leb}
 use borrow.Author.Needs.{needs}
 use Rattle.catalog.proofs.scans.has_number.Statement.{statement}
 use Rattle.catalog.proofs.scans.has_number.Tie as tie
@@ -19,7 +18,12 @@ word-of-requires-2 c κs = search needs
 
 returns-3 : tie.Need-returns-3
 returns-3 c =
-    rw (← c .before .before .before .word-of .ensures, le-leb _ _ (c .before .before .if1 .left), le-leb _ _ (c .before .if2 .left), ← c .word-of2 .ensures)
+    rw (
+      ← c .before .before .before .word-of .ensures,
+      le-leb _ _ (c .before .before .if1 .left),
+      le-leb _ _ (c .before .if2 .left),
+      ← c .word-of2 .ensures,
+    )
 
 pub has-number-spec : {M : Type 1} → statement M
 has-number-spec =

@@ -1,6 +1,6 @@
 -- `catalog::scans::number_used` meets its contract: the frames still to be read decide.
 use mathlib.Core.Path.{_≡_, refl, sym, _∙_}
-use Prim.Native.Nat.{ℕ, _-_, _+_, _≤_}
+use Prim.Native.Nat.{_-_, _≤_}
 use native.Mathlib.Omega.{arith}
 use Rattle.catalog.specs.Rules.{among}
 use Rattle.catalog.specs.Scans.{numbersBefore}
@@ -11,7 +11,9 @@ use Rattle.catalog.proofs.scans.number_used.Tie as tie
 
 abbrev Inv-loop : tie.InvT-loop
 Inv-loop catalog first end low high number j₀ j =
-    (first ≤ j) × (j ≤ end) × (among number (numbersBefore catalog low high first (j - first)) ≡ among number (numbersBefore catalog low high first (end - first)))
+    (first ≤ j)
+    × (j ≤ end)
+    × (among number (numbersBefore catalog low high first (j - first)) ≡ among number (numbersBefore catalog low high first (end - first)))
 
 abbrev μ-loop : tie.MeasureT-loop
 μ-loop catalog first end low high number j₀ j = j
@@ -28,8 +30,10 @@ has-number-requires c κs = search needs
 returns : tie.Need-returns Inv-loop μ-loop
 returns c =
     let l = c .before .before .before .loop in
-    let a = c .before .before .before .before .before .args in
-    sym (laws.number-here _ _ _ (a .first) _ (l .j - a .first) (l .j - 1 - a .first) (l .j - 1) (omega arith) (omega arith) (sym (c .before .has-number .ensures) ∙ c .if1 .taken)) ∙ l .inv .2
+    let first = c .before .before .before .before .before .args .first in
+    let here = sym (c .before .has-number .ensures) ∙ c .if1 .taken in
+    let m = l .j - 1 - first in
+    sym (laws.number-here _ _ _ first _ (l .j - first) m (l .j - 1) (omega arith) (omega arith) here) ∙ l .inv .2
 
 loop-less : tie.Need-loop-less Inv-loop μ-loop
 loop-less c = search needs
@@ -37,8 +41,11 @@ loop-less c = search needs
 loop-again : tie.Need-loop-again Inv-loop μ-loop
 loop-again c =
     let l = c .before .before .before .loop in
-    let a = c .before .before .before .before .before .args in
-    (omega arith, omega arith, sym (laws.number-not-here _ _ _ (a .first) _ (l .j - a .first) (l .j - 1 - a .first) (l .j - 1) (omega arith) (omega arith) (sym (c .before .has-number .ensures) ∙ c .if1 .left)) ∙ l .inv .2)
+    let first = c .before .before .before .before .before .args .first in
+    let not-here = sym (c .before .has-number .ensures) ∙ c .if1 .left in
+    let m = l .j - 1 - first in
+    let passed = laws.number-not-here _ _ _ first _ (l .j - first) m (l .j - 1) (omega arith) (omega arith) not-here in
+    (omega arith, omega arith, sym passed ∙ l .inv .2)
 
 returns-2 : tie.Need-returns-2 Inv-loop μ-loop
 returns-2 c =

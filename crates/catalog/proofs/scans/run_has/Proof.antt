@@ -1,6 +1,6 @@
 -- `catalog::scans::run_has` meets its contract: what is left of the run decides.
 use mathlib.Core.Path.{_≡_, refl, sym, ap, _∙_}
-use Prim.Native.Nat.{ℕ, _-_, _+_, _≤_}
+use Prim.Native.Nat.{_-_}
 use native.Mathlib.Omega.{arith}
 use Rattle.catalog.specs.Rules.{hasPoint, run}
 use Rattle.catalog.specs.Scans.{isSought, framesAfter}
@@ -11,7 +11,8 @@ use Rattle.catalog.proofs.scans.run_has.Tie as tie
 
 abbrev Inv-loop : tie.InvT-loop
 Inv-loop catalog from sought number frames j₀ j =
-    hasPoint (isSought sought number) (run (framesAfter catalog j)) ≡ hasPoint (isSought sought number) (run (framesAfter catalog from))
+    let found = hasPoint (isSought sought number) in
+    found (run (framesAfter catalog j)) ≡ found (run (framesAfter catalog from))
 
 abbrev μ-loop : tie.MeasureT-loop
 μ-loop catalog from sought number frames j₀ j = frames - j
@@ -26,7 +27,8 @@ returns : tie.Need-returns Inv-loop μ-loop
 returns c =
     let l = c .before .before .before .loop in
     let a = c .before .before .before .before .before .args in
-    sym (ap (hasPoint (isSought (a .sought) (a .number))) (laws.run-ends (a .catalog .now) (l .j) _ (omega arith) (c .before .word-of .ensures) (c .if1 .taken))) ∙ l .inv
+    let ends = laws.run-ends (a .catalog .now) (l .j) _ (omega arith) (c .before .word-of .ensures) (c .if1 .taken) in
+    sym (ap (hasPoint (isSought (a .sought) (a .number))) ends) ∙ l .inv
 
 is-sought-requires : tie.Need-is-sought-requires Inv-loop μ-loop
 is-sought-requires c κs = search needs
@@ -35,7 +37,9 @@ returns-2 : tie.Need-returns-2 Inv-loop μ-loop
 returns-2 c =
     let l = c .before .before .before .before .before .loop in
     let a = c .before .before .before .before .before .before .before .args in
-    sym (rw (laws.run-goes (a .catalog .now) (l .j) _ (omega arith) (c .before .before .before .word-of .ensures) (c .before .before .if1 .left), ← c .before .is-sought .ensures, c .if2 .taken)) ∙ l .inv
+    let kind = c .before .before .before .word-of .ensures in
+    let goes = laws.run-goes (a .catalog .now) (l .j) _ (omega arith) kind (c .before .before .if1 .left) in
+    sym (rw (goes, ← c .before .is-sought .ensures, c .if2 .taken)) ∙ l .inv
 
 add-j : tie.Need-add-j Inv-loop μ-loop
 add-j c = search needs
@@ -47,7 +51,8 @@ loop-again : tie.Need-loop-again Inv-loop μ-loop
 loop-again c =
     let l = c .before .before .before .before .before .loop in
     let a = c .before .before .before .before .before .before .before .args in
-    let goes = laws.run-goes (a .catalog .now) (l .j) _ (omega arith) (c .before .before .before .word-of .ensures) (c .before .before .if1 .left) in
+    let kind = c .before .before .before .word-of .ensures in
+    let goes = laws.run-goes (a .catalog .now) (l .j) _ (omega arith) kind (c .before .before .if1 .left) in
     sym (rw (goes, ← c .before .is-sought .ensures, c .if2 .left)) ∙ l .inv
 
 returns-3 : tie.Need-returns-3 Inv-loop μ-loop

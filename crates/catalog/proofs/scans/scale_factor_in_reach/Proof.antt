@@ -1,6 +1,6 @@
 -- `catalog::scans::scale_factor_in_reach` meets its contract: the groups still to be searched decide.
 use mathlib.Core.Path.{_≡_, refl, sym, _∙_}
-use Prim.Native.Nat.{ℕ, _-_, _+_, _≤_}
+use Prim.Native.Nat.{_-_, _≤_}
 use native.Mathlib.Omega.{arith}
 use Rattle.catalog.specs.Rules.{hasScaleFactor}
 use Rattle.catalog.specs.Scans.{runsOf}
@@ -11,7 +11,8 @@ use Rattle.catalog.proofs.scans.scale_factor_in_reach.Tie as tie
 
 abbrev Inv-loop : tie.InvT-loop
 Inv-loop catalog number state k₀ k =
-    (k ≤ state .depth) × (hasScaleFactor number (runsOf catalog (state .firsts) k) ≡ hasScaleFactor number (runsOf catalog (state .firsts) (state .depth)))
+    let reach = runsOf catalog (state .firsts) in
+    (k ≤ state .depth) × (hasScaleFactor number (reach k) ≡ hasScaleFactor number (reach (state .depth)))
 
 abbrev μ-loop : tie.MeasureT-loop
 μ-loop catalog number state k₀ k = k
@@ -35,7 +36,8 @@ returns : tie.Need-returns Inv-loop μ-loop
 returns c =
     let l = c .before .before .before .before .loop in
     let a = c .before .before .before .before .before .before .args in
-    sym (laws.reach-here (a .catalog .now) (a .t2 .firsts) (a .number) (l .k) (l .k - 1) (omega arith) (sym (c .before .run-has .ensures) ∙ c .if1 .taken)) ∙ l .inv .1
+    let here = sym (c .before .run-has .ensures) ∙ c .if1 .taken in
+    sym (laws.reach-here (a .catalog .now) (a .t2 .firsts) (a .number) (l .k) (l .k - 1) (omega arith) here) ∙ l .inv .1
 
 loop-less : tie.Need-loop-less Inv-loop μ-loop
 loop-less c = search needs
@@ -44,7 +46,9 @@ loop-again : tie.Need-loop-again Inv-loop μ-loop
 loop-again c =
     let l = c .before .before .before .before .loop in
     let a = c .before .before .before .before .before .before .args in
-    (omega arith, sym (laws.reach-not-here (a .catalog .now) (a .t2 .firsts) (a .number) (l .k) (l .k - 1) (omega arith) (sym (c .before .run-has .ensures) ∙ c .if1 .left)) ∙ l .inv .1)
+    let not-here = sym (c .before .run-has .ensures) ∙ c .if1 .left in
+    let passed = laws.reach-not-here (a .catalog .now) (a .t2 .firsts) (a .number) (l .k) (l .k - 1) (omega arith) not-here in
+    (omega arith, sym passed ∙ l .inv .1)
 
 returns-2 : tie.Need-returns-2 Inv-loop μ-loop
 returns-2 c =

@@ -1,5 +1,5 @@
 -- `catalog::state::behind` meets its contract: each kind of frame has its line of `stateBehind`.
-use mathlib.Core.Path.{_≡_, ap, subst}
+use mathlib.Core.Path.{subst}
 use Rattle.catalog.specs.Answers.{frameForm}
 use Rattle.catalog.specs.Tracking.{Room}
 use borrow.Author.Needs.{needs}

@@ -1,5 +1,4 @@
 -- `catalog::state::behind_group` meets its contract.
-use borrow.Author.Tests.{eq-eqb, ne-eqb}
 use borrow.Author.Needs.{needs}
 use Rattle.catalog.proofs.state.behind_group.Statement.{statement}
 use Rattle.catalog.proofs.state.behind_group.Tie as tie
