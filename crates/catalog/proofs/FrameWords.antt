@@ -9,7 +9,7 @@ use lib.Dec.{eqb}
 use lib.ListN.{length, getD, drop, replicate, length-append, length-drop}
 use lib.Seq.{drop-append-seam, drop-cons, getD-drop}
 use Rattle.values.specs.Each.{Each}
-use Rattle.catalog.specs.Frames.{Frame, modelFrame, groupFrame, pointFrame, endFrame, malformed, allZero, unless, frameOf, word, frameAt, framesFrom, frames, wordsOf, wordsOfAll}
+use Rattle.catalog.specs.Frames.{Frame, modelFrame, groupFrame, pointFrame, endFrame, malformed, allZero, ifZero, frameOf, word, frameAt, framesFrom, frames, wordsOf, wordsOfAll}
 use Rattle.catalog.specs.Rules.{isMalformed}
 use Rattle.catalog.proofs.TestLaws.{by-test, both}
 
@@ -82,15 +82,15 @@ zeros (w ∷ ws) e =
     let h = both (eqb w 0) (allZero ws) e in
     rw (eqb-true w 0 (h .0), ← zeros ws (h .1))
 
--- The words of a frame are those that its kind names and the zeros that it does not, unless it is malformed.
+-- The words of a frame are those that its kind names and the zeros that it does not, ifZero it is malformed.
 named-words : (named unnamed : List ℕ) (f : Frame) → wordsOf f ≡ named ++ replicate (length unnamed) 0
-    → isMalformed (unless unnamed f) ≡ false → wordsOf (unless unnamed f) ≡ named ++ unnamed
+    → isMalformed (ifZero unnamed f) ≡ false → wordsOf (ifZero unnamed f) ≡ named ++ unnamed
 named-words named unnamed f e =
     by-test (λ x. isMalformed x ≡ false → wordsOf x ≡ named ++ unnamed) (allZero unnamed)
     (λ z m. e ∙ ap {B = List ℕ} (λ r. named ++ r) (sym (zeros unnamed z)))
     (λ z m. cc)
 
--- The words of the frame of eight words are these, unless it is malformed.
+-- The words of the frame of eight words are these, ifZero it is malformed.
 pub eight-back : (k a b c d e f g : ℕ) → isMalformed (frameOf k a b c d e f g) ≡ false
     → wordsOf (frameOf k a b c d e f g) ≡ k ∷ a ∷ b ∷ c ∷ d ∷ e ∷ f ∷ g ∷ []
 unfolding frameOf

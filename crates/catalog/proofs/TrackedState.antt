@@ -94,7 +94,7 @@ module _ (ws : List ℕ) (i : ℕ) (c : State) (s : check.State) (t : Tracks ws 
       rw (m, number-added ws 2 3 f (i - f) i (omega arith) (rw e h), q) (ap (λ ns. n ∷ ns) (t .numbers d))
 
   -- The bounds of a state that stays, one frame later.
-  later : Within ws (i + 1) c
+  later : Within (i + 1) c
   later =
       let w = t .within in
       let few = w .few in

@@ -1,5 +1,5 @@
--- The model definitions of a catalog as trees of groups (document 01, "The book": a model frame opens the top group, a group frame a
--- group in the innermost open one, an end frame ends that one).
+-- The model definitions of a catalog as trees of groups (document 01, "The book": a model frame opens the top group, a group
+-- frame a group in it or further in, and an end frame ends the innermost open one).
 use mathlib.Core.List.{List, [], _∷_, _++_}
 use Prim.Native.Nat.{ℕ, _+_}
 use Rattle.catalog.specs.Frames.{Point, Head, Frame, modelFrame, groupFrame, pointFrame, endFrame, malformed, frames}
@@ -49,7 +49,8 @@ catalogFrames (d ∷ ds) = definitionFrames d ++ catalogFrames ds
 
 -- ---- The definitions of frames
 
--- Of the frames from one on: what each group that is open there still holds, the innermost first, and the models that begin there.
+-- Of the frames from one on: what each group that is open there still holds, the innermost first, and the models that begin
+-- there.
 pub record Parsed : Type 0 where
   pub rest : List Content
   pub models : List Definition
@@ -66,10 +67,9 @@ abbrev pub outer : List Content → List Content
 outer [] = []
 outer (c ∷ cs) = cs
 
--- A frame in front. Reading goes from the last frame to the first: an end frame opens a group that holds nothing yet, a point or a
--- group is put in front of what its group holds already, and a group or model frame takes the group as it then is. Forwards it
--- would take a group to be entered before its size is known; a law (`proofs/ModelFrames.antt`) says that the frames of what is read are
--- the frames.
+-- A frame in front of those read. Reading goes from the last frame to the first, so that a group is whole when its group frame
+-- is met: an end frame begins a group that holds nothing, a point is put in front of what its group holds, a group or model
+-- frame takes the whole group. The frames of what was read are the frames again (`proofs/ModelFrames.antt`).
 abbrev pub inFront : Frame → Parsed → Parsed
 inFront (modelFrame id) r =
     record { rest = outer (r .rest); models = record { id = id; top = inner (r .rest) } ∷ r .models }
@@ -77,7 +77,8 @@ inFront (groupFrame h) r =
     let here = inner (r .rest) in
     let around = inner (outer (r .rest)) in
     record {
-      rest = record { points = around .points; groups = group h (here .points) (here .groups) (around .groups) } ∷ outer (outer (r .rest));
+      rest = record { points = around .points; groups = group h (here .points) (here .groups) (around .groups) }
+          ∷ outer (outer (r .rest));
       models = r .models;
     }
 inFront (pointFrame p) r =

@@ -5,7 +5,8 @@ use Prim.Native.Nat.{ℕ, zero, suc, _+_, _*_, _/_}
 use lib.Dec.{eqb}
 use lib.ListN.{length, getD}
 
--- Words 1 to 7 of a point frame. `scale` is the fixed scale factor, as a register holds it, or the number of the point that gives it.
+-- Words 1 to 7 of a point frame. `scale` is the fixed scale factor, as a register holds it, or the number of the point that
+-- gives it.
 pub record Point : Type 0 where
   pub number : ℕ
   pub typeCode : ℕ
@@ -22,7 +23,8 @@ pub record Head : Type 0 where
   pub countKind : ℕ
   pub count : ℕ
 
--- A frame by its kind. It is malformed (rule 3) where its kind is none of the four or a word that its kind does not name is not 0.
+-- A frame by its kind. It is malformed (rule 3) where its kind is none of the four, or a word that its kind does not name is
+-- not 0.
 pub data Frame : Type 0 where
   modelFrame : ℕ → Frame
   groupFrame : Head → Frame
@@ -65,21 +67,21 @@ abbrev pub allZero : List ℕ → Bool
 allZero [] = true
 allZero (w ∷ ws) = eqb w 0 && allZero ws
 
--- The frame, if the words that its kind does not name are 0.
-abbrev pub unless : List ℕ → Frame → Frame
-unless ws f = elim (allZero ws) [ true ↦ f | false ↦ malformed ]
+-- The frame, if these words, which its kind does not name, are 0.
+abbrev pub ifZero : List ℕ → Frame → Frame
+ifZero ws f = elim (allZero ws) [ true ↦ f | false ↦ malformed ]
 
 -- The frame of eight words, the first of which is its kind: 1 model, 2 group, 3 point, 4 end.
 unfoldable pub frameOf : ℕ → ℕ → ℕ → ℕ → ℕ → ℕ → ℕ → ℕ → Frame
 frameOf kind a b c d e f g =
     elim (eqb kind 1) [
-      | true ↦ unless (b ∷ c ∷ d ∷ e ∷ f ∷ g ∷ []) (modelFrame a)
+      | true ↦ ifZero (b ∷ c ∷ d ∷ e ∷ f ∷ g ∷ []) (modelFrame a)
       | false ↦ elim (eqb kind 2) [
-        | true ↦ unless (e ∷ f ∷ g ∷ []) (groupFrame (record { number = a; groupType = b; countKind = c; count = d }))
+        | true ↦ ifZero (e ∷ f ∷ g ∷ []) (groupFrame (record { number = a; groupType = b; countKind = c; count = d }))
         | false ↦ elim (eqb kind 3) [
           | true ↦ pointFrame (record { number = a; typeCode = b; size = c; scaleKind = d; scale = e; mandatory = f; access = g })
           | false ↦ elim (eqb kind 4) [
-            | true ↦ unless (a ∷ b ∷ c ∷ d ∷ e ∷ f ∷ g ∷ []) endFrame
+            | true ↦ ifZero (a ∷ b ∷ c ∷ d ∷ e ∷ f ∷ g ∷ []) endFrame
             | false ↦ malformed
           ]
         ]

@@ -1,5 +1,5 @@
--- What holds of the definitions of an accepted catalog: the rules of document 01, "Checking", said of the trees instead of frame by
--- frame. A catalog is accepted just where this holds (`proofs/AcceptedIsSound.antt`, `proofs/SoundIsAccepted.antt`).
+-- What holds of the definitions of an accepted catalog: the rules of document 01, "Checking", said of the trees instead of
+-- frame by frame. A catalog is accepted just where this holds (`proofs/AcceptedIsSound.antt`, `SoundIsAccepted.antt`).
 use mathlib.Core.Path.{_≡_}
 use mathlib.Core.Bool.{true, false}
 use mathlib.Core.List.{List, [], _∷_, _++_}

@@ -95,7 +95,7 @@ stateBehind c i malformed = c
 -- ---- What the code's state is
 
 -- Before frame i the numbers of the state stay within bounds.
-pub record Within (ws : List ℕ) (i : ℕ) (c : State) : Type 0 where
+pub record Within (i : ℕ) (c : State) : Type 0 where
   pub few : c .models ≤ i
   pub deep : c .depth ≤ 4
   pub four : length (c .firsts) ≡ 4
@@ -121,7 +121,7 @@ Opens ws firsts hasGroup ahead (l ∷ ls) =
 
 -- The code's state stands for a state of the check before frame i.
 pub record Tracks (ws : List ℕ) (i : ℕ) (c : State) (s : check.State) : Type 0 where
-  pub within : Within ws i c
+  pub within : Within i c
   pub models : c .models ≡ length (s .ids)
   pub ids : s .ids ≡ numbersBefore ws 1 1 0 i
   pub depth : c .depth ≡ length (s .levels)

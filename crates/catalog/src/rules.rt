@@ -39,7 +39,7 @@ pub(crate) enum Fault {
 // The fault of frame i.
 pub(crate) fn fault_at(catalog: &[u16], i: usize, state: State, frame: Frame) -> Fault
     requires { ⌜ i < length (now catalog) / 8 ⌝ }
-    requires { ⌜ Within (now catalog) i state ⌝ }
+    requires { ⌜ Within i state ⌝ }
     ensures { λ r. ⌜ faultForm r ≡ firstBroken (codeRules (now (catalog .entry)) i state (frameForm frame)) ⌝ }
 {
     match frame {
@@ -72,7 +72,7 @@ fn model_fault(catalog: &[u16], i: usize, state: State, id: u16) -> Fault
 
 fn group_fault(catalog: &[u16], i: usize, state: State, head: Head) -> Fault
     requires { ⌜ i < length (now catalog) / 8 ⌝ }
-    requires { ⌜ Within (now catalog) i state ⌝ }
+    requires { ⌜ Within i state ⌝ }
     ensures { λ r. ⌜ faultForm r ≡ firstBroken (groupRules (now (catalog .entry)) i state (headForm head)) ⌝ }
 {
     if state.depth == 0 {
@@ -98,7 +98,7 @@ fn group_fault(catalog: &[u16], i: usize, state: State, head: Head) -> Fault
 
 fn point_fault(catalog: &[u16], i: usize, state: State, point: Point) -> Fault
     requires { ⌜ i < length (now catalog) / 8 ⌝ }
-    requires { ⌜ Within (now catalog) i state ⌝ }
+    requires { ⌜ Within i state ⌝ }
     ensures { λ r. ⌜ faultForm r ≡ firstBroken (pointRules (now (catalog .entry)) i state (pointForm point)) ⌝ }
 {
     if state.depth == 0 {
@@ -121,7 +121,7 @@ fn point_fault(catalog: &[u16], i: usize, state: State, point: Point) -> Fault
 
 fn end_fault(catalog: &[u16], i: usize, state: State) -> Fault
     requires { ⌜ i < length (now catalog) / 8 ⌝ }
-    requires { ⌜ Within (now catalog) i state ⌝ }
+    requires { ⌜ Within i state ⌝ }
     ensures { λ r. ⌜ faultForm r ≡ firstBroken (endRules (now (catalog .entry)) state) ⌝ }
 {
     if state.depth == 0 {
@@ -152,7 +152,7 @@ fn is_after_fill(state: State) -> bool
 // Is the number of a point or group 0, or used in this model? Reads the frames of the model so far once.
 fn is_misnumbered(catalog: &[u16], i: usize, state: State, number: u16) -> bool
     requires { ⌜ i < length (now catalog) / 8 ⌝ }
-    requires { ⌜ Within (now catalog) i state ⌝ }
+    requires { ⌜ Within i state ⌝ }
     ensures { λ r. ⌜ r ≡ wrongNumber (now (catalog .entry)) i state number ⌝ }
 {
     if number == 0 {
