@@ -12,7 +12,7 @@ use lib.ListN.{length}
 use Rattle.catalog.specs.Frames.{Frame}
 use Rattle.catalog.specs.State.{State, start, next}
 use Rattle.catalog.specs.Rules.{noModel, run, fault}
-use Rattle.catalog.specs.Checking.{Verdict, accepted, refused, checkFrom, checked}
+use Rattle.catalog.specs.Checking.{Verdict, accepted, refused, checkFrom, framesChecked, checked}
 use Rattle.catalog.specs.Scans.{framesAfter}
 
 module _ (ws : List ℕ) where
@@ -26,9 +26,13 @@ module _ (ws : List ℕ) where
     unfolding checked
     too-many h = simp (checked, eq-eqb (length ws % 8) 0 w, lt-ltb 4096 (length ws / 8) h)
 
-    pub from-start : length ws / 8 ≤ 4096 → checked ws ≡ checkFrom start 0 (framesAfter ws 0)
+    pub by-frames : length ws / 8 ≤ 4096 → checked ws ≡ framesChecked ws
     unfolding checked
-    from-start h = rw (sub-zero (length ws / 8)) (simp (checked, eq-eqb (length ws % 8) 0 w, le-ltb 4096 (length ws / 8) h))
+    by-frames h = simp (checked, eq-eqb (length ws % 8) 0 w, le-ltb 4096 (length ws / 8) h)
+
+  -- All frames are those from frame 0 on.
+  pub from-first : checkFrom start 0 (framesAfter ws 0) ≡ framesChecked ws
+  from-first = rw (sub-zero (length ws / 8))
 
 module _ (s : State) (i : ℕ) (f : Frame) (fs rest : List Frame) (e : rest ≡ f ∷ fs) where
   -- A frame that breaks no rule, and one that does.

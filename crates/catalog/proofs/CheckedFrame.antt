@@ -11,7 +11,7 @@ use lib.ListN.{length}
 use Rattle.catalog.specs.Frames.{Frame, frameAt}
 use Rattle.catalog.specs.State as check
 use Rattle.catalog.specs.Rules.{run, noModel, firstBroken, fault}
-use Rattle.catalog.specs.Checking.{accepted, refused, checkFrom, checked}
+use Rattle.catalog.specs.Checking.{accepted, refused, checkFrom, framesChecked}
 use Rattle.catalog.specs.Scans.{framesAfter}
 use Rattle.catalog.specs.Tracking.{Tracks, Room, codeRules, stateBehind}
 use Rattle.catalog.specs.declared.state.State.{State}
@@ -24,7 +24,7 @@ use Rattle.catalog.proofs.TrackedState.{tracks-next, has-room}
 pub record Decides (ws : List ℕ) (i : ℕ) (c : State) : Type 0 where
   pub state : check.State
   pub tracks : Tracks ws i c state
-  pub rest : checkFrom state i (framesAfter ws i) ≡ checked ws
+  pub rest : checkFrom state i (framesAfter ws i) ≡ framesChecked ws
 
 module _ (ws : List ℕ) (i : ℕ) (c : State) (d : Decides ws i c) (f : Frame) (h : i < length ws / 8) (e : f ≡ frameAt ws i) where
   frames-here : framesAfter ws i ≡ f ∷ framesAfter ws (i + 1)
@@ -47,7 +47,7 @@ module _ (ws : List ℕ) (i : ℕ) (c : State) (d : Decides ws i c) (f : Frame) 
         rest = sym (steps.goes-on (d .state) i f (framesAfter ws (i + 1)) (framesAfter ws i) frames-here unbroken) ∙ d .rest;
       }
 
-  pub refused-here : (r : ℕ) → some r ≡ firstBroken (codeRules ws i c f) → refused r i ≡ checked ws
+  pub refused-here : (r : ℕ) → some r ≡ firstBroken (codeRules ws i c f) → refused r i ≡ framesChecked ws
   refused-here r n =
       let broken = sym (n ∙ fault-here) in
       sym (steps.is-refused (d .state) i f (framesAfter ws (i + 1)) (framesAfter ws i) frames-here r broken) ∙ d .rest
@@ -57,13 +57,13 @@ module _ (ws : List ℕ) (i : ℕ) (c : State) (d : Decides ws i c) (h : length 
   none-left : (b : Bool) → eqb (c .depth) 0 ≡ b → noModel (d .state .levels) ≡ b
   none-left b e = sym (none-open (c .depth) (d .state .levels) (d .tracks .depth)) ∙ e
 
-  pub open-at-end : i ≤ length ws / 8 → (c .depth ≡ 0 → ⊥) → refused 11 (length ws / 8) ≡ checked ws
+  pub open-at-end : i ≤ length ws / 8 → (c .depth ≡ 0 → ⊥) → refused 11 (length ws / 8) ≡ framesChecked ws
   open-at-end g n =
       let same : length ws / 8 ≡ i = omega arith in
       let open-model = none-left false (ne-eqb (c .depth) 0 n) in
       ap (refused 11) same ∙ sym (steps.still-open (d .state) i (framesAfter ws i) (frames-none ws i h) open-model) ∙ d .rest
 
-  pub closed-at-end : c .depth ≡ 0 → accepted (c .models) ≡ checked ws
+  pub closed-at-end : c .depth ≡ 0 → accepted (c .models) ≡ framesChecked ws
   closed-at-end n =
       let no-model = none-left true (eq-eqb (c .depth) 0 n) in
       ap accepted (d .tracks .models)

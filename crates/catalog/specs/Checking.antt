@@ -24,10 +24,14 @@ checkFrom s i [] = verdictAtEnd s i
 checkFrom s i (f ∷ fs) =
     elim (fault s f (run (f ∷ fs))) [ none ↦ checkFrom (next s f) (suc i) fs | some n ↦ refused n i ]
 
+-- From the first frame on.
+abbrev pub framesChecked : List ℕ → Verdict
+framesChecked ws = checkFrom start 0 (frames ws)
+
 -- 1: the length is not a multiple of 8. 2: over 4,096 frames. Then frame by frame.
 unfoldable pub checked : List ℕ → Verdict
 checked ws =
     elim (eqb (length ws % 8) 0) [
       | false ↦ refused 1 0
-      | true ↦ elim (ltb 4096 (length ws / 8)) [ true ↦ refused 2 0 | false ↦ checkFrom start 0 (frames ws) ]
+      | true ↦ elim (ltb 4096 (length ws / 8)) [ true ↦ refused 2 0 | false ↦ framesChecked ws ]
     ]

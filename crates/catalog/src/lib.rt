@@ -1,4 +1,4 @@
-// Checks a catalog of model definitions: frames of eight words.
+// Checks a catalog of model definitions (refusals 1 to 11). `check` takes any words and writes nothing.
 mod frames;
 mod rules;
 mod scans;
@@ -11,7 +11,9 @@ use rules::fault_at;
 use state::State;
 use state::behind;
 ghost use mathlib.Core.Path.{_≡_};
-ghost use Rattle.catalog.specs.Checking.{checked};
+ghost use Prim.Native.Nat.{_/_, _≤_};
+ghost use lib.ListN.{length};
+ghost use Rattle.catalog.specs.Checking.{checked, framesChecked};
 ghost use Rattle.catalog.specs.Answers.{answer};
 
 // The most frames of a catalog.
@@ -24,7 +26,7 @@ pub enum Checked {
     Refused { number: u16, place: usize },
 }
 
-// Checks a catalog frame by frame: the first fault decides.
+// Checks a catalog: 1 and 2 first, then frame by frame.
 pub fn check(catalog: &[u16]) -> Checked
     ensures { λ r. ⌜ answer r ≡ checked (now (catalog .entry)) ⌝ }
 {
@@ -34,13 +36,22 @@ pub fn check(catalog: &[u16]) -> Checked
             place: 0,
         };
     }
-    let frames = catalog.len() / WORDS;
-    if FRAMES < frames {
+    if FRAMES < catalog.len() / WORDS {
         return Checked::Refused {
             number: 2,
             place: 0,
         };
     }
+    check_frames(catalog)
+}
+
+// Checks the frames in order: the first fault decides, and at the end no model may be open. A frame costs
+// at most what its model has so far and the points of its open groups; a model frame, the frames before it.
+fn check_frames(catalog: &[u16]) -> Checked
+    requires { ⌜ length (now catalog) / 8 ≤ 4096 ⌝ }
+    ensures { λ r. ⌜ answer r ≡ framesChecked (now (catalog .entry)) ⌝ }
+{
+    let frames = catalog.len() / WORDS;
     let mut state = State {
         models: 0,
         depth: 0,

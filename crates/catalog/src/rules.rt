@@ -30,13 +30,13 @@ ghost use Rattle.catalog.specs.Scans.{runsOf};
 ghost use Rattle.catalog.specs.Answers.{frameForm, headForm, pointForm, faultForm};
 ghost use Rattle.catalog.specs.Tracking.{Within, codeRules, modelRules, groupRules, pointRules, endRules, runIn, wrongNumber};
 
-// The first rule that a frame breaks.
+// The number of the first rule that a frame breaks, if it breaks one.
 pub(crate) enum Fault {
     Nothing,
     Rule(u16),
 }
 
-// The fault of frame i.
+// The fault of frame i, which is `frame`.
 pub(crate) fn fault_at(catalog: &[u16], i: usize, state: State, frame: Frame) -> Fault
     requires { ⌜ i < length (now catalog) / 8 ⌝ }
     requires { ⌜ Within i state ⌝ }
@@ -51,6 +51,7 @@ pub(crate) fn fault_at(catalog: &[u16], i: usize, state: State, frame: Frame) ->
     }
 }
 
+// The rules of a model frame. The search for its id reads the frames before it: once for each model.
 fn model_fault(catalog: &[u16], i: usize, state: State, id: u16) -> Fault
     requires { ⌜ i < length (now catalog) / 8 ⌝ }
     ensures { λ r. ⌜ faultForm r ≡ firstBroken (modelRules (now (catalog .entry)) i state id) ⌝ }
@@ -70,6 +71,7 @@ fn model_fault(catalog: &[u16], i: usize, state: State, id: u16) -> Fault
     Fault::Nothing
 }
 
+// The rules of a group frame.
 fn group_fault(catalog: &[u16], i: usize, state: State, head: Head) -> Fault
     requires { ⌜ i < length (now catalog) / 8 ⌝ }
     requires { ⌜ Within i state ⌝ }
@@ -96,6 +98,7 @@ fn group_fault(catalog: &[u16], i: usize, state: State, head: Head) -> Fault
     Fault::Nothing
 }
 
+// The rules of a point frame.
 fn point_fault(catalog: &[u16], i: usize, state: State, point: Point) -> Fault
     requires { ⌜ i < length (now catalog) / 8 ⌝ }
     requires { ⌜ Within i state ⌝ }
@@ -119,6 +122,7 @@ fn point_fault(catalog: &[u16], i: usize, state: State, point: Point) -> Fault
     Fault::Nothing
 }
 
+// The rules of an end frame. Points come first in a group, so its first frame tells whether it has one.
 fn end_fault(catalog: &[u16], i: usize, state: State) -> Fault
     requires { ⌜ i < length (now catalog) / 8 ⌝ }
     requires { ⌜ Within i state ⌝ }
@@ -190,7 +194,7 @@ fn is_size_of(type_code: u16, size: u16) -> bool
     }
 }
 
-// Is the scale factor of a point wrong?
+// Is the scale factor of a point wrong? One given by a point reads the points of the open groups.
 fn is_misscaled(catalog: &[u16], state: State, point: Point) -> bool
     requires { ⌜ state .depth ≤ 4 ⌝ }
     ensures { λ r. ⌜ r ≡ any (scaleFaults (runsOf (now (catalog .entry)) (state .firsts) (state .depth)) (pointForm point)) ⌝ }
@@ -214,7 +218,7 @@ fn is_misscaled(catalog: &[u16], state: State, point: Point) -> bool
     }
 }
 
-// Is the count of a group wrong?
+// Is the count of a group wrong? One given by a point reads the points of the top group.
 fn is_miscounted(catalog: &[u16], state: State, head: Head) -> bool
     ensures { λ r. ⌜ r ≡ any (countFaults (runIn (now (catalog .entry)) state 0) (eqb (state .depth) 1) (headForm head)) ⌝ }
 {

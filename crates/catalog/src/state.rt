@@ -37,6 +37,7 @@ pub(crate) fn behind(state: State, i: usize, frame: Frame) -> State
     }
 }
 
+// A model begins: its top group is open.
 fn behind_model(state: State, i: usize) -> State
     requires { ⌜ (state .models ≤ i) × (i < 4096) ⌝ }
     ensures { λ r. ⌜ r ≡ behindModel state i ⌝ }
@@ -50,6 +51,7 @@ fn behind_model(state: State, i: usize) -> State
     }
 }
 
+// A group is opened in the innermost open one.
 fn behind_group(state: State, i: usize, head: Head) -> State
     requires { ⌜ (i < 4096) × (state .depth < 4) ⌝ }
     ensures { λ r. ⌜ r ≡ behindGroup state i (headForm head) ⌝ }
@@ -65,6 +67,7 @@ fn behind_group(state: State, i: usize, head: Head) -> State
     }
 }
 
+// The innermost open group ends, so that a group stands in the one around it.
 fn behind_end(state: State) -> State
     requires { ⌜ 1 ≤ state .depth ⌝ }
     ensures { λ r. ⌜ r ≡ behindEnd state ⌝ }

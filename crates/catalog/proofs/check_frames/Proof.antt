@@ -1,0 +1,93 @@
+-- `catalog::check_frames` meets its contract: from each frame on, what is left decides as the whole does.
+use mathlib.Core.Path.{sym, ap, _∙_}
+use Prim.Native.Nat.{_-_, _≤_}
+use native.Mathlib.Omega.{arith}
+use Rattle.catalog.specs.State.{start}
+use Rattle.catalog.specs.Answers.{faultForm, frameForm}
+use Rattle.catalog.proofs.CheckSteps.{from-first}
+use Rattle.catalog.proofs.CheckedFrame as frame
+use Rattle.catalog.proofs.TrackedState.{tracks-start}
+use borrow.Author.Needs.{needs}
+use Rattle.catalog.proofs.check_frames.Statement.{statement}
+use Rattle.catalog.proofs.check_frames.Tie as tie
+
+abbrev Inv-loop : tie.InvT-loop
+Inv-loop catalog frames state₀ i₀ state i = (i ≤ frames) × frame.Decides catalog i state
+
+abbrev μ-loop : tie.MeasureT-loop
+μ-loop catalog frames state₀ i₀ state i = frames - i
+
+loop-holds : tie.Need-loop-holds Inv-loop μ-loop
+loop-holds c =
+    let ws = c .before .args .catalog .now in
+    (search needs, record { state = start; tracks = tracks-start ws; rest = from-first ws })
+
+frame-at-requires : tie.Need-frame-at-requires Inv-loop μ-loop
+frame-at-requires c κs = search needs
+
+fault-at-requires : tie.Need-fault-at-requires Inv-loop μ-loop
+fault-at-requires c κs = (search needs, c .before .before .loop .inv .1 .tracks .within)
+
+enum-told : tie.Need-enum-told Inv-loop μ-loop
+enum-told c = search needs
+
+behind-requires : tie.Need-behind-requires Inv-loop μ-loop
+behind-requires c κs =
+    let l = c .before .before .before .before .before .loop in
+    let f = c .before .before .before .frame-at in
+    let unbroken = sym (ap faultForm (c .enum-told .given .1)) ∙ c .before .before .fault-at .ensures in
+    let room = frame.room-here _ (l .i) (l .state) (l .inv .1) (frameForm (f .result)) (omega arith) (f .ensures) unbroken in
+    ((l .inv .1 .tracks .within .few, omega arith), room)
+
+enum-known-fault : tie.Need-enum-known-fault Inv-loop μ-loop
+enum-known-fault c = search needs
+
+returns : tie.Need-returns Inv-loop μ-loop
+returns c =
+    let l = c .before .before .before .before .before .before .loop in
+    let f = c .before .before .before .before .frame-at in
+    let broken = sym (ap faultForm (c .before .fault .given .1)) ∙ c .before .before .before .fault-at .ensures in
+    frame.refused-here _ (l .i) (l .state) (l .inv .1) (frameForm (f .result)) (omega arith) (f .ensures) _ broken
+
+add-i : tie.Need-add-i Inv-loop μ-loop
+add-i c = search needs
+
+loop-less : tie.Need-loop-less Inv-loop μ-loop
+loop-less c = search needs
+
+loop-again : tie.Need-loop-again Inv-loop μ-loop
+loop-again c =
+    let l = c .before .before .before .before .before .before .loop in
+    let f = c .before .before .before .before .frame-at in
+    let unbroken = sym (ap faultForm (c .before .enum-told .given .1)) ∙ c .before .before .before .fault-at .ensures in
+    let on = frame.goes-on _ (l .i) (l .state) (l .inv .1) (frameForm (f .result)) (omega arith) (f .ensures) unbroken in
+    (omega arith, rw (c .behind .ensures) on)
+
+returns-2 : tie.Need-returns-2 Inv-loop μ-loop
+returns-2 c =
+    let l = c .before .before .before .loop in
+    frame.open-at-end _ (l .i) (l .state) (l .inv .1) (omega arith) (l .inv .0) (c .if1 .taken)
+
+returns-3 : tie.Need-returns-3 Inv-loop μ-loop
+returns-3 c =
+    let l = c .before .before .before .loop in
+    frame.closed-at-end _ (l .i) (l .state) (l .inv .1) (omega arith) (c .if1 .left)
+
+pub check-frames-spec : {M : Type 1} → statement M
+check-frames-spec =
+    tie.close
+    (tie.spec
+    Inv-loop
+    μ-loop
+    loop-holds
+    frame-at-requires
+    fault-at-requires
+    enum-told
+    behind-requires
+    enum-known-fault
+    returns
+    add-i
+    loop-less
+    loop-again
+    returns-2
+    returns-3)
