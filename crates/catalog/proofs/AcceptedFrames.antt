@@ -9,7 +9,7 @@ use lib.Dec.{eqb}
 use lib.ListN.{length}
 use Rattle.values.specs.Each.{Each}
 use Rattle.catalog.specs.Frames.{Frame, modelFrame, groupFrame, pointFrame, endFrame, malformed, fill}
-use Rattle.catalog.specs.State.{Level, State, opened, withPoint, withGroup, closed, next}
+use Rattle.catalog.specs.State.{OpenGroup, State, opened, withPoint, withGroup, closed, next}
 use Rattle.catalog.specs.Rules.{among, noModel, inTop, afterGroup, run, inReach, isHollow, rules}
 use Rattle.catalog.specs.Checking.{accepted, checkFrom}
 use Rattle.catalog.specs.Soundness.{SoundPoint}
@@ -18,7 +18,7 @@ use Rattle.catalog.proofs.AcceptedSteps.{accepted-step, accepted-end}
 use Rattle.catalog.proofs.SoundFrames.{sound-point, HeadUnbroken}
 
 -- With these groups open, and a fill group in the top group or not, the frames break no rule but perhaps 6, and close all groups.
-abbrev pub Standing : Bool → List Level → List Frame → Type 0
+abbrev pub Standing : Bool → List OpenGroup → List Frame → Type 0
 Standing filled ls [] = noModel ls ≡ true
 Standing filled ls (modelFrame id ∷ fs) = (noModel ls ≡ true) × Standing false (opened ∷ []) fs
 Standing filled ls (groupFrame h ∷ fs) =
@@ -44,7 +44,7 @@ Numbered n ids used (malformed ∷ fs) = Numbered n ids used fs
 
 -- Frames are accepted just where they stand in their places and are numbered.
 pub accepted-frames : (fs : List Frame) (s : State) (i n : ℕ)
-    → (checkFrom s i fs ≡ accepted n) ↔ (Standing (s .hasFill) (s .levels) fs × Numbered n (s .ids) (s .numbers) fs)
+    → (checkFrom s i fs ≡ accepted n) ↔ (Standing (s .hasFill) (s .openGroups) fs × Numbered n (s .ids) (s .numbers) fs)
 accepted-frames [] s i n = accepted-end s i n
 accepted-frames (f ∷ fs) s i n =
     Iff·trans (accepted-step s i f fs n)
@@ -52,10 +52,10 @@ accepted-frames (f ∷ fs) s i n =
   where
     by-kind : (g : Frame)
         → (Each (λ r. r .0 ≡ false) (rules s g (run (g ∷ fs)))
-        × (Standing (next s g .hasFill) (next s g .levels) fs × Numbered n (next s g .ids) (next s g .numbers) fs))
-        ↔ (Standing (s .hasFill) (s .levels) (g ∷ fs) × Numbered n (s .ids) (s .numbers) (g ∷ fs))
+        × (Standing (next s g .hasFill) (next s g .openGroups) fs × Numbered n (next s g .ids) (next s g .numbers) fs))
+        ↔ (Standing (s .hasFill) (s .openGroups) (g ∷ fs) × Numbered n (s .ids) (s .numbers) (g ∷ fs))
     by-kind (modelFrame id) = (
-      λ c. ((not-false (noModel (s .levels)) (c .0 .1 .0), c .1 .0), (c .0 .1 .1 .1 .0, c .1 .1)),
+      λ c. ((not-false (noModel (s .openGroups)) (c .0 .1 .0), c .1 .0), (c .0 .1 .1 .1 .0, c .1 .1)),
       λ w. ((refl, (ap not (w .0 .0), (refl, (w .1 .0, (refl, (refl, (refl, (refl, tt)))))))), (w .0 .1, w .1 .1)),
     )
     by-kind (groupFrame h) = (
@@ -65,7 +65,7 @@ accepted-frames (f ∷ fs) s i n =
           ((refl, (w .0 .0, (u .0, (w .1 .0, (u .1, (refl, (u .2, (refl, tt)))))))), (w .0 .2, w .1 .1)),
     )
     by-kind (pointFrame p) =
-        let sound = sound-point (inReach (s .levels) (p ∷ run fs)) p in (
+        let sound = sound-point (inReach (s .openGroups) (p ∷ run fs)) p in (
           λ c. let d = c .0 .1 .1 .1 in
               ((c .0 .1 .0, sound .0 (d .1 .0, d .1 .1 .0), c .1 .0), (d .0, c .1 .1)),
           λ w. let u = sound .1 (w .0 .1) in

@@ -45,9 +45,9 @@ accepted-step s i f fs n = go (fault s f (run (f ∷ fs)))
 
 -- The end is accepted: no model is open, and the models are as many as answered.
 pub accepted-end : (s : State) (i n : ℕ) → (checkFrom s i [] ≡ accepted n)
-    ↔ ((noModel (s .levels) ≡ true) × (length (s .ids) ≡ n))
+    ↔ ((noModel (s .openGroups) ≡ true) × (length (s .ids) ≡ n))
 unfolding checkFrom
 accepted-end s i n =
-    let P : Verdict → Type 0 = λ v. (v ≡ accepted n) ↔ ((noModel (s .levels) ≡ true) × (length (s .ids) ≡ n)) in
-    by-test P (noModel (s .levels)) (λ t. (λ e. (t, cc), λ h. let z = h .1 in cc))
+    let P : Verdict → Type 0 = λ v. (v ≡ accepted n) ↔ ((noModel (s .openGroups) ≡ true) × (length (s .ids) ≡ n)) in
+    by-test P (noModel (s .openGroups)) (λ t. (λ e. (t, cc), λ h. let z = h .1 in cc))
     (λ f. (never-refused 11 i n, λ h. clash (sym (h .0) ∙ f)))

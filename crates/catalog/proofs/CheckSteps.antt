@@ -13,7 +13,7 @@ use Rattle.catalog.specs.Frames.{Frame}
 use Rattle.catalog.specs.State.{State, start, next}
 use Rattle.catalog.specs.Rules.{noModel, run, fault}
 use Rattle.catalog.specs.Checking.{Verdict, accepted, refused, checkFrom, framesChecked, checked}
-use Rattle.catalog.specs.Scans.{framesAfter}
+use Rattle.catalog.specs.Scans.{framesOnward}
 
 module _ (ws : List ℕ) where
   -- 1 and 2 come before any frame.
@@ -31,7 +31,7 @@ module _ (ws : List ℕ) where
     by-frames h = simp (checked, eq-eqb (length ws % 8) 0 w, le-ltb 4096 (length ws / 8) h)
 
   -- All frames are those from frame 0 on.
-  pub from-first : checkFrom start 0 (framesAfter ws 0) ≡ framesChecked ws
+  pub from-first : checkFrom start 0 (framesOnward ws 0) ≡ framesChecked ws
   from-first = rw (sub-zero (length ws / 8))
 
 module _ (s : State) (i : ℕ) (f : Frame) (fs rest : List Frame) (e : rest ≡ f ∷ fs) where
@@ -49,10 +49,10 @@ module _ (s : State) (i : ℕ) (rest : List Frame) (e : rest ≡ []) where
   atEnd : Bool → Verdict
   atEnd b = elim b [ true ↦ accepted (length (s .ids)) | false ↦ refused 11 i ]
 
-  pub still-open : noModel (s .levels) ≡ false → checkFrom s i rest ≡ refused 11 i
+  pub still-open : noModel (s .openGroups) ≡ false → checkFrom s i rest ≡ refused 11 i
   unfolding checkFrom atEnd
   still-open n = rw e (ap atEnd n)
 
-  pub is-accepted : noModel (s .levels) ≡ true → checkFrom s i rest ≡ accepted (length (s .ids))
+  pub is-accepted : noModel (s .openGroups) ≡ true → checkFrom s i rest ≡ accepted (length (s .ids))
   unfolding checkFrom atEnd
   is-accepted n = rw e (ap atEnd n)

@@ -12,7 +12,7 @@ use Rattle.catalog.specs.Frames.{Frame, frameAt}
 use Rattle.catalog.specs.State as check
 use Rattle.catalog.specs.Rules.{run, noModel, firstBroken, fault}
 use Rattle.catalog.specs.Checking.{accepted, refused, checkFrom, framesChecked}
-use Rattle.catalog.specs.Scans.{framesAfter}
+use Rattle.catalog.specs.Scans.{framesOnward}
 use Rattle.catalog.specs.Tracking.{Tracks, Room, codeRules, stateBehind}
 use Rattle.catalog.specs.declared.state.State.{State}
 use Rattle.catalog.proofs.WordScans.{frames-more, frames-none}
@@ -24,19 +24,19 @@ use Rattle.catalog.proofs.TrackedState.{tracks-next, has-room}
 pub record Decides (ws : List ℕ) (i : ℕ) (c : State) : Type 0 where
   pub state : check.State
   pub tracks : Tracks ws i c state
-  pub rest : checkFrom state i (framesAfter ws i) ≡ framesChecked ws
+  pub rest : checkFrom state i (framesOnward ws i) ≡ framesChecked ws
 
 module _ (ws : List ℕ) (i : ℕ) (c : State) (d : Decides ws i c) (f : Frame) (h : i < length ws / 8) (e : f ≡ frameAt ws i) where
-  frames-here : framesAfter ws i ≡ f ∷ framesAfter ws (i + 1)
-  frames-here = frames-more ws i h ∙ ap (λ x. x ∷ framesAfter ws (i + 1)) (sym e)
+  frames-here : framesOnward ws i ≡ f ∷ framesOnward ws (i + 1)
+  frames-here = frames-more ws i h ∙ ap (λ x. x ∷ framesOnward ws (i + 1)) (sym e)
 
-  fault-here : firstBroken (codeRules ws i c f) ≡ fault (d .state) f (run (framesAfter ws i))
+  fault-here : firstBroken (codeRules ws i c f) ≡ fault (d .state) f (run (framesOnward ws i))
   fault-here =
-      same-fault ws i c (d .state) (d .tracks) f (framesAfter ws (i + 1)) frames-here
+      same-fault ws i c (d .state) (d .tracks) f (framesOnward ws (i + 1)) frames-here
       ∙ ap (λ fs. fault (d .state) f (run fs)) (sym frames-here)
 
   pub room-here : none ≡ firstBroken (codeRules ws i c f) → Room c f
-  room-here n = has-room ws i c (d .state) (d .tracks) f (run (framesAfter ws i)) (sym (n ∙ fault-here))
+  room-here n = has-room ws i c (d .state) (d .tracks) f (run (framesOnward ws i)) (sym (n ∙ fault-here))
 
   pub goes-on : none ≡ firstBroken (codeRules ws i c f) → Decides ws (i + 1) (stateBehind c i f)
   goes-on n =
@@ -44,27 +44,27 @@ module _ (ws : List ℕ) (i : ℕ) (c : State) (d : Decides ws i c) (f : Frame) 
       record {
         state = check.next (d .state) f;
         tracks = tracks-next ws i c (d .state) (d .tracks) f (sym e) frames-here unbroken;
-        rest = sym (steps.goes-on (d .state) i f (framesAfter ws (i + 1)) (framesAfter ws i) frames-here unbroken) ∙ d .rest;
+        rest = sym (steps.goes-on (d .state) i f (framesOnward ws (i + 1)) (framesOnward ws i) frames-here unbroken) ∙ d .rest;
       }
 
   pub refused-here : (r : ℕ) → some r ≡ firstBroken (codeRules ws i c f) → refused r i ≡ framesChecked ws
   refused-here r n =
       let broken = sym (n ∙ fault-here) in
-      sym (steps.is-refused (d .state) i f (framesAfter ws (i + 1)) (framesAfter ws i) frames-here r broken) ∙ d .rest
+      sym (steps.is-refused (d .state) i f (framesOnward ws (i + 1)) (framesOnward ws i) frames-here r broken) ∙ d .rest
 
 -- At the end.
 module _ (ws : List ℕ) (i : ℕ) (c : State) (d : Decides ws i c) (h : length ws / 8 ≤ i) where
-  none-left : (b : Bool) → eqb (c .depth) 0 ≡ b → noModel (d .state .levels) ≡ b
-  none-left b e = sym (none-open (c .depth) (d .state .levels) (d .tracks .depth)) ∙ e
+  none-left : (b : Bool) → eqb (c .depth) 0 ≡ b → noModel (d .state .openGroups) ≡ b
+  none-left b e = sym (none-open (c .depth) (d .state .openGroups) (d .tracks .depth)) ∙ e
 
   pub open-at-end : i ≤ length ws / 8 → (c .depth ≡ 0 → ⊥) → refused 11 (length ws / 8) ≡ framesChecked ws
   open-at-end g n =
       let same : length ws / 8 ≡ i = omega arith in
       let open-model = none-left false (ne-eqb (c .depth) 0 n) in
-      ap (refused 11) same ∙ sym (steps.still-open (d .state) i (framesAfter ws i) (frames-none ws i h) open-model) ∙ d .rest
+      ap (refused 11) same ∙ sym (steps.still-open (d .state) i (framesOnward ws i) (frames-none ws i h) open-model) ∙ d .rest
 
   pub closed-at-end : c .depth ≡ 0 → accepted (c .models) ≡ framesChecked ws
   closed-at-end n =
       let no-model = none-left true (eq-eqb (c .depth) 0 n) in
       ap accepted (d .tracks .models)
-      ∙ sym (steps.is-accepted (d .state) i (framesAfter ws i) (frames-none ws i h) no-model) ∙ d .rest
+      ∙ sym (steps.is-accepted (d .state) i (framesOnward ws i) (frames-none ws i h) no-model) ∙ d .rest

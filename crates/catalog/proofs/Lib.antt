@@ -4,19 +4,22 @@ pub mod SoundIsAccepted
 pub mod ModelFrames
 pub mod ModelIds
 pub mod References
-pub mod GroupWidths
+pub mod GroupSizes
+pub mod FillGroups
 pub mod Removal
+pub mod DefinitionsBack
+pub mod ClauseByClause
 -- Laws of the definitions
 pub mod TestLaws
 pub mod FrameWords
 pub mod TreeFrames
-pub mod DefinitionsBack
 pub mod NewNumbers
 pub mod AcceptedSteps
 pub mod AcceptedFrames
 pub mod SoundFrames
 pub mod NumberedModels
 pub mod SoundModels
+pub mod EveryGroup
 -- What the proofs of the functions cite
 pub mod FrameKinds
 pub mod WordScans

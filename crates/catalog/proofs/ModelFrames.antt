@@ -7,7 +7,7 @@ use Prim.Native.Nat.{ℕ, suc}
 use lib.Dec.{eqb}
 use Rattle.values.specs.Each.{Each}
 use Rattle.catalog.specs.Frames.{Point, Head, Frame, modelFrame, groupFrame, pointFrame, endFrame, malformed, fill, frames, wordsOfAll}
-use Rattle.catalog.specs.State.{Level, State, start, opened, withPoint, withGroup, closed, next}
+use Rattle.catalog.specs.State.{OpenGroup, State, start, opened, withPoint, withGroup, closed, next}
 use Rattle.catalog.specs.Rules.{noModel, inTop, afterGroup, run, isMalformed, rules}
 use Rattle.catalog.specs.Checking.{accepted, checkFrom, checked}
 use Rattle.catalog.specs.Definitions.{Content, Definition, catalogFrames, Parsed, inFront, parsed, definitions}
@@ -23,14 +23,14 @@ restFrames [] behind = behind
 restFrames (c ∷ cs) behind = contentFrames (c .points) (c .groups) (restFrames cs behind)
 
 -- What is left stands for the open groups one by one, and one that has a group already holds no further point of its own.
-abbrev Matches : List Level → List Content → Type 0
+abbrev Matches : List OpenGroup → List Content → Type 0
 Matches [] [] = Unit {0}
 Matches [] (c ∷ cs) = ⊥
 Matches (l ∷ ls) [] = ⊥
 Matches (l ∷ ls) (c ∷ cs) = (l .hasGroup ≡ true → c .points ≡ []) × Matches ls cs
 
 -- These frames, behind these open groups, are read: what is read is what the open groups still hold, and has these frames.
-abbrev Reads : List Level → List Frame → Parsed → Type 0
+abbrev Reads : List OpenGroup → List Frame → Parsed → Type 0
 Reads ls fs r = Matches ls (r .rest) × (restFrames (r .rest) (catalogFrames (r .models)) ≡ fs)
 
 module _ (fs : List Frame) (ds : List Definition) where
@@ -39,7 +39,7 @@ module _ (fs : List Frame) (ds : List Definition) where
   read cs = record { rest = cs; models = ds }
 
   -- A model frame is read where no model is open.
-  model-read : (id : ℕ) (ls : List Level) (cs : List Content) → noModel ls ≡ true
+  model-read : (id : ℕ) (ls : List OpenGroup) (cs : List Content) → noModel ls ≡ true
       → Reads (opened ∷ []) fs (read cs)
       → Reads ls (modelFrame id ∷ fs) (inFront (modelFrame id) (read cs))
   model-read id ls [] e h = absurd (h .0)
@@ -50,7 +50,7 @@ module _ (fs : List Frame) (ds : List Definition) where
       (tt, definition-frames d (catalogFrames ds) ∙ rw (h .1))
 
   -- A group frame is read where a model is open.
-  group-read : (g : Head) (ls : List Level) (cs : List Content) → noModel ls ≡ false
+  group-read : (g : Head) (ls : List OpenGroup) (cs : List Content) → noModel ls ≡ false
       → Reads (withGroup ls) fs (read cs)
       → Reads ls (groupFrame g ∷ fs) (inFront (groupFrame g) (read cs))
   group-read g [] cs e h = clash e
@@ -63,7 +63,7 @@ module _ (fs : List Frame) (ds : List Definition) where
       ((λ t. none-left, h .0 .1 .1), rw (none-left, group-frames g (c .points) (c .groups) (b .groups) behind, tail))
 
   -- A point frame is read where no group stands in its group yet.
-  point-read : (p : Point) (ls : List Level) (cs : List Content) → noModel ls || afterGroup ls ≡ false
+  point-read : (p : Point) (ls : List OpenGroup) (cs : List Content) → noModel ls || afterGroup ls ≡ false
       → Reads (withPoint p ls) fs (read cs)
       → Reads ls (pointFrame p ∷ fs) (inFront (pointFrame p) (read cs))
   point-read p [] cs e h = clash e
@@ -71,19 +71,19 @@ module _ (fs : List Frame) (ds : List Definition) where
   point-read p (l ∷ ls) (c ∷ cs) e h = ((λ t. cc, h .0 .1), rw (h .1))
 
   -- An end frame is read where a group is open.
-  end-read : (ls : List Level) (cs : List Content) → noModel ls ≡ false
+  end-read : (ls : List OpenGroup) (cs : List Content) → noModel ls ≡ false
       → Reads (closed ls) fs (read cs)
       → Reads ls (endFrame ∷ fs) (inFront endFrame (read cs))
   end-read [] cs e h = clash e
   end-read (l ∷ ls) cs e h = ((λ t. refl, h .0), rw (h .1))
 
 -- With no model open nothing is left.
-none-open : (ls : List Level) → noModel ls ≡ true → Matches ls []
+none-open : (ls : List OpenGroup) → noModel ls ≡ true → Matches ls []
 none-open [] e = tt
 none-open (l ∷ ls) e = clash (sym e)
 
 -- Frames that stand in their places are read.
-reads : (fs : List Frame) (filled : Bool) (ls : List Level) → Standing filled ls fs → Reads ls fs (parsed fs)
+reads : (fs : List Frame) (filled : Bool) (ls : List OpenGroup) → Standing filled ls fs → Reads ls fs (parsed fs)
 unfolding parsed
 reads [] filled ls s = (none-open ls s, refl)
 reads (modelFrame id ∷ fs) filled ls s =

@@ -1,13 +1,13 @@
--- The models of an accepted catalog have distinct ids, and where the words are registers these are 1 to 65534.
-use mathlib.Core.Path.{_≡_, sym, subst}
+-- The ids of models: distinct in an accepted catalog, 1 to 65534 where its words are registers, and always those of the model frames.
+use mathlib.Core.Path.{_≡_, refl, sym, ap, subst}
 use mathlib.Core.List.{List, [], _∷_, _++_}
 use Prim.Native.Nat.{ℕ, _≤_, _<_}
 use native.Mathlib.Omega.{arith}
 use Rattle.values.specs.Each.{Each}
 use Rattle.values.specs.Registers.{AreRegisters}
-use Rattle.catalog.specs.Frames.{Frame, wordsOf, wordsOfAll}
+use Rattle.catalog.specs.Frames.{Frame, modelFrame, groupFrame, pointFrame, endFrame, malformed, frames, wordsOf, wordsOfAll}
 use Rattle.catalog.specs.Checking.{accepted, checked}
-use Rattle.catalog.specs.Definitions.{Definition, definitionFrames, catalogFrames, definitions}
+use Rattle.catalog.specs.Definitions.{Definition, definitionFrames, catalogFrames, parsed, definitions, modelIds}
 use Rattle.catalog.specs.Soundness.{Distinct, SoundDefinition, idsOf}
 use Rattle.catalog.proofs.ModelFrames.{words-of-definitions}
 use Rattle.catalog.proofs.AcceptedIsSound.{accepted-is-sound}
@@ -43,3 +43,17 @@ pub ids-in-range : (ws : List ℕ) (n : ℕ) → AreRegisters ws → checked ws 
     → Each (λ id. (1 ≤ id) × (id ≤ 65534)) (idsOf (definitions ws))
 ids-in-range ws n a e =
     in-range (definitions ws) (accepted-is-sound ws n e .0 .each) (subst AreRegisters (sym (words-of-definitions ws n e)) a)
+
+-- The definitions of any frames have the ids of the model frames, in order.
+ids-read : (fs : List Frame) → idsOf (parsed fs .models) ≡ modelIds fs
+unfolding parsed
+ids-read [] = refl
+ids-read (modelFrame id ∷ fs) = ap {B = List ℕ} (λ ids. id ∷ ids) (ids-read fs)
+ids-read (groupFrame h ∷ fs) = ids-read fs
+ids-read (pointFrame p ∷ fs) = ids-read fs
+ids-read (endFrame ∷ fs) = ids-read fs
+ids-read (malformed ∷ fs) = ids-read fs
+
+-- So have those of any catalog, accepted or not: an id is known just where a model frame has it.
+pub ids-of-model-frames : (ws : List ℕ) → idsOf (definitions ws) ≡ modelIds (frames ws)
+ids-of-model-frames ws = ids-read (frames ws)

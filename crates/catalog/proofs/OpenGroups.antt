@@ -8,32 +8,32 @@ use native.Mathlib.Omega.{arith}
 use lib.ListN.{length, getD, set}
 use lib.Seq.{getD-set-other}
 use Rattle.catalog.specs.Frames.{Point}
-use Rattle.catalog.specs.State.{Level}
+use Rattle.catalog.specs.State.{OpenGroup}
 use Rattle.catalog.specs.Rules.{run, pointsOf, inReach, topPoints}
-use Rattle.catalog.specs.Scans.{framesAfter, runsOf}
+use Rattle.catalog.specs.Scans.{framesOnward, runsOf}
 use Rattle.catalog.specs.Tracking.{Opens}
 
 module _ (ws firsts : List ℕ) where
   -- All runs together are the points of the groups.
-  runs-points : (b : Bool) (ls : List Level) → Opens ws firsts b [] ls → runsOf ws firsts (length ls) ≡ pointsOf ls
+  runs-points : (b : Bool) (ls : List OpenGroup) → Opens ws firsts b [] ls → runsOf ws firsts (length ls) ≡ pointsOf ls
   unfolding runsOf
   runs-points b [] o = refl
   runs-points b (l ∷ ls) o = rw (o .0, append-nil (l .points), runs-points true ls (o .2))
 
   -- With what is ahead of the innermost group, they are the points that a scale reference may name.
-  pub runs-in-reach : (b : Bool) (ahead : List Point) (l : Level) (ls : List Level) → Opens ws firsts b ahead (l ∷ ls)
+  pub runs-in-reach : (b : Bool) (ahead : List Point) (l : OpenGroup) (ls : List OpenGroup) → Opens ws firsts b ahead (l ∷ ls)
       → runsOf ws firsts (suc (length ls)) ≡ inReach (l ∷ ls) ahead
   unfolding runsOf
   runs-in-reach b ahead l ls o = rw (o .0, runs-points true ls (o .2))
 
   -- The outermost run is the points of the top group.
-  pub run-of-top : (b : Bool) (l : Level) (ls : List Level) → Opens ws firsts b [] (l ∷ ls)
-      → run (framesAfter ws (getD firsts 0 0)) ≡ topPoints (l ∷ ls)
+  pub run-of-top : (b : Bool) (l : OpenGroup) (ls : List OpenGroup) → Opens ws firsts b [] (l ∷ ls)
+      → run (framesOnward ws (getD firsts 0 0)) ≡ topPoints (l ∷ ls)
   run-of-top b l [] o = o .0 ∙ append-nil (l .points)
   run-of-top b l (k ∷ ls) o = run-of-top true k ls (o .2)
 
   -- The first frame inside a further group is stored behind those of the groups around it.
-  pub one-deeper : (b : Bool) (ahead : List Point) (ls : List Level) (d v : ℕ) → length ls ≤ d → Opens ws firsts b ahead ls
+  pub one-deeper : (b : Bool) (ahead : List Point) (ls : List OpenGroup) (d v : ℕ) → length ls ≤ d → Opens ws firsts b ahead ls
       → Opens ws (set firsts d v) b ahead ls
   one-deeper b ahead [] d v h o = tt
   one-deeper b ahead (l ∷ ls) d v h o =

@@ -1,20 +1,18 @@
 -- A reference to a scale factor or a count in a sound model resolves to a point.
 use mathlib.Core.Path.{_≡_, refl, sym}
 use mathlib.Core.Bool.{Bool, true, false, _&&_, _||_}
-use mathlib.Core.List.{List, [], _∷_}
+use mathlib.Core.List.{List, [], _∷_, _++_}
 use Prim.Native.Nat.{ℕ}
 use borrow.Author.Tests.{eqb-true}
 use lib.Dec.{eqb}
-use Rattle.catalog.specs.Frames.{Point, Head, scaleByPoint, countByPoint, uint16, sunssf, readOnly}
+use Rattle.values.specs.Each.{Each}
+use Rattle.catalog.specs.Frames.{Point, Head, uint16, sunssf, readOnly}
 use Rattle.catalog.specs.Rules.{hasPoint, isScaleFactorPoint, hasScaleFactor, isCountPoint, hasCountPoint}
-use Rattle.catalog.specs.Definitions.{Groups}
-use Rattle.catalog.specs.Soundness.{SoundPoint, SoundHead}
+use Rattle.catalog.specs.Checking.{accepted, checked}
+use Rattle.catalog.specs.Definitions.{Groups, Definition, definitions}
+use Rattle.catalog.specs.Soundness.{SoundPoint, EachLowerGroup, In, first, later, ScaleResolves, CountResolves}
 use Rattle.catalog.proofs.TestLaws.{clash, both}
-
--- A point is one of these.
-pub data In (p : Point) : List Point → Type 0 where
-  first : {ps : List Point} → In p (p ∷ ps)
-  later : {q : Point} {ps : List Point} → In p ps → In p (q ∷ ps)
+use Rattle.catalog.proofs.EveryGroup.{of-lower-groups, of-models}
 
 -- Where one of these points is such a point, there is one.
 point-found : (such : Point → Bool) (ps : List Point) → hasPoint such ps ≡ true → (p : Point) × (In p ps) × (such p ≡ true)
@@ -33,8 +31,8 @@ pub scale-factor-found : (n : ℕ) (ps : List Point) → hasScaleFactor n ps ≡
 scale-factor-found n ps e =
     let r = point-found (isScaleFactorPoint n) ps e in
     let p = r .0 in
-    let t = both (eqb (p .number) n) (eqb (p .typeCode) 8) (r .2) in
-    (p, r .1, eqb-true (p .number) n (t .0), eqb-true (p .typeCode) 8 (t .1))
+    let t = both (eqb (p .number) n) (eqb (p .typeCode) sunssf) (r .2) in
+    (p, r .1, eqb-true (p .number) n (t .0), eqb-true (p .typeCode) sunssf (t .1))
 
 -- A count reference names a uint16 point with access R.
 pub count-point-found : (n : ℕ) (ps : List Point) → hasCountPoint n ps ≡ true
@@ -42,17 +40,33 @@ pub count-point-found : (n : ℕ) (ps : List Point) → hasCountPoint n ps ≡ t
 count-point-found n ps e =
     let r = point-found (isCountPoint n) ps e in
     let p = r .0 in
-    let t = both (eqb (p .number) n && eqb (p .typeCode) 2) (eqb (p .access) 0) (r .2) in
-    let u = both (eqb (p .number) n) (eqb (p .typeCode) 2) (t .0) in
-    (p, r .1, eqb-true (p .number) n (u .0), eqb-true (p .typeCode) 2 (u .1), eqb-true (p .access) 0 (t .1))
+    let t = both (eqb (p .number) n && eqb (p .typeCode) uint16) (eqb (p .access) readOnly) (r .2) in
+    let u = both (eqb (p .number) n) (eqb (p .typeCode) uint16) (t .0) in
+    (p, r .1, eqb-true (p .number) n (u .0), eqb-true (p .typeCode) uint16 (u .1), eqb-true (p .access) readOnly (t .1))
 
--- A sound point whose scale factor is a point's value: that point is in its reach.
-pub scale-resolved : (reach : List Point) (p : Point) → SoundPoint reach p → p .scaleKind ≡ scaleByPoint
-    → (q : Point) × (In q reach) × (q .number ≡ p .scale) × (q .typeCode ≡ sunssf)
-scale-resolved reach p s k = scale-factor-found (p .scale) reach (s .resolved k)
+-- The scale references of sound points resolve among the points in their reach.
+points-resolve : (reach ps : List Point) → Each (SoundPoint reach) ps → Each (ScaleResolves reach) ps
+points-resolve reach [] s = tt
+points-resolve reach (p ∷ ps) s = (λ k. scale-factor-found (p .scale) reach (s .0 .resolved k), points-resolve reach ps (s .1))
 
--- A sound group whose count is a point's value: that point is in the top group.
-pub count-resolved : (top : List Point) (level : ℕ) (h : Head) (behind : Groups) → SoundHead top level h behind
-    → h .countKind ≡ countByPoint
-    → (q : Point) × (In q top) × (q .number ≡ h .count) × (q .typeCode ≡ uint16) × (q .access ≡ readOnly)
-count-resolved top level h behind s k = count-point-found (h .count) top (s .counted k)
+module _ (ws : List ℕ) (n : ℕ) (e : checked ws ≡ accepted n) where
+  -- In an accepted catalog every scale reference names a sunssf point of the same or an enclosing group.
+  pub scales-resolve : Each (λ d. Each (ScaleResolves (d .top .points)) (d .top .points)
+      × EachLowerGroup (λ enclosing level h ps behind. Each (ScaleResolves (ps ++ enclosing)) ps) d) (definitions ws)
+  scales-resolve =
+      let P : List Point → ℕ → Head → List Point → Groups → Type 0 =
+      λ enclosing level h ps behind. Each (ScaleResolves (ps ++ enclosing)) ps in
+      of-models (λ d. Each (ScaleResolves (d .top .points)) (d .top .points) × EachLowerGroup P d) (λ d s. (
+        points-resolve (d .top .points) (d .top .points) (s .points),
+        of-lower-groups P (d .top .points) (λ enclosing level h ps behind head some each. points-resolve (ps ++ enclosing) ps each)
+            d refl s,
+      )) ws n e
+
+  -- Every count reference names a uint16 point with access R of the top group.
+  pub counts-resolve : Each (λ d. EachLowerGroup (λ enclosing level h ps behind. CountResolves (d .top .points) h) d) (definitions ws)
+  counts-resolve =
+      let P : Definition → List Point → ℕ → Head → List Point → Groups → Type 0 =
+      λ d enclosing level h ps behind. CountResolves (d .top .points) h in
+      of-models (λ d. EachLowerGroup (P d) d)
+      (λ d s. of-lower-groups (P d) (d .top .points)
+      (λ enclosing level h ps behind head some each k. count-point-found (h .count) (d .top .points) (head .counted k)) d refl s) ws n e

@@ -1,22 +1,22 @@
 -- Taking models out of an accepted catalog leaves an accepted catalog, with the definitions of the models kept.
-use mathlib.Core.Path.{_≡_}
+use mathlib.Core.Path.{_≡_, refl, sym, ap, _∙_}
 use mathlib.Core.Bool.{Bool, true, false}
-use mathlib.Core.List.{List, [], _∷_}
+use mathlib.Core.List.{List, [], _∷_, _++_, append-assoc}
 use Prim.Native.Nat.{ℕ, _≤_}
 use native.Mathlib.Omega.{arith}
 use lib.Dec.{eqb}
 use lib.ListN.{length, length-append}
 use Rattle.values.specs.Each.{Each}
-use Rattle.catalog.specs.Frames.{frames}
+use Rattle.catalog.specs.Frames.{Frame, frames, wordsOfAll}
 use Rattle.catalog.specs.Rules.{among}
 use Rattle.catalog.specs.Checking.{accepted, checked}
 use Rattle.catalog.specs.Definitions.{Definition, definitionFrames, catalogFrames, definitions}
 use Rattle.catalog.specs.Soundness.{Distinct, SoundDefinition, SoundCatalog, idsOf}
-use Rattle.catalog.specs.Removal.{kept, without}
-use Rattle.catalog.proofs.TestLaws.{neither}
+use Rattle.catalog.specs.Removal.{keptBy, keeping, allButOne}
+use Rattle.catalog.proofs.TestLaws.{clash, neither}
 use Rattle.catalog.proofs.FrameWords.{frames-words}
 use Rattle.catalog.proofs.DefinitionsBack.{definitions-back}
-use Rattle.catalog.proofs.ModelFrames.{words-of-definitions}
+use Rattle.catalog.proofs.ModelFrames.{frames-of-definitions, words-of-definitions}
 use Rattle.catalog.proofs.AcceptedIsSound.{accepted-is-sound}
 use Rattle.catalog.proofs.SoundIsAccepted.{sound-is-accepted}
 
@@ -32,7 +32,7 @@ all-left : (ds : List Definition) → Left ds ds
 all-left ds = record { fewer = omega arith; unused = λ n e. e; distinct = λ d. d; each = λ s. s }
 
 -- What a choice keeps is left.
-left-kept : (choice : List Bool) (ds : List Definition) → Left ds (kept choice ds)
+left-kept : (choice : List Bool) (ds : List Definition) → Left ds (keptBy choice ds)
 left-kept [] ds = all-left ds
 left-kept (c ∷ choice) [] = all-left []
 left-kept (true ∷ choice) (d ∷ ds) =
@@ -40,7 +40,7 @@ left-kept (true ∷ choice) (d ∷ ds) =
     let fewer = l .fewer in
     let own = length-append (definitionFrames d) in
     record {
-      fewer = rw (own (catalogFrames ds), own (catalogFrames (kept choice ds))) (omega arith);
+      fewer = rw (own (catalogFrames ds), own (catalogFrames (keptBy choice ds))) (omega arith);
       unused = λ n e. let h = neither (eqb n (d .id)) (among n (idsOf ds)) .0 e in rw (h .0) (l .unused n (h .1));
       distinct = λ e. (l .unused (d .id) (e .0), l .distinct (e .1));
       each = λ s. (s .0, l .each (s .1));
@@ -56,7 +56,7 @@ left-kept (false ∷ choice) (d ∷ ds) =
     }
 
 -- What is kept of a sound catalog is a sound catalog.
-pub sound-kept : (choice : List Bool) (ds : List Definition) → SoundCatalog ds → SoundCatalog (kept choice ds)
+pub sound-kept : (choice : List Bool) (ds : List Definition) → SoundCatalog ds → SoundCatalog (keptBy choice ds)
 sound-kept choice ds s =
     let l = left-kept choice ds in
     let few = s .few in
@@ -64,20 +64,54 @@ sound-kept choice ds s =
     record { few = omega arith; distinct = l .distinct (s .distinct); each = l .each (s .each) }
 
 -- The frames left are those of the models kept.
-pub frames-left : (choice : List Bool) (ws : List ℕ) → frames (without choice ws) ≡ catalogFrames (kept choice (definitions ws))
-unfolding without
-frames-left choice ws = frames-words (catalogFrames (kept choice (definitions ws)))
+pub frames-left : (choice : List Bool) (ws : List ℕ) → frames (keeping choice ws) ≡ catalogFrames (keptBy choice (definitions ws))
+unfolding keeping
+frames-left choice ws = frames-words (catalogFrames (keptBy choice (definitions ws)))
 
 -- Without some of its models an accepted catalog is accepted, and its definitions are those kept.
 pub removal : (choice : List Bool) (ws : List ℕ) (n : ℕ) → checked ws ≡ accepted n
-    → (checked (without choice ws) ≡ accepted (length (kept choice (definitions ws))))
-    × (definitions (without choice ws) ≡ kept choice (definitions ws))
-unfolding without
+    → (checked (keeping choice ws) ≡ accepted (length (keptBy choice (definitions ws))))
+    × (definitions (keeping choice ws) ≡ keptBy choice (definitions ws))
+unfolding keeping
 removal choice ws n e =
-    let ds = kept choice (definitions ws) in
+    let ds = keptBy choice (definitions ws) in
     (sound-is-accepted ds (sound-kept choice (definitions ws) (accepted-is-sound ws n e .0)), definitions-back ds)
 
+-- A choice that keeps every model keeps all.
+all-kept : {A : Type 0} (choice : List Bool) (xs : List A) → Each (λ c. c ≡ true) choice → keptBy choice xs ≡ xs
+all-kept [] xs e = refl
+all-kept (c ∷ choice) [] e = refl
+all-kept {A = A} (true ∷ choice) (x ∷ xs) e = ap {B = List A} (λ ys. x ∷ ys) (all-kept choice xs (e .1))
+all-kept (false ∷ choice) (x ∷ xs) e = clash (sym (e .0))
+
 -- With none of its models taken out an accepted catalog is as it was.
-pub nothing-removed : (ws : List ℕ) (n : ℕ) → checked ws ≡ accepted n → without [] ws ≡ ws
-unfolding without
-nothing-removed ws n e = words-of-definitions ws n e
+pub nothing-removed : (choice : List Bool) (ws : List ℕ) (n : ℕ) → Each (λ c. c ≡ true) choice → checked ws ≡ accepted n
+    → keeping choice ws ≡ ws
+unfolding keeping
+nothing-removed choice ws n all e =
+    ap (λ ds. wordsOfAll (catalogFrames ds)) (all-kept choice (definitions ws) all) ∙ words-of-definitions ws n e
+
+-- One model is taken out of its place.
+one-left-out : {A : Type 0} (before : List A) (x : A) (after : List A)
+    → keptBy (allButOne (length before)) (before ++ (x ∷ after)) ≡ before ++ after
+one-left-out [] x after = refl
+one-left-out {A = A} (b ∷ before) x after = ap {B = List A} (λ ys. b ∷ ys) (one-left-out before x after)
+
+-- The frames of models and of those behind them.
+frames-joined : (cs ds : List Definition) → catalogFrames (cs ++ ds) ≡ catalogFrames cs ++ catalogFrames ds
+frames-joined [] ds = refl
+frames-joined (c ∷ cs) ds =
+    ap {B = List Frame} (λ fs. definitionFrames c ++ fs) (frames-joined cs ds)
+    ∙ sym (append-assoc (definitionFrames c) (catalogFrames cs) (catalogFrames ds))
+
+-- Taking one model out takes out its frames, from its model frame to the end of its top group, and no other.
+pub one-removed : (ws : List ℕ) (n : ℕ) (before : List Definition) (d : Definition) (after : List Definition)
+    → checked ws ≡ accepted n → definitions ws ≡ before ++ (d ∷ after)
+    → (frames ws ≡ catalogFrames before ++ (definitionFrames d ++ catalogFrames after))
+    × (frames (keeping (allButOne (length before)) ws) ≡ catalogFrames before ++ catalogFrames after)
+one-removed ws n before d after e q =
+    let choice = allButOne (length before) in
+    let left = ap (keptBy choice) q ∙ one-left-out before d after in (
+      sym (frames-of-definitions ws n e) ∙ ap catalogFrames q ∙ frames-joined before (d ∷ after),
+      frames-left choice ws ∙ ap catalogFrames left ∙ frames-joined before after,
+    )

@@ -11,15 +11,15 @@ use lib.ListN.{length}
 use Rattle.values.specs.Rows.{mayScale}
 use Rattle.values.specs.Classes.{twosComplement, isScaleFactor}
 use Rattle.catalog.specs.Frames.{Point, Head, pointFrame, noScale, fixedScale, scaleByPoint, constantCount, countByPoint, fill}
-use Rattle.catalog.specs.State.{Level}
-use Rattle.catalog.specs.Rules.{inTop, topPoints, hasScaleFactor, hasCountPoint, isSizeOf, any, isMistyped, scaleFaults, countFaults}
+use Rattle.catalog.specs.State.{OpenGroup}
+use Rattle.catalog.specs.Rules.{inTop, topPoints, hasScaleFactor, hasCountPoint, isSizeOf, oneHolds, isMistyped, scaleFaults, countFaults}
 use Rattle.catalog.specs.Definitions.{Groups, noGroup}
 use Rattle.catalog.specs.Soundness.{SoundPoint, SoundHead}
 use Rattle.catalog.proofs.TestLaws.{clash, neither, excludes, clause, none-of}
 
 -- A point frame breaks neither rule 7 nor rule 8 just where the point is sound.
 pub sound-point : (reach : List Point) (p : Point)
-    → ((isMistyped (pointFrame p) ≡ false) × (any (scaleFaults reach p) ≡ false)) ↔ SoundPoint reach p
+    → ((isMistyped (pointFrame p) ≡ false) × (oneHolds (scaleFaults reach p) ≡ false)) ↔ SoundPoint reach p
 sound-point reach p =
     let k = p .scaleKind in
     let size = isSizeOf (p .typeCode) (p .size) in
@@ -56,18 +56,18 @@ sound-point reach p =
     )
 
 -- The top group is the innermost open one just where a group in it is at level 2.
-in-top : (ls : List Level) → (inTop ls ≡ true) ↔ (suc (length ls) ≡ 2)
+in-top : (ls : List OpenGroup) → (inTop ls ≡ true) ↔ (suc (length ls) ≡ 2)
 in-top [] = (λ e. clash (sym e), λ e. absurd (omega arith))
 in-top (l ∷ []) = (λ e. refl, λ e. refl)
 in-top (l ∷ k ∷ ls) = (λ e. clash (sym e), λ e. absurd (omega arith))
 
 -- A group frame in these open groups breaks none of the rules 5, 7 and 9.
-abbrev pub HeadUnbroken : List Level → Head → Type 0
+abbrev pub HeadUnbroken : List OpenGroup → Head → Type 0
 HeadUnbroken ls h =
-    (leb 4 (length ls) ≡ false) × (ltb 1 (h .groupType) ≡ false) × (any (countFaults (topPoints ls) (inTop ls) h) ≡ false)
+    (leb 4 (length ls) ≡ false) × (ltb 1 (h .groupType) ≡ false) × (oneHolds (countFaults (topPoints ls) (inTop ls) h) ≡ false)
 
 -- It breaks none of them, and no group stands behind a fill group in the top group, just where the group's head is sound.
-pub sound-head : (ls : List Level) (h : Head) (behind : Groups)
+pub sound-head : (ls : List OpenGroup) (h : Head) (behind : Groups)
     → (HeadUnbroken ls h × (h .countKind ≡ fill → inTop ls ≡ true → behind ≡ noGroup))
     ↔ SoundHead (topPoints ls) (suc (length ls)) h behind
 sound-head ls h behind =
@@ -80,7 +80,7 @@ sound-head ls h behind =
       λ e.
           let c = faults .0 (e .0 .2) in
           record {
-            deep = leb-false 4 (length ls) (e .0 .0);
+            levelInRange = leb-false 4 (length ls) (e .0 .0);
             typeFlag = ltb-false 1 (h .groupType) (e .0 .1);
             countKnown = ltb-false 2 k (c .0);
             constant = λ q. let some = eqb-false (h .count) 0 (constant .0 (c .1 .0) (eq-eqb k constantCount q)) in omega arith;
@@ -98,7 +98,7 @@ sound-head ls h behind =
           let top = direct .1 (λ q. in-top ls .1 (s .filling q .0)) in
           let zero = uncounted .1 (λ q. eq-eqb (h .count) 0 (s .filling q .2)) in
           let unbroken = faults .1 (known, (positive, (counted .1 (s .counted), (top, (zero, tt))))) in (
-            (lt-leb 4 (length ls) (s .deep), le-ltb 1 (h .groupType) (s .typeFlag), unbroken),
+            (lt-leb 4 (length ls) (s .levelInRange), le-ltb 1 (h .groupType) (s .typeFlag), unbroken),
             λ q t. s .filling q .1,
           ),
     )

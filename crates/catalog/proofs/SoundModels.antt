@@ -10,7 +10,7 @@ use lib.Dec.{eqb}
 use lib.ListN.{length}
 use Rattle.values.specs.Each.{Each}
 use Rattle.catalog.specs.Frames.{Point, Head, Frame, endFrame, fill}
-use Rattle.catalog.specs.State.{Level, opened}
+use Rattle.catalog.specs.State.{OpenGroup, opened}
 use Rattle.catalog.specs.Rules.{noModel, inTop, run, pointsOf, topPoints, noPoint}
 use Rattle.catalog.specs.Definitions.{Groups, noGroup, group, Definition, pointFrames, groupFrames, definitionFrames, catalogFrames}
 use Rattle.catalog.specs.Soundness.{SoundPoint, SoundGroups, SoundDefinition, numbersOf, idsOf}
@@ -24,11 +24,11 @@ use Rattle.catalog.proofs.NumberedModels.{usedAfter, numbered-model}
 -- ---- Points
 
 -- An open group with these points of its own and no group yet.
-abbrev withPoints : List Point → Level
+abbrev withPoints : List Point → OpenGroup
 withPoints ps = record { points = ps; hasGroup = false }
 
 -- The points `ps` of a group, behind the points `before`, stand in their places just where they are sound.
-points-stand : (ps before : List Point) (filled : Bool) (ls : List Level) (fs : List Frame) → run fs ≡ []
+points-stand : (ps before : List Point) (filled : Bool) (ls : List OpenGroup) (fs : List Frame) → run fs ≡ []
     → Standing filled (withPoints before ∷ ls) (pointFrames ps ++ fs)
     ↔ (Each (SoundPoint ((before ++ ps) ++ pointsOf ls)) ps × Standing filled (withPoints (before ++ ps) ∷ ls) fs)
 points-stand [] before filled ls fs e = rw (append-nil before) (λ w. (tt, w), λ w. w .1)
@@ -53,7 +53,7 @@ still-any noGroup = refl
 still-any (group h ps inside behind) = refl
 
 -- An open group behind these groups in it.
-abbrev past : Groups → Level → Level
+abbrev past : Groups → OpenGroup → OpenGroup
 past g l = record { points = l .points; hasGroup = anyGroup g (l .hasGroup) }
 
 -- Is there a fill group among these and the groups in them, or was there one before?
@@ -89,14 +89,14 @@ fills-last top enclosing n h ps inside behind s = go (eqb (h .countKind) fill) r
 -- Groups in the innermost open group stand in their places just where they are sound and, in the top group, behind no fill group.
 abbrev GroupsStand : Groups → Type 0
 GroupsStand g =
-    (filled : Bool) (l : Level) (ls : List Level) (fs : List Frame)
+    (filled : Bool) (l : OpenGroup) (ls : List OpenGroup) (fs : List Frame)
     → Standing filled (l ∷ ls) (groupFrames g ++ fs)
     ↔ (SoundGroups (topPoints (l ∷ ls)) (pointsOf (l ∷ ls)) (suc (suc (length ls))) g
     × (inTop (l ∷ ls) && filled ≡ true → g ≡ noGroup)
     × Standing (anyFill g filled) (past g l ∷ ls) fs)
 
 -- What a group holds, to its end frame, stands in its place just where its points and groups are sound and it is not hollow.
-content-stands : (ps : List Point) (g : Groups) → GroupsStand g → (filled : Bool) (ls : List Level) (fs : List Frame)
+content-stands : (ps : List Point) (g : Groups) → GroupsStand g → (filled : Bool) (ls : List OpenGroup) (fs : List Frame)
     → noModel ls && filled ≡ false
     → Standing filled (opened ∷ ls) (contentFrames ps g fs)
     ↔ (Each (SoundPoint (ps ++ pointsOf ls)) ps
@@ -125,7 +125,7 @@ never-none true h ps inside behind f = let z = f refl in cc
 never-none false h ps inside behind f = refl
 
 -- Frames may be written otherwise.
-rewritten : {B : Type 0} (filled : Bool) (ls : List Level) {fs gs : List Frame} → fs ≡ gs
+rewritten : {B : Type 0} (filled : Bool) (ls : List OpenGroup) {fs gs : List Frame} → fs ≡ gs
     → Standing filled ls gs ↔ B → Standing filled ls fs ↔ B
 rewritten {B = B} filled ls e h = subst (λ x. Standing filled ls x ↔ B) (sym e) h
 
@@ -207,7 +207,7 @@ models-sound (d ∷ ds) n filled ids used =
             notMarker = m .0 .1;
             numbered = m .1;
             distinct = m .2;
-            held = s .2;
+            notEmpty = s .2;
             points = s .0;
             groups = s .1;
           } in
@@ -216,7 +216,7 @@ models-sound (d ∷ ds) n filled ids used =
           let s = w .0 .0 in
           let count = w .2 in
           let r = rest .1 (w .0 .1, w .1 .1, omega arith) in (
-            stands .1 (s .points, s .groups, s .held, r .0),
+            stands .1 (s .points, s .groups, s .notEmpty, r .0),
             numbers .1 ((s .notZero, s .notMarker, w .1 .0), s .numbered, s .distinct, r .1),
           ),
     )

@@ -9,7 +9,7 @@ use native.Mathlib.Omega.{arith}
 use borrow.Author.Tests.{eqb-true, eq-eqb, not-false}
 use lib.Dec.{eqb}
 use Rattle.values.specs.Each.{Each}
-use Rattle.catalog.specs.Rules.{any, firstBroken}
+use Rattle.catalog.specs.Rules.{oneHolds, firstBroken}
 
 -- No test comes out both ways.
 pub clash : {A : Type 0} → true ≡ false → A
@@ -43,9 +43,9 @@ clause n case asked =
     (λ e q. not-false asked (x .0 e (eq-eqb n case q)), λ h. x .1 (λ t. ap not (h (eqb-true n case t))))
 
 -- None of these tests holds.
-pub none-of : (ts : List Bool) → (any ts ≡ false) ↔ Each (λ t. t ≡ false) ts
+pub none-of : (ts : List Bool) → (oneHolds ts ≡ false) ↔ Each (λ t. t ≡ false) ts
 none-of [] = (λ e. tt, λ e. refl)
-none-of (t ∷ ts) = Iff·trans (neither t (any ts)) (Iff·and Iff·rfl (none-of ts))
+none-of (t ∷ ts) = Iff·trans (neither t (oneHolds ts)) (Iff·and Iff·rfl (none-of ts))
 
 -- None of these rules is broken.
 pub none-broken : (rs : List (Bool × ℕ)) → (firstBroken rs ≡ none) ↔ Each (λ r. r .0 ≡ false) rs

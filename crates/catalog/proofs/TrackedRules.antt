@@ -10,19 +10,19 @@ use lib.Dec.{eqb}
 use lib.ListN.{length}
 use Rattle.catalog.specs.Frames.{Point, Head, Frame, modelFrame, groupFrame, pointFrame, endFrame, malformed}
 use Rattle.catalog.specs.State as check
-use Rattle.catalog.specs.State.{Level}
-use Rattle.catalog.specs.Rules.{run, inReach, among, any, noModel, isMisplaced, isMisnumbered, isMisscaled, isMistyped, scaleFaults, firstBroken, fault}
-use Rattle.catalog.specs.Scans.{framesAfter, runsOf}
+use Rattle.catalog.specs.State.{OpenGroup}
+use Rattle.catalog.specs.Rules.{run, inReach, among, oneHolds, noModel, isMisplaced, isMisnumbered, isMisscaled, isMistyped, scaleFaults, firstBroken, fault}
+use Rattle.catalog.specs.Scans.{framesOnward, runsOf}
 use Rattle.catalog.specs.Tracking.{Tracks, Opens, aheadOf, codeRules, wrongNumber}
 use Rattle.catalog.specs.declared.state.State.{State}
 use Rattle.catalog.proofs.OpenGroups.{runs-in-reach, run-of-top}
 
 -- The depth tells whether a model is open, and whether the top group is the innermost open one.
-pub none-open : (d : ℕ) (ls : List Level) → d ≡ length ls → eqb d 0 ≡ noModel ls
+pub none-open : (d : ℕ) (ls : List OpenGroup) → d ≡ length ls → eqb d 0 ≡ noModel ls
 none-open d [] e = eq-eqb d 0 e
 none-open d (l ∷ ls) e = ne-eqb d 0 (λ z. omega (arith, e, z))
 
-one-open : (d : ℕ) (ls : List Level) → d ≡ suc (length ls) → eqb d 1 ≡ noModel ls
+one-open : (d : ℕ) (ls : List OpenGroup) → d ≡ suc (length ls) → eqb d 1 ≡ noModel ls
 one-open d [] e = eq-eqb d 1 e
 one-open d (l ∷ ls) e = ne-eqb d 1 (λ z. omega (arith, e, z))
 
@@ -35,26 +35,26 @@ same-tests a b d e m x y p q r =
     ap (λ t. pointFault t d m x) p ∙ ap (λ t. pointFault b t m x) q ∙ ap (λ t. pointFault b e m t) r
 
 -- Nothing is ahead of the innermost group at a frame that is no point's.
-pub nothing-ahead : (ws : List ℕ) (i : ℕ) (b : Bool) → run (framesAfter ws i) ≡ [] → aheadOf ws i b ≡ []
+pub nothing-ahead : (ws : List ℕ) (i : ℕ) (b : Bool) → run (framesOnward ws i) ≡ [] → aheadOf ws i b ≡ []
 nothing-ahead ws i true e = refl
 nothing-ahead ws i false e = e
 
 module _ (ws : List ℕ) (i : ℕ) (c : State) (s : check.State) (t : Tracks ws i c s) where
   -- The open groups, at a frame that is no point's.
-  pub no-point-ahead : run (framesAfter ws i) ≡ [] → Opens ws (c .firsts) (c .«has_group») [] (s .levels)
+  pub no-point-ahead : run (framesOnward ws i) ≡ [] → Opens ws (c .firsts) (c .«has_group») [] (s .openGroups)
   no-point-ahead e =
       let none-left = nothing-ahead ws i (c .«has_group») e in
-      subst (λ (ps : List Point). Opens ws (c .firsts) (c .«has_group») ps (s .levels)) none-left (t .levels)
+      subst (λ (ps : List Point). Opens ws (c .firsts) (c .«has_group») ps (s .openGroups)) none-left (t .openGroups)
 
   -- The same fault, kind by kind.
   model-fault : (id : ℕ) (ahead : List Point) → firstBroken (codeRules ws i c (modelFrame id)) ≡ fault s (modelFrame id) ahead
-  model-fault id ahead = rw (none-open (c .depth) (s .levels) (t .depth), t .ids)
+  model-fault id ahead = rw (none-open (c .depth) (s .openGroups) (t .depth), t .ids)
 
-  group-fault : (h : Head) (ahead : List Point) → run (framesAfter ws i) ≡ []
+  group-fault : (h : Head) (ahead : List Point) → run (framesOnward ws i) ≡ []
       → firstBroken (codeRules ws i c (groupFrame h)) ≡ fault s (groupFrame h) ahead
-  group-fault h ahead e = go (s .levels) refl
+  group-fault h ahead e = go (s .openGroups) refl
     where
-      go : (ls : List Level) → s .levels ≡ ls → firstBroken (codeRules ws i c (groupFrame h)) ≡ fault s (groupFrame h) ahead
+      go : (ls : List OpenGroup) → s .openGroups ≡ ls → firstBroken (codeRules ws i c (groupFrame h)) ≡ fault s (groupFrame h) ahead
       go [] q = rw (none-open (c .depth) [] (t .depth ∙ ap length q), q)
       go (l ∷ ls) q =
           let d : c .depth ≡ suc (length ls) = t .depth ∙ ap length q in
@@ -69,43 +69,43 @@ module _ (ws : List ℕ) (i : ℕ) (c : State) (s : check.State) (t : Tracks ws 
             q,
           )
 
-  point-fault : (p : Point) → firstBroken (codeRules ws i c (pointFrame p)) ≡ fault s (pointFrame p) (run (framesAfter ws i))
-  point-fault p = go (s .levels) refl
+  point-fault : (p : Point) → firstBroken (codeRules ws i c (pointFrame p)) ≡ fault s (pointFrame p) (run (framesOnward ws i))
+  point-fault p = go (s .openGroups) refl
     where
-      opens : (l : Level) (ls : List Level) → s .levels ≡ l ∷ ls → (b : Bool) → c .«has_group» ≡ b
+      opens : (l : OpenGroup) (ls : List OpenGroup) → s .openGroups ≡ l ∷ ls → (b : Bool) → c .«has_group» ≡ b
           → Opens ws (c .firsts) b (aheadOf ws i b) (l ∷ ls)
       opens l ls q b g =
           subst (λ x. Opens ws (c .firsts) x (aheadOf ws i x) (l ∷ ls)) g
-          (subst (Opens ws (c .firsts) (c .«has_group») (aheadOf ws i (c .«has_group»))) q (t .levels))
+          (subst (Opens ws (c .firsts) (c .«has_group») (aheadOf ws i (c .«has_group»))) q (t .openGroups))
 
-      inside : (l : Level) (ls : List Level) → s .levels ≡ l ∷ ls → (b : Bool) → c .«has_group» ≡ b
-          → firstBroken (codeRules ws i c (pointFrame p)) ≡ fault s (pointFrame p) (run (framesAfter ws i))
+      inside : (l : OpenGroup) (ls : List OpenGroup) → s .openGroups ≡ l ∷ ls → (b : Bool) → c .«has_group» ≡ b
+          → firstBroken (codeRules ws i c (pointFrame p)) ≡ fault s (pointFrame p) (run (framesOnward ws i))
       inside l ls q true g =
           rw (none-open (c .depth) (l ∷ ls) (t .depth ∙ ap length q), g, q, opens l ls q true g .1)
       inside l ls q false g =
           let d : c .depth ≡ suc (length ls) = t .depth ∙ ap length q in
           let o = opens l ls q false g in
-          let r : runsOf ws (c .firsts) (c .depth) ≡ inReach (l ∷ ls) (run (framesAfter ws i)) =
-          ap (runsOf ws (c .firsts)) d ∙ runs-in-reach ws (c .firsts) false (run (framesAfter ws i)) l ls o in
+          let r : runsOf ws (c .firsts) (c .depth) ≡ inReach (l ∷ ls) (run (framesOnward ws i)) =
+          ap (runsOf ws (c .firsts)) d ∙ runs-in-reach ws (c .firsts) false (run (framesOnward ws i)) l ls o in
           let placed : eqb (c .depth) 0 || c .«has_group» ≡ isMisplaced s (pointFrame p) =
           rw (none-open (c .depth) (l ∷ ls) d, g, q, o .1) in
           let numbered : wrongNumber ws i c (p .number) ≡ isMisnumbered s (pointFrame p) =
           ap (λ ns. eqb (p .number) 0 || among (p .number) ns) (sym (t .numbers (omega (arith, d)))) in
-          let scaled : any (scaleFaults (runsOf ws (c .firsts) (c .depth)) p)
-          ≡ isMisscaled s (run (framesAfter ws i)) (pointFrame p) =
-          ap (λ reach. any (scaleFaults reach p)) (r ∙ sym (ap (λ ls. inReach ls (run (framesAfter ws i))) q)) in
+          let scaled : oneHolds (scaleFaults (runsOf ws (c .firsts) (c .depth)) p)
+          ≡ isMisscaled s (run (framesOnward ws i)) (pointFrame p) =
+          ap (λ reach. oneHolds (scaleFaults reach p)) (r ∙ sym (ap (λ ls. inReach ls (run (framesOnward ws i))) q)) in
           same-tests _ _ _ _ (isMistyped (pointFrame p)) _ _ placed numbered scaled
 
-      go : (ls : List Level) → s .levels ≡ ls
-          → firstBroken (codeRules ws i c (pointFrame p)) ≡ fault s (pointFrame p) (run (framesAfter ws i))
+      go : (ls : List OpenGroup) → s .openGroups ≡ ls
+          → firstBroken (codeRules ws i c (pointFrame p)) ≡ fault s (pointFrame p) (run (framesOnward ws i))
       go [] q = rw (none-open (c .depth) [] (t .depth ∙ ap length q), q)
       go (l ∷ ls) q = inside l ls q (c .«has_group») refl
 
-  end-fault : (ahead : List Point) → run (framesAfter ws i) ≡ []
+  end-fault : (ahead : List Point) → run (framesOnward ws i) ≡ []
       → firstBroken (codeRules ws i c endFrame) ≡ fault s endFrame ahead
-  end-fault ahead e = go (s .levels) refl
+  end-fault ahead e = go (s .openGroups) refl
     where
-      go : (ls : List Level) → s .levels ≡ ls → firstBroken (codeRules ws i c endFrame) ≡ fault s endFrame ahead
+      go : (ls : List OpenGroup) → s .openGroups ≡ ls → firstBroken (codeRules ws i c endFrame) ≡ fault s endFrame ahead
       go [] q = rw (none-open (c .depth) [] (t .depth ∙ ap length q), q)
       go (l ∷ ls) q =
           let d : c .depth ≡ suc (length ls) = t .depth ∙ ap length q in
@@ -114,7 +114,7 @@ module _ (ws : List ℕ) (i : ℕ) (c : State) (s : check.State) (t : Tracks ws 
           rw (none-open (c .depth) (l ∷ ls) d, one-open (c .depth) ls d, m, o .0, append-nil (l .points), ← o .1, q)
 
   -- The same fault, whatever the frame.
-  pub same-fault : (f : Frame) (fs : List Frame) → framesAfter ws i ≡ f ∷ fs
+  pub same-fault : (f : Frame) (fs : List Frame) → framesOnward ws i ≡ f ∷ fs
       → firstBroken (codeRules ws i c f) ≡ fault s f (run (f ∷ fs))
   same-fault (modelFrame id) fs e = model-fault id []
   same-fault (groupFrame h) fs e = group-fault h [] (ap run e)

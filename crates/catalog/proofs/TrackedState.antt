@@ -13,9 +13,9 @@ use lib.ListN.{length, getD, set, length-set}
 use lib.Seq.{getD-set-same, getD-set-other}
 use Rattle.catalog.specs.Frames.{Point, Head, Frame, modelFrame, groupFrame, pointFrame, endFrame, malformed, word, frameAt, wordsOf, fill}
 use Rattle.catalog.specs.State as check
-use Rattle.catalog.specs.State.{Level, start, next}
+use Rattle.catalog.specs.State.{OpenGroup, start, next}
 use Rattle.catalog.specs.Rules.{run, noModel, inTop, afterGroup, isMalformed, rules, fault}
-use Rattle.catalog.specs.Scans.{framesAfter, numbersBefore}
+use Rattle.catalog.specs.Scans.{framesOnward, numbersBefore}
 use Rattle.catalog.specs.Tracking.{Within, Tracks, Opens, Room, aheadOf, stateBehind}
 use Rattle.catalog.specs.declared.state.State.{State}
 use Rattle.catalog.proofs.FrameWords.{eight-back}
@@ -35,7 +35,7 @@ tracks-start ws =
       depth = refl;
       numbers = λ h. absurd (omega (arith, h));
       hasFill = refl;
-      levels = tt;
+      openGroups = tt;
     }
   where
     all-zero : (k : ℕ) → getD (0 ∷ 0 ∷ 0 ∷ 0 ∷ []) k 0 ≤ 0
@@ -125,7 +125,7 @@ module _ (ws : List ℕ) (i : ℕ) (c : State) (s : check.State) (t : Tracks ws 
         depth = refl;
         numbers = λ h. rw none-yet;
         hasFill = refl;
-        levels = (refl, refl, tt);
+        openGroups = (refl, refl, tt);
       }
     where
       here : (k : ℕ) → getD ((i + 1) ∷ 0 ∷ 0 ∷ 0 ∷ []) k 0 ≤ i + 1
@@ -135,11 +135,11 @@ module _ (ws : List ℕ) (i : ℕ) (c : State) (s : check.State) (t : Tracks ws 
       here (suc (suc (suc zero))) = omega arith
       here (suc (suc (suc (suc k)))) = omega arith
 
-  module _ (l : Level) (ls : List Level) (q : s .levels ≡ l ∷ ls) where
+  module _ (l : OpenGroup) (ls : List OpenGroup) (q : s .openGroups ≡ l ∷ ls) where
     depth-here : c .depth ≡ suc (length ls)
     depth-here = t .depth ∙ ap length q
 
-    behind-group : (h : Head) → frameAt ws i ≡ groupFrame h → run (framesAfter ws i) ≡ [] → c .depth < 4
+    behind-group : (h : Head) → frameAt ws i ≡ groupFrame h → run (framesOnward ws i) ≡ [] → c .depth < 4
         → Tracks ws (i + 1) (stateBehind c i (groupFrame h)) (next s (groupFrame h))
     behind-group h e r deep =
         let w = words-here ws i (groupFrame h) e refl in
@@ -149,7 +149,7 @@ module _ (ws : List ℕ) (i : ℕ) (c : State) (s : check.State) (t : Tracks ws 
         let f = getD-set-other (c .firsts) (c .depth) 0 (i + 1) 0 (λ z. omega (arith, z, d)) in
         let four = t .within .four in
         let stored = getD-set-same (c .firsts) (c .depth) (i + 1) 0 (omega arith) in
-        let around : List Level = record { points = l .points; hasGroup = true } ∷ ls in
+        let around : List OpenGroup = record { points = l .points; hasGroup = true } ∷ ls in
         let kept = one-deeper ws (c .firsts) true [] around (c .depth) (i + 1) (omega arith) (o .0, refl, o .2) in
         let passed : (k : ℕ) → getD (c .firsts) k 0 ≤ i + 1 = λ k. let p = t .within .passed k in omega arith in
         let kind = sym (ap (λ l. getD l 0 0) w) in
@@ -166,19 +166,19 @@ module _ (ws : List ℕ) (i : ℕ) (c : State) (s : check.State) (t : Tracks ws 
           depth = rw q (omega arith);
           numbers = λ h. rw f (number-more ws i c s t (omega arith) 2 _ kind refl number);
           hasFill = ap (λ b. b || eqb (h .countKind) fill) (t .hasFill);
-          levels = rw q (rw (← d, stored), refl, kept);
+          openGroups = rw q (rw (← d, stored), refl, kept);
         }
 
-    behind-point : (p : Point) → frameAt ws i ≡ pointFrame p → run (framesAfter ws i) ≡ p ∷ run (framesAfter ws (i + 1))
+    behind-point : (p : Point) → frameAt ws i ≡ pointFrame p → run (framesOnward ws i) ≡ p ∷ run (framesOnward ws (i + 1))
         → l .hasGroup ≡ false → Tracks ws (i + 1) (stateBehind c i (pointFrame p)) (next s (pointFrame p))
     behind-point p e r g =
         let w = words-here ws i (pointFrame p) e refl in
         let d = depth-here in
-        let o = subst (Opens ws (c .firsts) (c .«has_group») (aheadOf ws i (c .«has_group»))) q (t .levels) in
+        let o = subst (Opens ws (c .firsts) (c .«has_group») (aheadOf ws i (c .«has_group»))) q (t .openGroups) in
         let b : c .«has_group» ≡ false = sym (o .1) ∙ g in
-        let same : aheadOf ws i (c .«has_group») ≡ p ∷ run (framesAfter ws (i + 1)) = ap (aheadOf ws i) b ∙ r in
-        let on : aheadOf ws (i + 1) (c .«has_group») ≡ run (framesAfter ws (i + 1)) = ap (aheadOf ws (i + 1)) b in
-        let behind = append-assoc (l .points) (p ∷ []) (run (framesAfter ws (i + 1))) in
+        let same : aheadOf ws i (c .«has_group») ≡ p ∷ run (framesOnward ws (i + 1)) = ap (aheadOf ws i) b ∙ r in
+        let on : aheadOf ws (i + 1) (c .«has_group») ≡ run (framesOnward ws (i + 1)) = ap (aheadOf ws (i + 1)) b in
+        let behind = append-assoc (l .points) (p ∷ []) (run (framesOnward ws (i + 1))) in
         let moved = ap (λ ps. (l .points ++ (p ∷ [])) ++ ps) on ∙ behind in
         record {
           within = later ws i c s t;
@@ -187,10 +187,10 @@ module _ (ws : List ℕ) (i : ℕ) (c : State) (s : check.State) (t : Tracks ws 
           depth = rw q d;
           numbers = λ h. number-more ws i c s t h 3 _ (sym (ap (λ l. getD l 0 0) w)) refl (sym (ap (λ l. getD l 1 0) w));
           hasFill = t .hasFill;
-          levels = rw q (o .0 ∙ ap (λ ps. l .points ++ ps) same ∙ sym moved, o .1, o .2);
+          openGroups = rw q (o .0 ∙ ap (λ ps. l .points ++ ps) same ∙ sym moved, o .1, o .2);
         }
 
-    behind-end : frameAt ws i ≡ endFrame → run (framesAfter ws i) ≡ []
+    behind-end : frameAt ws i ≡ endFrame → run (framesOnward ws i) ≡ []
         → Tracks ws (i + 1) (stateBehind c i endFrame) (next s endFrame)
     behind-end e r =
         let w = words-here ws i endFrame e refl in
@@ -211,17 +211,17 @@ module _ (ws : List ℕ) (i : ℕ) (c : State) (s : check.State) (t : Tracks ws 
           depth = rw q (omega arith);
           numbers = λ h. numbers-kept ws i c s t (omega arith) 4 kind refl;
           hasFill = t .hasFill;
-          levels = rw q (o .2);
+          openGroups = rw q (o .2);
         }
 
 -- ---- Whatever the frame
 
 module _ (ws : List ℕ) (i : ℕ) (c : State) (s : check.State) (t : Tracks ws i c s) where
   -- With an open model there is an innermost open group.
-  inside : (X : Type 0) → noModel (s .levels) ≡ false → ((l : Level) (ls : List Level) → s .levels ≡ l ∷ ls → X) → X
-  inside X h k = go (s .levels) refl h
+  inside : (X : Type 0) → noModel (s .openGroups) ≡ false → ((l : OpenGroup) (ls : List OpenGroup) → s .openGroups ≡ l ∷ ls → X) → X
+  inside X h k = go (s .openGroups) refl h
     where
-      go : (ls : List Level) → s .levels ≡ ls → noModel ls ≡ false → X
+      go : (ls : List OpenGroup) → s .openGroups ≡ ls → noModel ls ≡ false → X
       go [] q g = clash g
       go (l ∷ ls) q g = k l ls q
 
@@ -231,7 +231,7 @@ module _ (ws : List ℕ) (i : ℕ) (c : State) (s : check.State) (t : Tracks ws 
   has-room (groupFrame h) ahead n =
       let x = none-broken (rules s (groupFrame h) ahead) .0 n .1 .1 .0 in
       let d = t .depth in
-      let y = leb-false 4 (length (s .levels)) x in
+      let y = leb-false 4 (length (s .openGroups)) x in
       omega arith
   has-room (pointFrame p) ahead n = tt
   has-room endFrame ahead n =
@@ -240,22 +240,22 @@ module _ (ws : List ℕ) (i : ℕ) (c : State) (s : check.State) (t : Tracks ws 
   has-room malformed ahead n = tt
 
   -- Behind a frame that breaks no rule.
-  pub tracks-next : (f : Frame) → frameAt ws i ≡ f → framesAfter ws i ≡ f ∷ framesAfter ws (i + 1)
-      → fault s f (run (framesAfter ws i)) ≡ none → Tracks ws (i + 1) (stateBehind c i f) (next s f)
+  pub tracks-next : (f : Frame) → frameAt ws i ≡ f → framesOnward ws i ≡ f ∷ framesOnward ws (i + 1)
+      → fault s f (run (framesOnward ws i)) ≡ none → Tracks ws (i + 1) (stateBehind c i f) (next s f)
   tracks-next (modelFrame id) e a n = behind-model ws i c s t id e
   tracks-next (groupFrame h) e a n =
-      let b = none-broken (rules s (groupFrame h) (run (framesAfter ws i))) .0 n in
-      let x = neither (noModel (s .levels)) (inTop (s .levels) && s .hasFill) .0 (b .1 .0) .0 in
-      let room = has-room (groupFrame h) (run (framesAfter ws i)) n in
+      let b = none-broken (rules s (groupFrame h) (run (framesOnward ws i))) .0 n in
+      let x = neither (noModel (s .openGroups)) (inTop (s .openGroups) && s .hasFill) .0 (b .1 .0) .0 in
+      let room = has-room (groupFrame h) (run (framesOnward ws i)) n in
       inside (Tracks ws (i + 1) (stateBehind c i (groupFrame h)) (next s (groupFrame h))) x
       (λ l ls q. behind-group ws i c s t l ls q h e (ap run a) room)
   tracks-next (pointFrame p) e a n =
-      let b = none-broken (rules s (pointFrame p) (run (framesAfter ws i))) .0 n in
-      let x = neither (noModel (s .levels)) (afterGroup (s .levels)) .0 (b .1 .0) in
+      let b = none-broken (rules s (pointFrame p) (run (framesOnward ws i))) .0 n in
+      let x = neither (noModel (s .openGroups)) (afterGroup (s .openGroups)) .0 (b .1 .0) in
       inside (Tracks ws (i + 1) (stateBehind c i (pointFrame p)) (next s (pointFrame p))) (x .0)
       (λ l ls q. behind-point ws i c s t l ls q p e (ap run a) (sym (ap afterGroup q) ∙ x .1))
   tracks-next endFrame e a n =
-      let b = none-broken (rules s endFrame (run (framesAfter ws i))) .0 n in
+      let b = none-broken (rules s endFrame (run (framesOnward ws i))) .0 n in
       inside (Tracks ws (i + 1) (stateBehind c i endFrame) (next s endFrame)) (b .1 .0)
       (λ l ls q. behind-end ws i c s t l ls q e (ap run a))
   tracks-next malformed e a n = let z : _≡_ {A = ℕ} 0 1 = cc in absurd (omega arith)

@@ -10,7 +10,7 @@ use lib.Dec.{eqb, leb}
 use lib.ListN.{length, getD}
 use Rattle.catalog.specs.Frames.{Point, word, frameAt, framesFrom}
 use Rattle.catalog.specs.Rules.{among, run, hasPoint, hasScaleFactor, isScaleFactorPoint}
-use Rattle.catalog.specs.Scans.{zeroWords, isNumber, numbersBefore, isSought, framesAfter, pointWords, runsOf}
+use Rattle.catalog.specs.Scans.{zeroWords, hasNumber, numbersBefore, isSought, framesOnward, pointWords, runsOf}
 use Rattle.catalog.specs.declared.scans.Sought.{Sought}
 use Rattle.catalog.proofs.FrameKinds as kinds
 
@@ -36,7 +36,7 @@ module _ (ws : List ℕ) (low high first number : ℕ) where
   -- One frame more.
   number-more : (m : ℕ)
       → among number (numbersBefore ws low high first (suc m))
-      ≡ isNumber ws low high number (first + m) || among number (numbersBefore ws low high first m)
+      ≡ hasNumber ws low high number (first + m) || among number (numbersBefore ws low high first m)
   unfolding numbersBefore
   number-more m =
       let k = word ws (first + m) 0 in
@@ -48,10 +48,10 @@ module _ (ws : List ℕ) (low high first number : ℕ) where
       go w ns false = refl
 
   module _ (n m j : ℕ) (e : n ≡ m + 1) (q : j ≡ first + m) where
-    pub number-here : isNumber ws low high number j ≡ true → among number (numbersBefore ws low high first n) ≡ true
+    pub number-here : hasNumber ws low high number j ≡ true → among number (numbersBefore ws low high first n) ≡ true
     number-here h = rw (e, add-one m, number-more m, ← q, h)
 
-    pub number-not-here : isNumber ws low high number j ≡ false
+    pub number-not-here : hasNumber ws low high number j ≡ false
         → among number (numbersBefore ws low high first n) ≡ among number (numbersBefore ws low high first m)
     number-not-here h = rw (e, add-one m, number-more m, ← q, h)
 
@@ -67,23 +67,23 @@ other-number Sought.ScaleFactor n p h = rw (ne-eqb (p .number) n h)
 other-number Sought.CountPoint n p h = rw (ne-eqb (p .number) n h)
 
 -- The frames from frame j on: that one and those behind it, or none.
-pub frames-more : (ws : List ℕ) (j : ℕ) → j < length ws / 8 → framesAfter ws j ≡ frameAt ws j ∷ framesAfter ws (j + 1)
+pub frames-more : (ws : List ℕ) (j : ℕ) → j < length ws / 8 → framesOnward ws j ≡ frameAt ws j ∷ framesOnward ws (j + 1)
 unfolding framesFrom
 frames-more ws j h =
     let e : length ws / 8 - j ≡ suc (length ws / 8 - (j + 1)) = omega arith in
     rw (e, framesFrom, add-one j)
 
-pub frames-none : (ws : List ℕ) (j : ℕ) → length ws / 8 ≤ j → framesAfter ws j ≡ []
+pub frames-none : (ws : List ℕ) (j : ℕ) → length ws / 8 ≤ j → framesOnward ws j ≡ []
 unfolding framesFrom
 frames-none ws j h = let e : length ws / 8 - j ≡ 0 = omega arith in rw (e, framesFrom)
 
 -- A run begins with the point of a point frame, and nothing else begins one.
 module _ (ws : List ℕ) (j k : ℕ) (h : j < length ws / 8) (q : k ≡ word ws j 0) where
-  pub run-goes : k ≡ 3 → run (framesAfter ws j) ≡ pointWords ws j ∷ run (framesAfter ws (j + 1))
+  pub run-goes : k ≡ 3 → run (framesOnward ws j) ≡ pointWords ws j ∷ run (framesOnward ws (j + 1))
   run-goes e = rw (frames-more ws j h, kinds.kind-3 ws j k q e)
 
-  pub run-ends : (k ≡ 3 → ⊥) → run (framesAfter ws j) ≡ []
-  run-ends n = rw (frames-more ws j h) (kinds.no-point-here ws j k q n (framesAfter ws (j + 1)))
+  pub run-ends : (k ≡ 3 → ⊥) → run (framesOnward ws j) ≡ []
+  run-ends n = rw (frames-more ws j h) (kinds.no-point-here ws j k q n (framesOnward ws (j + 1)))
 
 -- ---- The runs of the open groups
 
@@ -99,14 +99,14 @@ has-either such (p ∷ ps) qs = go (such p) (has-either such ps qs)
 module _ (ws firsts : List ℕ) (n k m : ℕ) (e : k ≡ m + 1) where
   -- One group more.
   reach-more : hasScaleFactor n (runsOf ws firsts k)
-      ≡ hasScaleFactor n (run (framesAfter ws (getD firsts m 0))) || hasScaleFactor n (runsOf ws firsts m)
+      ≡ hasScaleFactor n (run (framesOnward ws (getD firsts m 0))) || hasScaleFactor n (runsOf ws firsts m)
   unfolding runsOf
-  reach-more = rw (e, add-one m) (has-either (isScaleFactorPoint n) (run (framesAfter ws (getD firsts m 0))) (runsOf ws firsts m))
+  reach-more = rw (e, add-one m) (has-either (isScaleFactorPoint n) (run (framesOnward ws (getD firsts m 0))) (runsOf ws firsts m))
 
-  pub reach-here : hasScaleFactor n (run (framesAfter ws (getD firsts m 0))) ≡ true → hasScaleFactor n (runsOf ws firsts k) ≡ true
+  pub reach-here : hasScaleFactor n (run (framesOnward ws (getD firsts m 0))) ≡ true → hasScaleFactor n (runsOf ws firsts k) ≡ true
   reach-here h = rw (reach-more, h)
 
-  pub reach-not-here : hasScaleFactor n (run (framesAfter ws (getD firsts m 0))) ≡ false
+  pub reach-not-here : hasScaleFactor n (run (framesOnward ws (getD firsts m 0))) ≡ false
       → hasScaleFactor n (runsOf ws firsts k) ≡ hasScaleFactor n (runsOf ws firsts m)
   reach-not-here h = rw (reach-more, h)
 

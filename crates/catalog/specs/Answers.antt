@@ -14,7 +14,7 @@ abbrev pub answer : Checked → Checking.Verdict
 answer (Checked.Models n) = Checking.accepted n
 answer (Checked.Refused number place) = Checking.refused number place
 
--- The code's frame as a frame.
+-- The code's point as a point.
 abbrev pub pointForm : Point → Frames.Point
 pointForm p =
     record {
@@ -27,10 +27,12 @@ pointForm p =
       access = p .access;
     }
 
+-- The code's head of a group as one.
 abbrev pub headForm : Head → Frames.Head
 headForm h =
     record { number = h .number; groupType = h .«group_type»; countKind = h .«count_kind»; count = h .count }
 
+-- The code's frame as a frame.
 abbrev pub frameForm : Frame → Frames.Frame
 frameForm (Frame.Model id) = Frames.modelFrame id
 frameForm (Frame.Group h) = Frames.groupFrame (headForm h)

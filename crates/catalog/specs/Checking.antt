@@ -9,14 +9,15 @@ use Rattle.catalog.specs.Frames.{Frame, frames}
 use Rattle.catalog.specs.State.{State, start, next}
 use Rattle.catalog.specs.Rules.{noModel, run, fault}
 
--- What checking answers: the number of models, or a refusal's number and the index of its frame.
+-- What checking answers: the number of models, or a refusal's number and its place: the index of the frame, the number of frames
+-- for 11, 0 for 1 and 2.
 pub data Verdict : Type 0 where
   accepted : ℕ → Verdict
   refused : ℕ → ℕ → Verdict
 
 -- At the end of the frames, i of them. 11: a model is still open.
 abbrev pub verdictAtEnd : State → ℕ → Verdict
-verdictAtEnd s i = elim (noModel (s .levels)) [ true ↦ accepted (length (s .ids)) | false ↦ refused 11 i ]
+verdictAtEnd s i = elim (noModel (s .openGroups)) [ true ↦ accepted (length (s .ids)) | false ↦ refused 11 i ]
 
 -- Frame by frame, from frame i on: the first fault decides.
 unfoldable pub checkFrom : State → ℕ → List Frame → Verdict

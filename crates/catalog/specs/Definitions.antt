@@ -21,12 +21,13 @@ pub record Definition : Type 0 where
   pub top : Content
 
 -- The registers of points.
-abbrev pub width : List Point → ℕ
-width [] = 0
-width (p ∷ ps) = p .size + width ps
+abbrev pub pointsSize : List Point → ℕ
+pointsSize [] = 0
+pointsSize (p ∷ ps) = p .size + pointsSize ps
 
 -- ---- The frames of a definition
 
+-- A frame for each point.
 abbrev pub pointFrames : List Point → List Frame
 pointFrames [] = []
 pointFrames (p ∷ ps) = pointFrame p ∷ pointFrames ps
@@ -55,14 +56,16 @@ pub record Parsed : Type 0 where
   pub rest : List Content
   pub models : List Definition
 
+-- A group that holds nothing.
 abbrev pub empty : Content
 empty = record { points = []; groups = noGroup }
 
--- What the innermost open group still holds, and what those around it do.
+-- What the innermost open group still holds. (Nothing is left only where an end frame is missing: never in an accepted catalog.)
 abbrev pub inner : List Content → Content
 inner [] = empty
 inner (c ∷ cs) = c
 
+-- What the groups around it still hold.
 abbrev pub outer : List Content → List Content
 outer [] = []
 outer (c ∷ cs) = cs
@@ -87,10 +90,20 @@ inFront (pointFrame p) r =
 inFront endFrame r = record { rest = empty ∷ r .rest; models = r .models }
 inFront malformed r = r
 
+-- Frames as definitions, from the last frame to the first.
 unfoldable pub parsed : List Frame → Parsed
 parsed [] = record { rest = []; models = [] }
 parsed (f ∷ fs) = inFront f (parsed fs)
 
--- The model definitions of a catalog.
+-- The model definitions of a catalog. (Of one that is not accepted, frames may be passed over or change order.)
 abbrev pub definitions : List ℕ → List Definition
 definitions ws = parsed (frames ws) .models
+
+-- The ids of the model frames (document 01, "The map": an id is in the book when a model frame there has it).
+abbrev pub modelIds : List Frame → List ℕ
+modelIds [] = []
+modelIds (modelFrame id ∷ fs) = id ∷ modelIds fs
+modelIds (groupFrame h ∷ fs) = modelIds fs
+modelIds (pointFrame p ∷ fs) = modelIds fs
+modelIds (endFrame ∷ fs) = modelIds fs
+modelIds (malformed ∷ fs) = modelIds fs

@@ -1,4 +1,4 @@
--- The frames of a catalog (document 01, "The book": the book's frames): eight words each, and what the words are called.
+-- The frames of a catalog (document 01, "The book"): eight words each, and what the words are called.
 use mathlib.Core.Bool.{Bool, true, false, _&&_}
 use mathlib.Core.List.{List, [], _∷_, _++_}
 use Prim.Native.Nat.{ℕ, zero, suc, _+_, _*_, _/_}
@@ -88,7 +88,7 @@ frameOf kind a b c d e f g =
       ]
     ]
 
--- Word k of frame i.
+-- Word k of frame i (0 beyond the words, which `frames` does not reach).
 abbrev pub word : List ℕ → ℕ → ℕ → ℕ
 word ws i k = getD ws (8 * i + k) 0
 

@@ -2,17 +2,23 @@
 -- model frame to the end of its top group).
 use mathlib.Core.Bool.{Bool, true, false}
 use mathlib.Core.List.{List, [], _∷_}
-use Prim.Native.Nat.{ℕ}
+use Prim.Native.Nat.{ℕ, zero, suc}
 use Rattle.catalog.specs.Frames.{wordsOfAll}
 use Rattle.catalog.specs.Definitions.{catalogFrames, definitions}
 
--- What is left by a choice for each element: true keeps it. Those behind the last choice stay.
-abbrev pub kept : {A : Type 0} → List Bool → List A → List A
-kept [] xs = xs
-kept (c ∷ cs) [] = []
-kept (true ∷ cs) (x ∷ xs) = x ∷ kept cs xs
-kept (false ∷ cs) (x ∷ xs) = kept cs xs
+-- What is left by a choice for each element: true keeps it, false takes it out. Those behind the last choice stay, and choices behind
+-- the last element say nothing.
+abbrev pub keptBy : {A : Type 0} → List Bool → List A → List A
+keptBy [] xs = xs
+keptBy (c ∷ cs) [] = []
+keptBy (true ∷ cs) (x ∷ xs) = x ∷ keptBy cs xs
+keptBy (false ∷ cs) (x ∷ xs) = keptBy cs xs
 
--- A catalog without the models that the choice does not keep.
-unfoldable pub without : List Bool → List ℕ → List ℕ
-without choice ws = wordsOfAll (catalogFrames (kept choice (definitions ws)))
+-- A catalog with only those of its models that the choice keeps.
+unfoldable pub keeping : List Bool → List ℕ → List ℕ
+keeping choice ws = wordsOfAll (catalogFrames (keptBy choice (definitions ws)))
+
+-- The choice that takes out the model behind the first n, and no other.
+abbrev pub allButOne : ℕ → List Bool
+allButOne zero = false ∷ []
+allButOne (suc n) = true ∷ allButOne n

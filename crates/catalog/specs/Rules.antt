@@ -8,9 +8,9 @@ use lib.ListN.{length}
 use Rattle.values.specs.Rows.{mayScale, registersOf}
 use Rattle.values.specs.Classes.{twosComplement, isScaleFactor}
 use Rattle.catalog.specs.Frames.{Point, Head, Frame, modelFrame, groupFrame, pointFrame, endFrame, malformed, noScale, fixedScale, scaleByPoint, constantCount, countByPoint, fill, uint16, sunssf, readOnly}
-use Rattle.catalog.specs.State.{Level, State}
+use Rattle.catalog.specs.State.{OpenGroup, State}
 
--- ---- What the rules look at
+-- ---- What the rules look at (with no model open rule 4 decides first, so what these say then does not matter)
 
 -- Is a number one of these?
 abbrev pub among : ℕ → List ℕ → Bool
@@ -18,17 +18,17 @@ among n [] = false
 among n (m ∷ ms) = eqb n m || among n ms
 
 -- No model is open.
-abbrev pub noModel : List Level → Bool
+abbrev pub noModel : List OpenGroup → Bool
 noModel [] = true
 noModel (l ∷ ls) = false
 
 -- The top group is the innermost open one.
-abbrev pub inTop : List Level → Bool
+abbrev pub inTop : List OpenGroup → Bool
 inTop [] = false
 inTop (l ∷ ls) = noModel ls
 
 -- A group stands directly in the innermost open one.
-abbrev pub afterGroup : List Level → Bool
+abbrev pub afterGroup : List OpenGroup → Bool
 afterGroup [] = false
 afterGroup (l ∷ ls) = l .hasGroup
 
@@ -42,18 +42,18 @@ run (endFrame ∷ fs) = []
 run (malformed ∷ fs) = []
 
 -- The points of these groups.
-abbrev pub pointsOf : List Level → List Point
+abbrev pub pointsOf : List OpenGroup → List Point
 pointsOf [] = []
 pointsOf (l ∷ ls) = l .points ++ pointsOf ls
 
 -- The points that a scale reference may name: those of the same unbroken run of point frames, so far and from here on,
 -- and those directly in an enclosing group.
-abbrev pub inReach : List Level → List Point → List Point
+abbrev pub inReach : List OpenGroup → List Point → List Point
 inReach [] ahead = ahead
 inReach (l ∷ ls) ahead = (l .points ++ ahead) ++ pointsOf ls
 
 -- The points of the top group.
-abbrev pub topPoints : List Level → List Point
+abbrev pub topPoints : List OpenGroup → List Point
 topPoints [] = []
 topPoints (l ∷ ls) = elim (noModel ls) [ true ↦ l .points | false ↦ topPoints ls ]
 
@@ -62,29 +62,31 @@ abbrev pub hasPoint : (Point → Bool) → List Point → Bool
 hasPoint such [] = false
 hasPoint such (p ∷ ps) = such p || hasPoint such ps
 
--- Does a sunssf point of this number stand among these?
+-- Is this a sunssf point of that number?
 abbrev pub isScaleFactorPoint : ℕ → Point → Bool
 isScaleFactorPoint n p = eqb (p .number) n && eqb (p .typeCode) sunssf
 
+-- Does a sunssf point of this number stand among these?
 abbrev pub hasScaleFactor : ℕ → List Point → Bool
 hasScaleFactor n ps = hasPoint (isScaleFactorPoint n) ps
 
--- Does a uint16 point of this number with access R stand among these?
+-- Is this a uint16 point of that number with access R?
 abbrev pub isCountPoint : ℕ → Point → Bool
 isCountPoint n p = eqb (p .number) n && eqb (p .typeCode) uint16 && eqb (p .access) readOnly
 
+-- Does a uint16 point of this number with access R stand among these?
 abbrev pub hasCountPoint : ℕ → List Point → Bool
 hasCountPoint n ps = hasPoint (isCountPoint n) ps
 
--- Is this a size of the type? No size is one of an unknown type.
+-- Is this a size of the type? An unknown type has none.
 unfoldable pub isSizeOf : ℕ → ℕ → Bool
 isSizeOf code size =
     elim (registersOf code) [ none ↦ false | some r ↦ leb (r .0) size && leb size (r .1) ]
 
 -- One of these tests holds.
-abbrev pub any : List Bool → Bool
-any [] = false
-any (t ∷ ts) = t || any ts
+abbrev pub oneHolds : List Bool → Bool
+oneHolds [] = false
+oneHolds (t ∷ ts) = t || oneHolds ts
 
 -- ---- The rules: each says of a frame, in a state, whether it is broken
 
@@ -99,16 +101,16 @@ isMalformed malformed = true
 -- 4: a model frame inside a model; any other with no model open; a point after a group in the same group; a group directly in the
 -- top group after a fill group.
 abbrev pub isMisplaced : State → Frame → Bool
-isMisplaced s (modelFrame id) = not (noModel (s .levels))
-isMisplaced s (groupFrame h) = noModel (s .levels) || inTop (s .levels) && s .hasFill
-isMisplaced s (pointFrame p) = noModel (s .levels) || afterGroup (s .levels)
-isMisplaced s endFrame = noModel (s .levels)
+isMisplaced s (modelFrame id) = not (noModel (s .openGroups))
+isMisplaced s (groupFrame h) = noModel (s .openGroups) || inTop (s .openGroups) && s .hasFill
+isMisplaced s (pointFrame p) = noModel (s .openGroups) || afterGroup (s .openGroups)
+isMisplaced s endFrame = noModel (s .openGroups)
 isMisplaced s malformed = false
 
 -- 5: a fifth level; the top group is level 1.
 abbrev pub isTooDeep : State → Frame → Bool
 isTooDeep s (modelFrame id) = false
-isTooDeep s (groupFrame h) = leb 4 (length (s .levels))
+isTooDeep s (groupFrame h) = leb 4 (length (s .openGroups))
 isTooDeep s (pointFrame p) = false
 isTooDeep s endFrame = false
 isTooDeep s malformed = false
@@ -144,7 +146,7 @@ scaleFaults reach p =
 abbrev pub isMisscaled : State → List Point → Frame → Bool
 isMisscaled s ahead (modelFrame id) = false
 isMisscaled s ahead (groupFrame h) = false
-isMisscaled s ahead (pointFrame p) = any (scaleFaults (inReach (s .levels) ahead) p)
+isMisscaled s ahead (pointFrame p) = oneHolds (scaleFaults (inReach (s .openGroups) ahead) p)
 isMisscaled s ahead endFrame = false
 isMisscaled s ahead malformed = false
 
@@ -162,7 +164,7 @@ countFaults top direct h =
 -- group, or with word 4 not 0.
 abbrev pub isMiscounted : State → Frame → Bool
 isMiscounted s (modelFrame id) = false
-isMiscounted s (groupFrame h) = any (countFaults (topPoints (s .levels)) (inTop (s .levels)) h)
+isMiscounted s (groupFrame h) = oneHolds (countFaults (topPoints (s .openGroups)) (inTop (s .openGroups)) h)
 isMiscounted s (pointFrame p) = false
 isMiscounted s endFrame = false
 isMiscounted s malformed = false
@@ -173,7 +175,7 @@ noPoint [] = true
 noPoint (p ∷ ps) = false
 
 -- 10: the end of a lower group with no point of its own, or of a top group with neither point nor group.
-abbrev pub isHollow : List Level → Frame → Bool
+abbrev pub isHollow : List OpenGroup → Frame → Bool
 isHollow ls (modelFrame id) = false
 isHollow ls (groupFrame h) = false
 isHollow ls (pointFrame p) = false
@@ -193,7 +195,7 @@ rules s f ahead =
     ∷ (isMistyped f, 7)
     ∷ (isMisscaled s ahead f, 8)
     ∷ (isMiscounted s f, 9)
-    ∷ (isHollow (s .levels) f, 10)
+    ∷ (isHollow (s .openGroups) f, 10)
     ∷ []
 
 -- The number of the first rule that is broken, if one is.
@@ -201,5 +203,6 @@ abbrev pub firstBroken : List (Bool × ℕ) → Option ℕ
 firstBroken [] = none
 firstBroken (r ∷ rs) = elim (r .0) [ true ↦ some (r .1) | false ↦ firstBroken rs ]
 
+-- The number of the rule that a frame breaks, if it breaks one.
 abbrev pub fault : State → Frame → List Point → Option ℕ
 fault s f ahead = firstBroken (rules s f ahead)

@@ -14,12 +14,12 @@ zeroWords ws i k zero = true
 zeroWords ws i k (suc n) = eqb (word ws i k) 0 && zeroWords ws i (suc k) n
 
 -- All frames from frame i on.
-abbrev pub framesAfter : List ℕ → ℕ → List Frame
-framesAfter ws i = framesFrom ws i (length ws / 8 - i)
+abbrev pub framesOnward : List ℕ → ℕ → List Frame
+framesOnward ws i = framesFrom ws i (length ws / 8 - i)
 
 -- Is frame j of a kind from low to high, with this number?
-abbrev pub isNumber : List ℕ → ℕ → ℕ → ℕ → ℕ → Bool
-isNumber ws low high number j = leb low (word ws j 0) && leb (word ws j 0) high && eqb number (word ws j 1)
+abbrev pub hasNumber : List ℕ → ℕ → ℕ → ℕ → ℕ → Bool
+hasNumber ws low high number j = leb low (word ws j 0) && leb (word ws j 0) high && eqb number (word ws j 1)
 
 -- The numbers of n frames from frame `first` on, where their kind is from low to high, the last first.
 unfoldable pub numbersBefore : List ℕ → ℕ → ℕ → ℕ → ℕ → List ℕ
@@ -56,4 +56,4 @@ isSought Sought.CountPoint n p = isCountPoint n p
 -- The runs of points that begin at the first k of these frames, the last first.
 unfoldable pub runsOf : List ℕ → List ℕ → ℕ → List Point
 runsOf ws firsts zero = []
-runsOf ws firsts (suc k) = run (framesAfter ws (getD firsts k 0)) ++ runsOf ws firsts k
+runsOf ws firsts (suc k) = run (framesOnward ws (getD firsts k 0)) ++ runsOf ws firsts k

@@ -1,5 +1,6 @@
 -- What holds of the definitions of an accepted catalog: the rules of document 01, "Checking", said of the trees instead of
--- frame by frame. A catalog is accepted just where this holds (`proofs/AcceptedIsSound.antt`, `SoundIsAccepted.antt`).
+-- frame by frame. A catalog is accepted just where it is the words of its definitions and these are sound: rules 1, 3 and 11 and the
+-- rest of 4 hold of the words of any trees (`proofs/AcceptedIsSound.antt`, `SoundIsAccepted.antt`).
 use mathlib.Core.Path.{_≡_}
 use mathlib.Core.Bool.{true, false}
 use mathlib.Core.List.{List, [], _∷_, _++_}
@@ -8,7 +9,7 @@ use lib.ListN.{length}
 use Rattle.values.specs.Each.{Each}
 use Rattle.values.specs.Rows.{mayScale}
 use Rattle.values.specs.Classes.{twosComplement, isScaleFactor}
-use Rattle.catalog.specs.Frames.{Point, Head, Frame, modelFrame, groupFrame, pointFrame, endFrame, malformed, noScale, fixedScale, scaleByPoint, constantCount, countByPoint, fill}
+use Rattle.catalog.specs.Frames.{Point, Head, Frame, modelFrame, groupFrame, pointFrame, endFrame, malformed, noScale, fixedScale, scaleByPoint, constantCount, countByPoint, fill, uint16, sunssf, readOnly}
 use Rattle.catalog.specs.Rules.{among, isSizeOf, hasScaleFactor, hasCountPoint}
 use Rattle.catalog.specs.Definitions.{Groups, noGroup, group, Definition, definitionFrames, catalogFrames}
 
@@ -40,7 +41,7 @@ pub record SoundPoint (reach : List Point) (p : Point) : Type 0 where
 -- A group's head (rules 4, 5, 7 and 9). `top` is the points of the top group, `level` the group's own (the top group is level 1),
 -- `behind` the groups behind it in its group.
 pub record SoundHead (top : List Point) (level : ℕ) (h : Head) (behind : Groups) : Type 0 where
-  pub deep : level ≤ 4
+  pub levelInRange : level ≤ 4
   pub typeFlag : h .groupType ≤ 1
   pub countKnown : h .countKind ≤ 2
   pub constant : h .countKind ≡ constantCount → 1 ≤ h .count
@@ -64,7 +65,7 @@ pub record SoundDefinition (d : Definition) : Type 0 where
   pub notMarker : d .id ≡ 65535 → ⊥
   pub numbered : Each (λ n. 1 ≤ n) (numbersOf (definitionFrames d))
   pub distinct : Distinct (numbersOf (definitionFrames d))
-  pub held : d .top .points ≡ [] → d .top .groups ≡ noGroup → ⊥
+  pub notEmpty : d .top .points ≡ [] → d .top .groups ≡ noGroup → ⊥
   pub points : Each (SoundPoint (d .top .points)) (d .top .points)
   pub groups : SoundGroups (d .top .points) (d .top .points) 2 (d .top .groups)
 
@@ -78,3 +79,36 @@ pub record SoundCatalog (ds : List Definition) : Type 0 where
   pub few : length (catalogFrames ds) ≤ 4096
   pub distinct : Distinct (idsOf ds)
   pub each : Each SoundDefinition ds
+
+-- ---- What follows for every group and point
+
+-- A fact about each of these groups and each group in them: about the points of the groups around it, its level, its head, its own
+-- points and the groups behind it.
+abbrev pub EachGroup : (List Point → ℕ → Head → List Point → Groups → Type 0) → List Point → ℕ → Groups → Type 0
+EachGroup P enclosing level noGroup = Unit {0}
+EachGroup P enclosing level (group h ps inside behind) =
+    P enclosing level h ps behind × EachGroup P (ps ++ enclosing) (suc level) inside × EachGroup P enclosing level behind
+
+-- Such a fact about each lower group of a model.
+abbrev pub EachLowerGroup : (List Point → ℕ → Head → List Point → Groups → Type 0) → Definition → Type 0
+EachLowerGroup P d = EachGroup P (d .top .points) 2 (d .top .groups)
+
+-- A point is one of these.
+pub data In (p : Point) : List Point → Type 0 where
+  first : {ps : List Point} → In p (p ∷ ps)
+  later : {q : Point} {ps : List Point} → In p ps → In p (q ∷ ps)
+
+-- If a point gives the scale factor, it is a sunssf point among these.
+abbrev pub ScaleResolves : List Point → Point → Type 0
+ScaleResolves reach p =
+    p .scaleKind ≡ scaleByPoint → (q : Point) × (In q reach) × (q .number ≡ p .scale) × (q .typeCode ≡ sunssf)
+
+-- If a point gives the count, it is a uint16 point with access R among these.
+abbrev pub CountResolves : List Point → Head → Type 0
+CountResolves top h =
+    h .countKind ≡ countByPoint
+    → (q : Point) × (In q top) × (q .number ≡ h .count) × (q .typeCode ≡ uint16) × (q .access ≡ readOnly)
+
+-- A fill group stands directly in the top group, which is level 1, and no group stands behind it.
+abbrev pub FillsLast : ℕ → Head → Groups → Type 0
+FillsLast level h behind = h .countKind ≡ fill → (level ≡ 2) × (behind ≡ noGroup)

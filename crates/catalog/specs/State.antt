@@ -6,7 +6,7 @@ use lib.Dec.{eqb}
 use Rattle.catalog.specs.Frames.{Point, Frame, modelFrame, groupFrame, pointFrame, endFrame, malformed, fill}
 
 -- An open group: its own points so far, in order, and whether a group stands directly in it.
-pub record Level : Type 0 where
+pub record OpenGroup : Type 0 where
   pub points : List Point
   pub hasGroup : Bool
 
@@ -16,40 +16,42 @@ pub record State : Type 0 where
   pub ids : List ℕ
   pub numbers : List ℕ
   pub hasFill : Bool
-  pub levels : List Level
+  pub openGroups : List OpenGroup
 
 -- Before the first frame.
 abbrev pub start : State
-start = record { ids = []; numbers = []; hasFill = false; levels = [] }
+start = record { ids = []; numbers = []; hasFill = false; openGroups = [] }
 
 -- A group that has just been opened.
-abbrev pub opened : Level
+abbrev pub opened : OpenGroup
 opened = record { points = []; hasGroup = false }
 
--- The open groups behind a point frame, a group frame and an end frame.
-abbrev pub withPoint : Point → List Level → List Level
+-- The open groups behind a point frame: the innermost has one point more.
+abbrev pub withPoint : Point → List OpenGroup → List OpenGroup
 withPoint p [] = []
 withPoint p (l ∷ ls) = record { points = l .points ++ (p ∷ []); hasGroup = l .hasGroup } ∷ ls
 
-abbrev pub withGroup : List Level → List Level
+-- Behind a group frame: a group is open in the innermost, which has a group now.
+abbrev pub withGroup : List OpenGroup → List OpenGroup
 withGroup [] = []
 withGroup (l ∷ ls) = opened ∷ record { points = l .points; hasGroup = true } ∷ ls
 
-abbrev pub closed : List Level → List Level
+-- Behind an end frame: the innermost has ended.
+abbrev pub closed : List OpenGroup → List OpenGroup
 closed [] = []
 closed (l ∷ ls) = ls
 
 -- The state behind a frame that breaks no rule. (A fill group stands in the top group, by rule 9.)
 abbrev pub next : State → Frame → State
-next s (modelFrame id) = record { ids = id ∷ s .ids; numbers = []; hasFill = false; levels = opened ∷ [] }
+next s (modelFrame id) = record { ids = id ∷ s .ids; numbers = []; hasFill = false; openGroups = opened ∷ [] }
 next s (groupFrame h) =
     record {
       ids = s .ids;
       numbers = h .number ∷ s .numbers;
       hasFill = s .hasFill || eqb (h .countKind) fill;
-      levels = withGroup (s .levels);
+      openGroups = withGroup (s .openGroups);
     }
 next s (pointFrame p) =
-    record { ids = s .ids; numbers = p .number ∷ s .numbers; hasFill = s .hasFill; levels = withPoint p (s .levels) }
-next s endFrame = record { ids = s .ids; numbers = s .numbers; hasFill = s .hasFill; levels = closed (s .levels) }
+    record { ids = s .ids; numbers = p .number ∷ s .numbers; hasFill = s .hasFill; openGroups = withPoint p (s .openGroups) }
+next s endFrame = record { ids = s .ids; numbers = s .numbers; hasFill = s .hasFill; openGroups = closed (s .openGroups) }
 next s malformed = s

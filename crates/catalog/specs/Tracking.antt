@@ -1,4 +1,5 @@
--- The code's state between two frames, the rules as the code asks them, and how both stand for those of the check.
+-- The code's state between two frames, and the rules as the code asks them of it. `proofs/TrackedState.antt` and
+-- `TrackedRules.antt` say that they stand for the state and the rules of the check.
 use mathlib.Core.Path.{_≡_}
 use mathlib.Core.Bool.{Bool, true, false, not, _&&_, _||_}
 use mathlib.Core.List.{List, [], _∷_, _++_}
@@ -7,22 +8,23 @@ use lib.Dec.{eqb, leb, ltb}
 use lib.ListN.{length, getD, set}
 use Rattle.catalog.specs.Frames.{Point, Head, Frame, modelFrame, groupFrame, pointFrame, endFrame, malformed, fill}
 use Rattle.catalog.specs.State as check
-use Rattle.catalog.specs.State.{Level}
-use Rattle.catalog.specs.Rules.{among, run, noPoint, isMistyped, any, scaleFaults, countFaults}
-use Rattle.catalog.specs.Scans.{framesAfter, numbersBefore, runsOf}
+use Rattle.catalog.specs.State.{OpenGroup}
+use Rattle.catalog.specs.Rules.{among, run, noPoint, isMistyped, oneHolds, scaleFaults, countFaults}
+use Rattle.catalog.specs.Scans.{framesOnward, numbersBefore, runsOf}
 use Rattle.catalog.specs.declared.state.State.{State}
 
 -- ---- The rules as the code asks them, before frame i of a catalog
 
 -- The run of points that begins at the first frame inside the open group at level k + 1.
 abbrev pub runIn : List ℕ → State → ℕ → List Point
-runIn ws c k = run (framesAfter ws (getD (c .firsts) k 0))
+runIn ws c k = run (framesOnward ws (getD (c .firsts) k 0))
 
 -- Is a point's or group's number wrong?
 abbrev pub wrongNumber : List ℕ → ℕ → State → ℕ → Bool
 wrongNumber ws i c n =
     eqb n 0 || among n (numbersBefore ws 2 3 (getD (c .firsts) 0 0) (i - getD (c .firsts) 0 0))
 
+-- The rules of a model frame, a group frame, a point frame and an end frame that can be broken, in order.
 abbrev pub modelRules : List ℕ → ℕ → State → ℕ → List (Bool × ℕ)
 modelRules ws i c id =
     (not (eqb (c .depth) 0), 4)
@@ -35,7 +37,7 @@ groupRules ws i c h =
     ∷ (leb 4 (c .depth), 5)
     ∷ (wrongNumber ws i c (h .number), 6)
     ∷ (ltb 1 (h .groupType), 7)
-    ∷ (any (countFaults (runIn ws c 0) (eqb (c .depth) 1) h), 9)
+    ∷ (oneHolds (countFaults (runIn ws c 0) (eqb (c .depth) 1) h), 9)
     ∷ []
 
 abbrev pub pointRules : List ℕ → ℕ → State → Point → List (Bool × ℕ)
@@ -43,7 +45,7 @@ pointRules ws i c p =
     (eqb (c .depth) 0 || c .«has_group», 4)
     ∷ (wrongNumber ws i c (p .number), 6)
     ∷ (isMistyped (pointFrame p), 7)
-    ∷ (any (scaleFaults (runsOf ws (c .firsts) (c .depth)) p), 8)
+    ∷ (oneHolds (scaleFaults (runsOf ws (c .firsts) (c .depth)) p), 8)
     ∷ []
 
 abbrev pub endRules : List ℕ → State → List (Bool × ℕ)
@@ -52,6 +54,7 @@ endRules ws c =
     ∷ (noPoint (runIn ws c (c .depth - 1)) && not (eqb (c .depth) 1 && c .«has_group»), 10)
     ∷ []
 
+-- The rules of a frame.
 abbrev pub codeRules : List ℕ → ℕ → State → Frame → List (Bool × ℕ)
 codeRules ws i c (modelFrame id) = modelRules ws i c id
 codeRules ws i c (groupFrame h) = groupRules ws i c h
@@ -61,6 +64,7 @@ codeRules ws i c malformed = (true, 3) ∷ []
 
 -- ---- The code's state behind frame i
 
+-- Behind a model frame, a group frame and an end frame.
 abbrev pub behindModel : State → ℕ → State
 behindModel c i =
     record { models = c .models + 1; depth = 1; firsts = (i + 1) ∷ 0 ∷ 0 ∷ 0 ∷ []; «has_group» = false; «has_fill» = false }
@@ -85,6 +89,7 @@ behindEnd c =
       «has_fill» = c .«has_fill»;
     }
 
+-- Behind any frame.
 abbrev pub stateBehind : State → ℕ → Frame → State
 stateBehind c i (modelFrame id) = behindModel c i
 stateBehind c i (groupFrame h) = behindGroup c i h
@@ -111,20 +116,20 @@ Room c malformed = Unit {0}
 
 -- What is left of the run of the innermost open group before frame i: nothing once a group stands in it.
 abbrev pub aheadOf : List ℕ → ℕ → Bool → List Point
-aheadOf ws i hasGroup = elim hasGroup [ true ↦ [] | false ↦ run (framesAfter ws i) ]
+aheadOf ws i hasGroup = elim hasGroup [ true ↦ [] | false ↦ run (framesOnward ws i) ]
 
 -- Each open group's run of points is its points so far and then what is ahead; a group stands in each but the innermost.
-abbrev pub Opens : List ℕ → List ℕ → Bool → List Point → List Level → Type 0
+abbrev pub Opens : List ℕ → List ℕ → Bool → List Point → List OpenGroup → Type 0
 Opens ws firsts hasGroup ahead [] = Unit {0}
 Opens ws firsts hasGroup ahead (l ∷ ls) =
-    (run (framesAfter ws (getD firsts (length ls) 0)) ≡ l .points ++ ahead) × (l .hasGroup ≡ hasGroup) × Opens ws firsts true [] ls
+    (run (framesOnward ws (getD firsts (length ls) 0)) ≡ l .points ++ ahead) × (l .hasGroup ≡ hasGroup) × Opens ws firsts true [] ls
 
 -- The code's state stands for a state of the check before frame i.
 pub record Tracks (ws : List ℕ) (i : ℕ) (c : State) (s : check.State) : Type 0 where
   pub within : Within i c
   pub models : c .models ≡ length (s .ids)
   pub ids : s .ids ≡ numbersBefore ws 1 1 0 i
-  pub depth : c .depth ≡ length (s .levels)
+  pub depth : c .depth ≡ length (s .openGroups)
   pub numbers : 1 ≤ c .depth → s .numbers ≡ numbersBefore ws 2 3 (getD (c .firsts) 0 0) (i - getD (c .firsts) 0 0)
   pub hasFill : c .«has_fill» ≡ s .hasFill
-  pub levels : Opens ws (c .firsts) (c .«has_group») (aheadOf ws i (c .«has_group»)) (s .levels)
+  pub openGroups : Opens ws (c .firsts) (c .«has_group») (aheadOf ws i (c .«has_group»)) (s .openGroups)

@@ -25,7 +25,7 @@ ghost use Prim.Native.Nat.{_/_, _≤_, _<_};
 ghost use lib.Dec.{eqb};
 ghost use lib.ListN.{length, getD};
 ghost use Rattle.catalog.specs.Frames.{pointFrame};
-ghost use Rattle.catalog.specs.Rules.{isSizeOf, isMistyped, any, scaleFaults, countFaults, firstBroken};
+ghost use Rattle.catalog.specs.Rules.{isSizeOf, isMistyped, oneHolds, scaleFaults, countFaults, firstBroken};
 ghost use Rattle.catalog.specs.Scans.{runsOf};
 ghost use Rattle.catalog.specs.Answers.{frameForm, headForm, pointForm, faultForm};
 ghost use Rattle.catalog.specs.Tracking.{Within, codeRules, modelRules, groupRules, pointRules, endRules, runIn, wrongNumber};
@@ -197,7 +197,7 @@ fn is_size_of(type_code: u16, size: u16) -> bool
 // Is the scale factor of a point wrong? One given by a point reads the points of the open groups.
 fn is_misscaled(catalog: &[u16], state: State, point: Point) -> bool
     requires { ⌜ state .depth ≤ 4 ⌝ }
-    ensures { λ r. ⌜ r ≡ any (scaleFaults (runsOf (now (catalog .entry)) (state .firsts) (state .depth)) (pointForm point)) ⌝ }
+    ensures { λ r. ⌜ r ≡ oneHolds (scaleFaults (runsOf (now (catalog .entry)) (state .firsts) (state .depth)) (pointForm point)) ⌝ }
 {
     let kind = point.scale_kind;
     match kind {
@@ -220,7 +220,7 @@ fn is_misscaled(catalog: &[u16], state: State, point: Point) -> bool
 
 // Is the count of a group wrong? One given by a point reads the points of the top group.
 fn is_miscounted(catalog: &[u16], state: State, head: Head) -> bool
-    ensures { λ r. ⌜ r ≡ any (countFaults (runIn (now (catalog .entry)) state 0) (eqb (state .depth) 1) (headForm head)) ⌝ }
+    ensures { λ r. ⌜ r ≡ oneHolds (countFaults (runIn (now (catalog .entry)) state 0) (eqb (state .depth) 1) (headForm head)) ⌝ }
 {
     let kind = head.count_kind;
     match kind {

@@ -10,7 +10,7 @@ ghost use mathlib.Core.Path.{_≡_};
 ghost use Prim.Native.Nat.{_+_, _-_, _/_, _≤_, _<_};
 ghost use lib.ListN.{length};
 ghost use Rattle.catalog.specs.Rules.{among, hasPoint, hasScaleFactor, run};
-ghost use Rattle.catalog.specs.Scans.{framesAfter, isNumber, isSought, numbersBefore, pointWords, runsOf};
+ghost use Rattle.catalog.specs.Scans.{framesOnward, hasNumber, isSought, numbersBefore, pointWords, runsOf};
 
 // The point that a reference looks for.
 pub(crate) enum Sought {
@@ -21,7 +21,7 @@ pub(crate) enum Sought {
 // Does frame j, of a kind from low to high, have this number?
 fn has_number(catalog: &[u16], j: usize, low: u16, high: u16, number: u16) -> bool
     requires { ⌜ j < length (now catalog) / 8 ⌝ }
-    ensures { λ r. ⌜ r ≡ isNumber (now (catalog .entry)) low high number j ⌝ }
+    ensures { λ r. ⌜ r ≡ hasNumber (now (catalog .entry)) low high number j ⌝ }
 {
     let kind = word_of(catalog, j, 0);
     if kind < low {
@@ -79,7 +79,7 @@ fn is_sought(catalog: &[u16], j: usize, sought: Sought, number: u16) -> bool
 // Is the point that is looked for in the unbroken run of point frames from frame `from` on? Reads the
 // run once.
 pub(crate) fn run_has(catalog: &[u16], from: usize, sought: Sought, number: u16) -> bool
-    ensures { λ r. ⌜ r ≡ hasPoint (isSought sought number) (run (framesAfter (now (catalog .entry)) from)) ⌝ }
+    ensures { λ r. ⌜ r ≡ hasPoint (isSought sought number) (run (framesOnward (now (catalog .entry)) from)) ⌝ }
 {
     let frames = catalog.len() / WORDS;
     let mut j = from;

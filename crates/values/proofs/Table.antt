@@ -87,6 +87,15 @@ pub from-one : (c : ℕ) (r : TypeRow) → rowOf c ≡ some r → 1 ≤ c
 unfolding rows
 from-one c r e = let f = found (λ x. leb 1 (x .code)) tt c r e in omega (arith, f .0, leb→le 1 (r .code) (f .1))
 
+-- Every type takes 1 to 64 registers.
+pub one-to-64 : (c : ℕ) (r : TypeRow) → rowOf c ≡ some r → (1 ≤ r .fewest) × (r .most ≤ 64)
+unfolding rows
+one-to-64 c r e =
+    let t = found (λ x. leb 1 (x .fewest) && leb (x .most) 64) tt c r e .1 in
+    let low = and-l (leb 1 (r .fewest)) (leb (r .most) 64) t in
+    let high = and-r (leb 1 (r .fewest)) (leb (r .most) 64) t in
+    (leb→le 1 (r .fewest) low, leb→le (r .most) 64 high)
+
 -- The codes up to 18 take at most four registers.
 abbrev fourTest : TypeRow → Bool
 fourTest r = not (leb (r .code) 18) || leb (r .most) 4

@@ -3,7 +3,7 @@ use mathlib.Core.Path.{_≡_, refl, sym, ap, _∙_}
 use Prim.Native.Nat.{_-_}
 use native.Mathlib.Omega.{arith}
 use Rattle.catalog.specs.Rules.{hasPoint, run}
-use Rattle.catalog.specs.Scans.{isSought, framesAfter}
+use Rattle.catalog.specs.Scans.{isSought, framesOnward}
 use Rattle.catalog.proofs.WordScans as laws
 use borrow.Author.Needs.{needs}
 use Rattle.catalog.proofs.scans.run_has.Statement.{statement}
@@ -12,7 +12,7 @@ use Rattle.catalog.proofs.scans.run_has.Tie as tie
 abbrev Inv-loop : tie.InvT-loop
 Inv-loop catalog from sought number frames j₀ j =
     let found = hasPoint (isSought sought number) in
-    found (run (framesAfter catalog j)) ≡ found (run (framesAfter catalog from))
+    found (run (framesOnward catalog j)) ≡ found (run (framesOnward catalog from))
 
 abbrev μ-loop : tie.MeasureT-loop
 μ-loop catalog from sought number frames j₀ j = frames - j

@@ -1,0 +1,86 @@
+-- Document 01, "Checking", clause by clause: the smallest catalogs that show a clause, and what checking answers, computed together.
+use mathlib.Core.Path.{_≡_, refl}
+use mathlib.Core.List.{List, [], _∷_, _++_, map}
+use Prim.Native.Nat.{ℕ}
+use lib.ListN.{replicate}
+use Rattle.values.specs.Rows.{rows, rowAmong, mayScale, registersOf}
+use Rattle.values.specs.Classes.{twosComplement}
+use Rattle.catalog.specs.Frames.{frameOf, framesFrom}
+use Rattle.catalog.specs.Rules.{isSizeOf}
+use Rattle.catalog.specs.Checking.{Verdict, accepted, refused, checkFrom, checked}
+
+-- A model frame.
+abbrev model : ℕ → List ℕ
+model id = 1 ∷ id ∷ 0 ∷ 0 ∷ 0 ∷ 0 ∷ 0 ∷ 0 ∷ []
+
+-- A plain group: its number, count kind and word 4.
+abbrev groupBy : ℕ → ℕ → ℕ → List ℕ
+groupBy number countKind count = 2 ∷ number ∷ 0 ∷ countKind ∷ count ∷ 0 ∷ 0 ∷ 0 ∷ []
+
+-- A point with no scale factor, optional, R.
+abbrev point : ℕ → ℕ → ℕ → List ℕ
+point number typeCode size = 3 ∷ number ∷ typeCode ∷ size ∷ 0 ∷ 0 ∷ 0 ∷ 0 ∷ []
+
+-- An int16 point with a scale kind and word 5.
+abbrev scaled : ℕ → ℕ → ℕ → List ℕ
+scaled number scaleKind scale = 3 ∷ number ∷ 1 ∷ 1 ∷ scaleKind ∷ scale ∷ 0 ∷ 0 ∷ []
+
+-- An end frame.
+abbrev end : List ℕ
+end = 4 ∷ 0 ∷ 0 ∷ 0 ∷ 0 ∷ 0 ∷ 0 ∷ 0 ∷ []
+
+-- The frames of a catalog, and the answer.
+abbrev Case : Type 0
+Case = List (List ℕ) × Verdict
+
+-- The words of frames.
+abbrev joined : List (List ℕ) → List ℕ
+joined [] = []
+joined (w ∷ ws) = w ++ joined ws
+
+-- A case for each clause, and for what was decided where a clause leaves it open.
+unfoldable pub cases : List Case
+cases =
+    ([], accepted 0)
+    ∷ ((1 ∷ []) ∷ [], refused 1 0)  -- 1
+    ∷ (replicate 32776 0 ∷ [], refused 2 0)  -- 2, and not 3
+    ∷ (replicate 32768 0 ∷ [], refused 3 0)  -- 4,096 frames are not too many
+    ∷ ((5 ∷ 0 ∷ 0 ∷ 0 ∷ 0 ∷ 0 ∷ 0 ∷ 0 ∷ []) ∷ [], refused 3 0)  -- 3, kind
+    ∷ ((1 ∷ 1 ∷ 0 ∷ 0 ∷ 0 ∷ 0 ∷ 0 ∷ 1 ∷ []) ∷ [], refused 3 0)  -- 3, unnamed word
+    ∷ (end ∷ [], refused 4 0)  -- 4, no model open
+    ∷ (model 1 ∷ point 1 1 1 ∷ model 1 ∷ [], refused 4 2)  -- 4, a model inside a model, and not 6
+    ∷ (model 1 ∷ groupBy 1 0 1 ∷ point 2 1 1 ∷ end ∷ point 3 1 1 ∷ [], refused 4 4)  -- 4, a point after a group
+    ∷ (model 1 ∷ groupBy 1 2 0 ∷ point 2 1 1 ∷ end ∷ groupBy 3 2 0 ∷ [], refused 4 4)  -- 4, fill after fill
+    ∷ (model 1 ∷ groupBy 1 2 0 ∷ point 2 1 1 ∷ groupBy 3 0 1 ∷ point 4 1 1 ∷ end ∷ end ∷ end ∷ [], accepted 1)  -- a group in a fill group
+    ∷ (model 1 ∷ groupBy 1 0 1 ∷ groupBy 2 0 1 ∷ groupBy 3 0 1 ∷ groupBy 0 0 1 ∷ [], refused 5 4)  -- 5 at the group frame, and not 6
+    ∷ (model 0 ∷ [], refused 6 0)
+    ∷ (model 65535 ∷ [], refused 6 0)
+    ∷ (model 1 ∷ point 1 1 1 ∷ end ∷ model 1 ∷ [], refused 6 3)
+    ∷ (model 1 ∷ point 1 1 1 ∷ end ∷ model 2 ∷ point 1 1 1 ∷ end ∷ [], accepted 2)  -- numbers are a model's own
+    ∷ (model 1 ∷ point 1 1 1 ∷ groupBy 1 0 1 ∷ [], refused 6 2)  -- points and groups share numbers
+    ∷ (model 1 ∷ point 1 1 1 ∷ point 1 21 1 ∷ [], refused 6 2)  -- 6, and not 7
+    ∷ (model 1 ∷ point 1 21 1 ∷ [], refused 7 1)
+    ∷ (model 1 ∷ point 1 19 65 ∷ [], refused 7 1)
+    ∷ (model 1 ∷ scaled 1 3 0 ∷ [], refused 8 1)
+    ∷ (model 1 ∷ scaled 1 0 1 ∷ [], refused 8 1)  -- 8, and not 3
+    ∷ (model 1 ∷ scaled 1 1 0xFFF6 ∷ end ∷ [], accepted 1)
+    ∷ (model 1 ∷ scaled 1 1 0xFFF5 ∷ [], refused 8 1)
+    ∷ (model 1 ∷ scaled 1 2 9 ∷ point 9 8 1 ∷ end ∷ [], accepted 1)  -- a scale point later in the run
+    ∷ (model 1 ∷ scaled 1 2 9 ∷ point 9 8 2 ∷ [], refused 7 2)  -- its own fault comes at its own frame
+    ∷ (model 1 ∷ groupBy 2 0 1 ∷ scaled 1 2 9 ∷ end ∷ point 9 8 1 ∷ [], refused 8 2)  -- no look-ahead into an enclosing group
+    ∷ (model 1 ∷ point 1 2 1 ∷ groupBy 2 1 1 ∷ point 3 1 1 ∷ end ∷ end ∷ [], accepted 1)
+    ∷ (model 1 ∷ point 1 4 1 ∷ groupBy 2 1 1 ∷ [], refused 9 2)  -- a count point is uint16
+    ∷ (model 1 ∷ (3 ∷ 1 ∷ 2 ∷ 1 ∷ 1 ∷ 1 ∷ 1 ∷ 1 ∷ []) ∷ groupBy 2 1 1 ∷ [], refused 9 2)  -- and R
+    ∷ (model 1 ∷ (3 ∷ 1 ∷ 2 ∷ 1 ∷ 1 ∷ 1 ∷ 1 ∷ 0 ∷ []) ∷ groupBy 2 1 1 ∷ point 3 1 1 ∷ end ∷ end ∷ [], accepted 1)  -- scaled, mandatory
+    ∷ (model 1 ∷ groupBy 1 0 0 ∷ [], refused 9 1)
+    ∷ (model 1 ∷ groupBy 1 2 1 ∷ [], refused 9 1)  -- 9, and not 3
+    ∷ (model 1 ∷ groupBy 1 0 1 ∷ groupBy 2 2 0 ∷ [], refused 9 2)  -- fill below the top group
+    ∷ (model 1 ∷ end ∷ [], refused 10 1)
+    ∷ (model 1 ∷ groupBy 1 0 1 ∷ groupBy 2 0 1 ∷ point 3 1 1 ∷ end ∷ end ∷ [], refused 10 5)  -- a lower group with groups but no point
+    ∷ (model 1 ∷ [], refused 11 1)
+    ∷ []
+
+-- Every case is answered as it says.
+pub clause-by-clause : map (λ (c : Case). checked (joined (c .0))) cases ≡ map (λ (c : Case). c .1) cases
+unfolding cases checkFrom checked framesFrom frameOf isSizeOf rows rowAmong mayScale registersOf twosComplement
+clause-by-clause = refl

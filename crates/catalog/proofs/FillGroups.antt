@@ -1,0 +1,18 @@
+-- In an accepted catalog a fill group stands directly in the top group, and last.
+use mathlib.Core.Path.{_≡_, refl}
+use mathlib.Core.List.{List}
+use Prim.Native.Nat.{ℕ}
+use Rattle.values.specs.Each.{Each}
+use Rattle.catalog.specs.Frames.{Point, Head}
+use Rattle.catalog.specs.Checking.{accepted, checked}
+use Rattle.catalog.specs.Definitions.{Groups, definitions}
+use Rattle.catalog.specs.Soundness.{EachLowerGroup, FillsLast}
+use Rattle.catalog.proofs.EveryGroup.{of-lower-groups, of-models}
+
+-- Wherever there is a fill group, it is at level 2 and no group stands behind it.
+pub fill-is-last : (ws : List ℕ) (n : ℕ) → checked ws ≡ accepted n
+    → Each (EachLowerGroup (λ enclosing level h ps behind. FillsLast level h behind)) (definitions ws)
+fill-is-last =
+    let P : List Point → ℕ → Head → List Point → Groups → Type 0 = λ enclosing level h ps behind. FillsLast level h behind in
+    of-models (EachLowerGroup P) (λ d s. of-lower-groups P (d .top .points)
+    (λ enclosing level h ps behind head some each k. let f = head .filling k in (f .0, f .1)) d refl s)
