@@ -1,4 +1,5 @@
--- Document 01, "Checking", clause by clause: the smallest catalogs that show a clause, and what checking answers, computed together.
+-- Document 01, "Checking", clause by clause: the smallest catalogs that show a clause, and what checking answers, computed
+-- together.
 use mathlib.Core.Path.{_≡_, refl}
 use mathlib.Core.List.{List, [], _∷_, _++_, map}
 use Prim.Native.Nat.{ℕ}
@@ -42,41 +43,71 @@ joined (w ∷ ws) = w ++ joined ws
 unfoldable pub cases : List Case
 cases =
     ([], accepted 0)
-    ∷ ((1 ∷ []) ∷ [], refused 1 0)  -- 1
-    ∷ (replicate 32776 0 ∷ [], refused 2 0)  -- 2, and not 3
+    -- 1, 2
+    ∷ ((1 ∷ []) ∷ [], refused 1 0)
+    ∷ (replicate 32776 0 ∷ [], refused 2 0)  -- and not 3
     ∷ (replicate 32768 0 ∷ [], refused 3 0)  -- 4,096 frames are not too many
-    ∷ ((5 ∷ 0 ∷ 0 ∷ 0 ∷ 0 ∷ 0 ∷ 0 ∷ 0 ∷ []) ∷ [], refused 3 0)  -- 3, kind
-    ∷ ((1 ∷ 1 ∷ 0 ∷ 0 ∷ 0 ∷ 0 ∷ 0 ∷ 1 ∷ []) ∷ [], refused 3 0)  -- 3, unnamed word
-    ∷ (end ∷ [], refused 4 0)  -- 4, no model open
-    ∷ (model 1 ∷ point 1 1 1 ∷ model 1 ∷ [], refused 4 2)  -- 4, a model inside a model, and not 6
-    ∷ (model 1 ∷ groupBy 1 0 1 ∷ point 2 1 1 ∷ end ∷ point 3 1 1 ∷ [], refused 4 4)  -- 4, a point after a group
-    ∷ (model 1 ∷ groupBy 1 2 0 ∷ point 2 1 1 ∷ end ∷ groupBy 3 2 0 ∷ [], refused 4 4)  -- 4, fill after fill
-    ∷ (model 1 ∷ groupBy 1 2 0 ∷ point 2 1 1 ∷ groupBy 3 0 1 ∷ point 4 1 1 ∷ end ∷ end ∷ end ∷ [], accepted 1)  -- a group in a fill group
-    ∷ (model 1 ∷ groupBy 1 0 1 ∷ groupBy 2 0 1 ∷ groupBy 3 0 1 ∷ groupBy 0 0 1 ∷ [], refused 5 4)  -- 5 at the group frame, and not 6
+    -- 3
+    ∷ ((5 ∷ 0 ∷ 0 ∷ 0 ∷ 0 ∷ 0 ∷ 0 ∷ 0 ∷ []) ∷ [], refused 3 0)  -- and not 4
+    ∷ ((1 ∷ 1 ∷ 0 ∷ 0 ∷ 0 ∷ 0 ∷ 0 ∷ 1 ∷ []) ∷ [], refused 3 0)
+    ∷ (model 1 ∷ (2 ∷ 1 ∷ 0 ∷ 0 ∷ 1 ∷ 1 ∷ 0 ∷ 0 ∷ []) ∷ [], refused 3 1)
+    ∷ (model 1 ∷ (4 ∷ 1 ∷ 0 ∷ 0 ∷ 0 ∷ 0 ∷ 0 ∷ 0 ∷ []) ∷ [], refused 3 1)
+    -- 4
+    ∷ (end ∷ [], refused 4 0)
+    ∷ (point 0 1 1 ∷ [], refused 4 0)  -- and not 6
+    ∷ (groupBy 1 0 1 ∷ [], refused 4 0)
+    ∷ (model 1 ∷ point 1 1 1 ∷ model 1 ∷ [], refused 4 2)  -- and not 6
+    ∷ (model 1 ∷ groupBy 1 0 1 ∷ point 2 1 1 ∷ end ∷ point 3 1 1 ∷ [], refused 4 4)
+    ∷ (model 1 ∷ groupBy 1 2 0 ∷ point 2 1 1 ∷ end ∷ groupBy 3 0 1 ∷ [], refused 4 4)
+    ∷ (model 1 ∷ groupBy 1 2 0 ∷ point 2 1 1 ∷ end ∷ groupBy 3 2 0 ∷ [], refused 4 4)
+    ∷ (model 1 ∷ groupBy 1 2 0 ∷ point 2 1 1 ∷ groupBy 3 0 1 ∷ point 4 1 1 ∷ end ∷ end ∷ end ∷ [], accepted 1)
+    -- 5
+    ∷ (model 1 ∷ groupBy 1 0 1 ∷ groupBy 2 0 1 ∷ groupBy 3 0 1 ∷ groupBy 0 0 1 ∷ [], refused 5 4)  -- and not 6
+    -- 6
     ∷ (model 0 ∷ [], refused 6 0)
     ∷ (model 65535 ∷ [], refused 6 0)
-    ∷ (model 1 ∷ point 1 1 1 ∷ end ∷ model 1 ∷ [], refused 6 3)
+    ∷ (model 1 ∷ point 1 1 1 ∷ end ∷ model 2 ∷ point 1 1 1 ∷ end ∷ model 1 ∷ [], refused 6 6)
     ∷ (model 1 ∷ point 1 1 1 ∷ end ∷ model 2 ∷ point 1 1 1 ∷ end ∷ [], accepted 2)  -- numbers are a model's own
-    ∷ (model 1 ∷ point 1 1 1 ∷ groupBy 1 0 1 ∷ [], refused 6 2)  -- points and groups share numbers
-    ∷ (model 1 ∷ point 1 1 1 ∷ point 1 21 1 ∷ [], refused 6 2)  -- 6, and not 7
+    ∷ (model 1 ∷ point 0 1 1 ∷ [], refused 6 1)
+    ∷ (model 1 ∷ groupBy 0 0 1 ∷ [], refused 6 1)
+    ∷ (model 1 ∷ point 1 1 1 ∷ groupBy 1 0 1 ∷ [], refused 6 2)
+    ∷ (model 1 ∷ groupBy 1 0 1 ∷ point 2 1 1 ∷ groupBy 2 0 1 ∷ [], refused 6 3)
+    ∷ (model 1 ∷ point 1 1 1 ∷ point 1 21 1 ∷ [], refused 6 2)  -- and not 7
+    -- 7
     ∷ (model 1 ∷ point 1 21 1 ∷ [], refused 7 1)
+    ∷ (model 1 ∷ point 1 19 64 ∷ end ∷ [], accepted 1)
     ∷ (model 1 ∷ point 1 19 65 ∷ [], refused 7 1)
+    ∷ (model 1 ∷ (2 ∷ 1 ∷ 2 ∷ 0 ∷ 0 ∷ 0 ∷ 0 ∷ 0 ∷ []) ∷ [], refused 7 1)  -- and not 9
+    ∷ (model 1 ∷ (3 ∷ 1 ∷ 1 ∷ 1 ∷ 3 ∷ 0 ∷ 2 ∷ 0 ∷ []) ∷ [], refused 7 1)  -- and not 8
+    ∷ (model 1 ∷ (3 ∷ 1 ∷ 1 ∷ 1 ∷ 0 ∷ 0 ∷ 0 ∷ 2 ∷ []) ∷ [], refused 7 1)
+    -- 8
     ∷ (model 1 ∷ scaled 1 3 0 ∷ [], refused 8 1)
-    ∷ (model 1 ∷ scaled 1 0 1 ∷ [], refused 8 1)  -- 8, and not 3
-    ∷ (model 1 ∷ scaled 1 1 0xFFF6 ∷ end ∷ [], accepted 1)
+    ∷ (model 1 ∷ scaled 1 0 1 ∷ [], refused 8 1)  -- and not 3
+    ∷ (model 1 ∷ (3 ∷ 1 ∷ 4 ∷ 1 ∷ 1 ∷ 0 ∷ 0 ∷ 0 ∷ []) ∷ [], refused 8 1)  -- an enum16 carries no scale factor
+    ∷ (model 1 ∷ scaled 1 1 0xFFF6 ∷ scaled 2 1 10 ∷ end ∷ [], accepted 1)
     ∷ (model 1 ∷ scaled 1 1 0xFFF5 ∷ [], refused 8 1)
-    ∷ (model 1 ∷ scaled 1 2 9 ∷ point 9 8 1 ∷ end ∷ [], accepted 1)  -- a scale point later in the run
+    ∷ (model 1 ∷ scaled 1 1 11 ∷ [], refused 8 1)
+    ∷ (model 1 ∷ scaled 1 2 9 ∷ point 9 8 1 ∷ end ∷ [], accepted 1)  -- a scale factor later in the run
     ∷ (model 1 ∷ scaled 1 2 9 ∷ point 9 8 2 ∷ [], refused 7 2)  -- its own fault comes at its own frame
-    ∷ (model 1 ∷ groupBy 2 0 1 ∷ scaled 1 2 9 ∷ end ∷ point 9 8 1 ∷ [], refused 8 2)  -- no look-ahead into an enclosing group
-    ∷ (model 1 ∷ point 1 2 1 ∷ groupBy 2 1 1 ∷ point 3 1 1 ∷ end ∷ end ∷ [], accepted 1)
-    ∷ (model 1 ∷ point 1 4 1 ∷ groupBy 2 1 1 ∷ [], refused 9 2)  -- a count point is uint16
-    ∷ (model 1 ∷ (3 ∷ 1 ∷ 2 ∷ 1 ∷ 1 ∷ 1 ∷ 1 ∷ 1 ∷ []) ∷ groupBy 2 1 1 ∷ [], refused 9 2)  -- and R
-    ∷ (model 1 ∷ (3 ∷ 1 ∷ 2 ∷ 1 ∷ 1 ∷ 1 ∷ 1 ∷ 0 ∷ []) ∷ groupBy 2 1 1 ∷ point 3 1 1 ∷ end ∷ end ∷ [], accepted 1)  -- scaled, mandatory
+    ∷ (model 1 ∷ scaled 1 2 9 ∷ point 9 1 1 ∷ [], refused 8 1)  -- no sunssf
+    ∷ (model 1 ∷ point 9 8 1 ∷ groupBy 2 0 1 ∷ scaled 1 2 9 ∷ end ∷ end ∷ [], accepted 1)  -- of an enclosing group
+    ∷ (model 1 ∷ groupBy 2 0 1 ∷ point 9 8 1 ∷ end ∷ groupBy 3 0 1 ∷ scaled 1 2 9 ∷ [], refused 8 5)  -- of another group
+    ∷ (model 1 ∷ groupBy 2 0 1 ∷ scaled 1 2 9 ∷ end ∷ point 9 8 1 ∷ [], refused 8 2)  -- and not 4 at frame 4
+    -- 9
+    ∷ (model 1 ∷ groupBy 1 3 1 ∷ [], refused 9 1)
     ∷ (model 1 ∷ groupBy 1 0 0 ∷ [], refused 9 1)
-    ∷ (model 1 ∷ groupBy 1 2 1 ∷ [], refused 9 1)  -- 9, and not 3
-    ∷ (model 1 ∷ groupBy 1 0 1 ∷ groupBy 2 2 0 ∷ [], refused 9 2)  -- fill below the top group
+    ∷ (model 1 ∷ point 1 2 1 ∷ groupBy 2 1 1 ∷ point 3 1 1 ∷ end ∷ end ∷ [], accepted 1)
+    ∷ (model 1 ∷ (3 ∷ 1 ∷ 2 ∷ 1 ∷ 1 ∷ 1 ∷ 1 ∷ 0 ∷ []) ∷ groupBy 2 1 1 ∷ point 3 1 1 ∷ end ∷ end ∷ [], accepted 1)
+    ∷ (model 1 ∷ point 1 4 1 ∷ groupBy 2 1 1 ∷ [], refused 9 2)  -- no uint16
+    ∷ (model 1 ∷ (3 ∷ 1 ∷ 2 ∷ 1 ∷ 0 ∷ 0 ∷ 0 ∷ 1 ∷ []) ∷ groupBy 2 1 1 ∷ [], refused 9 2)  -- not R
+    ∷ (model 1 ∷ groupBy 2 0 1 ∷ point 1 2 1 ∷ groupBy 3 1 1 ∷ [], refused 9 3)  -- not in the top group
+    ∷ (model 1 ∷ groupBy 1 0 1 ∷ groupBy 2 2 0 ∷ [], refused 9 2)
+    ∷ (model 1 ∷ groupBy 1 2 1 ∷ [], refused 9 1)  -- and not 3
+    -- 10, 11
     ∷ (model 1 ∷ end ∷ [], refused 10 1)
-    ∷ (model 1 ∷ groupBy 1 0 1 ∷ groupBy 2 0 1 ∷ point 3 1 1 ∷ end ∷ end ∷ [], refused 10 5)  -- a lower group with groups but no point
+    ∷ (model 1 ∷ groupBy 1 0 1 ∷ end ∷ [], refused 10 2)
+    ∷ (model 1 ∷ groupBy 1 0 1 ∷ groupBy 2 0 1 ∷ point 3 1 1 ∷ end ∷ end ∷ [], refused 10 5)
+    ∷ (model 1 ∷ groupBy 1 0 1 ∷ point 2 1 1 ∷ end ∷ end ∷ [], accepted 1)
     ∷ (model 1 ∷ [], refused 11 1)
     ∷ []
 

@@ -1,4 +1,5 @@
--- The ids of models: distinct in an accepted catalog, 1 to 65534 where its words are registers, and always those of the model frames.
+-- The ids of models: distinct in an accepted catalog, 1 to 65534 where its words are registers, and always those of the model
+-- frames.
 use mathlib.Core.Path.{_≡_, refl, sym, ap, subst}
 use mathlib.Core.List.{List, [], _∷_, _++_}
 use Prim.Native.Nat.{ℕ, _≤_, _<_}

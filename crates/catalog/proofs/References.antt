@@ -63,10 +63,13 @@ module _ (ws : List ℕ) (n : ℕ) (e : checked ws ≡ accepted n) where
       )) ws n e
 
   -- Every count reference names a uint16 point with access R of the top group.
-  pub counts-resolve : Each (λ d. EachLowerGroup (λ enclosing level h ps behind. CountResolves (d .top .points) h) d) (definitions ws)
+  pub counts-resolve : Each
+      (λ d. EachLowerGroup (λ enclosing level h ps behind. CountResolves (d .top .points) h) d) (definitions ws)
   counts-resolve =
       let P : Definition → List Point → ℕ → Head → List Point → Groups → Type 0 =
       λ d enclosing level h ps behind. CountResolves (d .top .points) h in
       of-models (λ d. EachLowerGroup (P d) d)
-      (λ d s. of-lower-groups (P d) (d .top .points)
-      (λ enclosing level h ps behind head some each k. count-point-found (h .count) (d .top .points) (head .counted k)) d refl s) ws n e
+      (λ d s.
+      let top = d .top .points in
+      of-lower-groups (P d) top (λ enclosing level h ps behind head some each k. count-point-found (h .count) top (head .counted k))
+      d refl s) ws n e

@@ -6,8 +6,8 @@ use Prim.Native.Nat.{ℕ, zero, suc}
 use Rattle.catalog.specs.Frames.{wordsOfAll}
 use Rattle.catalog.specs.Definitions.{catalogFrames, definitions}
 
--- What is left by a choice for each element: true keeps it, false takes it out. Those behind the last choice stay, and choices behind
--- the last element say nothing.
+-- What is left by a choice for each element: true keeps it, false takes it out. Those behind the last choice stay, and choices
+-- behind the last element say nothing.
 abbrev pub keptBy : {A : Type 0} → List Bool → List A → List A
 keptBy [] xs = xs
 keptBy (c ∷ cs) [] = []

@@ -1,6 +1,6 @@
 -- What holds of the definitions of an accepted catalog: the rules of document 01, "Checking", said of the trees instead of
--- frame by frame. A catalog is accepted just where it is the words of its definitions and these are sound: rules 1, 3 and 11 and the
--- rest of 4 hold of the words of any trees (`proofs/AcceptedIsSound.antt`, `SoundIsAccepted.antt`).
+-- frame by frame. A catalog is accepted just where it is the words of its definitions and these are sound: rules 1, 3 and 11
+-- and the rest of 4 hold of the words of any trees (`proofs/AcceptedIsSound.antt`, `SoundIsAccepted.antt`).
 use mathlib.Core.Path.{_≡_}
 use mathlib.Core.Bool.{true, false}
 use mathlib.Core.List.{List, [], _∷_, _++_}

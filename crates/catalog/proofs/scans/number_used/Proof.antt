@@ -1,6 +1,7 @@
 -- `catalog::scans::number_used` meets its contract: the frames still to be read decide.
 use mathlib.Core.Path.{_≡_, refl, sym, _∙_}
-use Prim.Native.Nat.{_-_, _≤_}
+use mathlib.Core.Bool.{Bool}
+use Prim.Native.Nat.{ℕ, _-_, _≤_}
 use native.Mathlib.Omega.{arith}
 use Rattle.catalog.specs.Rules.{among}
 use Rattle.catalog.specs.Scans.{numbersBefore}
@@ -11,9 +12,8 @@ use Rattle.catalog.proofs.scans.number_used.Tie as tie
 
 abbrev Inv-loop : tie.InvT-loop
 Inv-loop catalog first end low high number j₀ j =
-    (first ≤ j)
-    × (j ≤ end)
-    × (among number (numbersBefore catalog low high first (j - first)) ≡ among number (numbersBefore catalog low high first (end - first)))
+    let among-first : ℕ → Bool = λ n. among number (numbersBefore catalog low high first n) in
+    (first ≤ j) × (j ≤ end) × (among-first (j - first) ≡ among-first (end - first))
 
 abbrev μ-loop : tie.MeasureT-loop
 μ-loop catalog first end low high number j₀ j = j
