@@ -1,5 +1,4 @@
--- Document 01, "Checking", clause by clause: the smallest catalogs that show a clause, and what checking answers, computed
--- together.
+-- Document 01, "Checking", clause by clause: catalogs that show each clause and what checking answers, computed together.
 use mathlib.Core.Path.{_≡_, refl}
 use mathlib.Core.List.{List, [], _∷_, _++_, map}
 use Prim.Native.Nat.{ℕ}
@@ -83,7 +82,7 @@ cases =
     -- 8
     ∷ (model 1 ∷ scaled 1 3 0 ∷ [], refused 8 1)
     ∷ (model 1 ∷ scaled 1 0 1 ∷ [], refused 8 1)  -- and not 3
-    ∷ (model 1 ∷ (3 ∷ 1 ∷ 4 ∷ 1 ∷ 1 ∷ 0 ∷ 0 ∷ 0 ∷ []) ∷ [], refused 8 1)  -- an enum16 carries no scale factor
+    ∷ (model 1 ∷ (3 ∷ 1 ∷ 4 ∷ 1 ∷ 1 ∷ 0 ∷ 0 ∷ 0 ∷ []) ∷ [], refused 8 1)  -- an enum16 carries none
     ∷ (model 1 ∷ scaled 1 1 0xFFF6 ∷ scaled 2 1 10 ∷ end ∷ [], accepted 1)
     ∷ (model 1 ∷ scaled 1 1 0xFFF5 ∷ [], refused 8 1)
     ∷ (model 1 ∷ scaled 1 1 11 ∷ [], refused 8 1)
@@ -92,6 +91,8 @@ cases =
     ∷ (model 1 ∷ scaled 1 2 9 ∷ point 9 1 1 ∷ [], refused 8 1)  -- no sunssf
     ∷ (model 1 ∷ point 9 8 1 ∷ groupBy 2 0 1 ∷ scaled 1 2 9 ∷ end ∷ end ∷ [], accepted 1)  -- of an enclosing group
     ∷ (model 1 ∷ groupBy 2 0 1 ∷ point 9 8 1 ∷ end ∷ groupBy 3 0 1 ∷ scaled 1 2 9 ∷ [], refused 8 5)  -- of another group
+    ∷ (model 1 ∷ scaled 1 2 9 ∷ (5 ∷ 0 ∷ 0 ∷ 0 ∷ 0 ∷ 0 ∷ 0 ∷ 0 ∷ []) ∷ point 9 8 1 ∷ [], refused 8 1)  -- behind the end of the run
+    ∷ (model 1 ∷ (3 ∷ 1 ∷ 4 ∷ 1 ∷ 2 ∷ 9 ∷ 0 ∷ 0 ∷ []) ∷ point 9 8 1 ∷ [], refused 8 1)  -- an enum16 carries none
     ∷ (model 1 ∷ groupBy 2 0 1 ∷ scaled 1 2 9 ∷ end ∷ point 9 8 1 ∷ [], refused 8 2)  -- and not 4 at frame 4
     -- 9
     ∷ (model 1 ∷ groupBy 1 3 1 ∷ [], refused 9 1)
@@ -101,7 +102,9 @@ cases =
     ∷ (model 1 ∷ point 1 4 1 ∷ groupBy 2 1 1 ∷ [], refused 9 2)  -- no uint16
     ∷ (model 1 ∷ (3 ∷ 1 ∷ 2 ∷ 1 ∷ 0 ∷ 0 ∷ 0 ∷ 1 ∷ []) ∷ groupBy 2 1 1 ∷ [], refused 9 2)  -- not R
     ∷ (model 1 ∷ groupBy 2 0 1 ∷ point 1 2 1 ∷ groupBy 3 1 1 ∷ [], refused 9 3)  -- not in the top group
+    ∷ (model 1 ∷ groupBy 2 1 1 ∷ point 3 1 1 ∷ end ∷ point 1 2 1 ∷ [], refused 9 1)  -- and not 4 at frame 4
     ∷ (model 1 ∷ groupBy 1 0 1 ∷ groupBy 2 2 0 ∷ [], refused 9 2)
+    ∷ (model 1 ∷ groupBy 1 2 0 ∷ groupBy 2 2 0 ∷ [], refused 9 2)
     ∷ (model 1 ∷ groupBy 1 2 1 ∷ [], refused 9 1)  -- and not 3
     -- 10, 11
     ∷ (model 1 ∷ end ∷ [], refused 10 1)

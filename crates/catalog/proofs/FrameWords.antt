@@ -82,7 +82,7 @@ zeros (w ∷ ws) e =
     let h = both (eqb w 0) (allZero ws) e in
     rw (eqb-true w 0 (h .0), ← zeros ws (h .1))
 
--- The words of a frame are those that its kind names and the zeros that it does not, ifZero it is malformed.
+-- The words of a frame are those that its kind names and the zeros that it does not, unless it is malformed.
 named-words : (named unnamed : List ℕ) (f : Frame) → wordsOf f ≡ named ++ replicate (length unnamed) 0
     → isMalformed (ifZero unnamed f) ≡ false → wordsOf (ifZero unnamed f) ≡ named ++ unnamed
 named-words named unnamed f e =
@@ -90,7 +90,7 @@ named-words named unnamed f e =
     (λ z m. e ∙ ap {B = List ℕ} (λ r. named ++ r) (sym (zeros unnamed z)))
     (λ z m. cc)
 
--- The words of the frame of eight words are these, ifZero it is malformed.
+-- The words of the frame of eight words are these, unless it is malformed.
 pub eight-back : (k a b c d e f g : ℕ) → isMalformed (frameOf k a b c d e f g) ≡ false
     → wordsOf (frameOf k a b c d e f g) ≡ k ∷ a ∷ b ∷ c ∷ d ∷ e ∷ f ∷ g ∷ []
 unfolding frameOf

@@ -44,7 +44,7 @@ pub point-size : (reach : List Point) (p : Point) → SoundPoint reach p → (1 
 point-size reach p s = type-size (p .typeCode) (p .size) (s .sized)
 
 -- Sound points, one or more, take at least one register.
-pub group-size : (reach ps : List Point) → 1 ≤ length ps → Each (SoundPoint reach) ps → 1 ≤ pointsSize ps
+group-size : (reach ps : List Point) → 1 ≤ length ps → Each (SoundPoint reach) ps → 1 ≤ pointsSize ps
 group-size reach [] l e = absurd (omega arith)
 group-size reach (p ∷ ps) l e = let s = point-size reach p (e .0) .0 in omega arith
 

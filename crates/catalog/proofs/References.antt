@@ -1,4 +1,4 @@
--- A reference to a scale factor or a count in a sound model resolves to a point.
+-- In an accepted catalog every reference to a scale factor or a count resolves to a point.
 use mathlib.Core.Path.{_≡_, refl, sym}
 use mathlib.Core.Bool.{Bool, true, false, _&&_, _||_}
 use mathlib.Core.List.{List, [], _∷_, _++_}
@@ -14,7 +14,7 @@ use Rattle.catalog.specs.Soundness.{SoundPoint, EachLowerGroup, In, firs
 use Rattle.catalog.proofs.TestLaws.{clash, both}
 use Rattle.catalog.proofs.EveryGroup.{of-lower-groups, of-models}
 
--- Where one of these points is such a point, there is one.
+-- Where the test finds such a point among these, here it is.
 point-found : (such : Point → Bool) (ps : List Point) → hasPoint such ps ≡ true → (p : Point) × (In p ps) × (such p ≡ true)
 point-found such [] e = clash (sym e)
 point-found such (p ∷ ps) e = go (such p) refl e (point-found such ps)
@@ -26,7 +26,7 @@ point-found such (p ∷ ps) e = go (such p) refl e (point-found such ps)
     go false h f behind = let r = behind f in (r .0, later (r .1), r .2)
 
 -- A scale reference names a sunssf point.
-pub scale-factor-found : (n : ℕ) (ps : List Point) → hasScaleFactor n ps ≡ true
+scale-factor-found : (n : ℕ) (ps : List Point) → hasScaleFactor n ps ≡ true
     → (p : Point) × (In p ps) × (p .number ≡ n) × (p .typeCode ≡ sunssf)
 scale-factor-found n ps e =
     let r = point-found (isScaleFactorPoint n) ps e in
@@ -35,7 +35,7 @@ scale-factor-found n ps e =
     (p, r .1, eqb-true (p .number) n (t .0), eqb-true (p .typeCode) sunssf (t .1))
 
 -- A count reference names a uint16 point with access R.
-pub count-point-found : (n : ℕ) (ps : List Point) → hasCountPoint n ps ≡ true
+count-point-found : (n : ℕ) (ps : List Point) → hasCountPoint n ps ≡ true
     → (p : Point) × (In p ps) × (p .number ≡ n) × (p .typeCode ≡ uint16) × (p .access ≡ readOnly)
 count-point-found n ps e =
     let r = point-found (isCountPoint n) ps e in

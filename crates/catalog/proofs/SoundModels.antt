@@ -76,7 +76,7 @@ no-fill top enclosing level (group k ps inside behind) h s =
     rw (constant, no-fill top (ps ++ enclosing) (suc level) inside (omega arith) (s .3))
     (no-fill top enclosing level behind h (s .4))
 
--- A sound group with a fill group at it or in it is a fill group and the last in its group.
+-- A sound group that is a fill group, or holds one, is the last in its group.
 fills-last : (top enclosing : List Point) (n : ℕ) (h : Head) (ps : List Point) (inside behind : Groups)
     → SoundGroups top enclosing (suc (suc n)) (group h ps inside behind) → anyFill inside (eqb (h .countKind) fill) ≡ true
     → behind ≡ noGroup

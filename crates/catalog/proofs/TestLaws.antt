@@ -26,7 +26,7 @@ pub both : (a b : Bool) → a && b ≡ true → (a ≡ true) × (b ≡ true)
 both true b e = (refl, e)
 both false b e = clash (sym e)
 
--- Not even one of two tests holds.
+-- Neither of two tests holds.
 pub neither : (a b : Bool) → (a || b ≡ false) ↔ ((a ≡ false) × (b ≡ false))
 neither true b = (λ e. clash e, λ h. h .0)
 neither false b = (λ e. (refl, e), λ h. h .1)

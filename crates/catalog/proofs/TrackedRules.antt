@@ -35,7 +35,7 @@ same-tests a b d e m x y p q r =
     ap (λ t. pointFault t d m x) p ∙ ap (λ t. pointFault b t m x) q ∙ ap (λ t. pointFault b e m t) r
 
 -- Nothing is ahead of the innermost group at a frame that is no point's.
-pub nothing-ahead : (ws : List ℕ) (i : ℕ) (b : Bool) → run (framesOnward ws i) ≡ [] → aheadOf ws i b ≡ []
+nothing-ahead : (ws : List ℕ) (i : ℕ) (b : Bool) → run (framesOnward ws i) ≡ [] → aheadOf ws i b ≡ []
 nothing-ahead ws i true e = refl
 nothing-ahead ws i false e = e
 

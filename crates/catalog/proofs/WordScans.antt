@@ -87,7 +87,8 @@ module _ (ws : List ℕ) (j k : ℕ) (h : j < length ws / 8) (q : k ≡ word ws 
 
 -- ---- The runs of the open groups
 
-pub has-either : (such : Point → Bool) (ps qs : List Point) → hasPoint such (ps ++ qs) ≡ hasPoint such ps || hasPoint such qs
+-- A point stands among these where it stands in one of the two parts.
+has-either : (such : Point → Bool) (ps qs : List Point) → hasPoint such (ps ++ qs) ≡ hasPoint such ps || hasPoint such qs
 has-either such [] qs = refl
 has-either such (p ∷ ps) qs = go (such p) (has-either such ps qs)
   where

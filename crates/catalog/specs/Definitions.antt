@@ -99,7 +99,7 @@ parsed (f ∷ fs) = inFront f (parsed fs)
 abbrev pub definitions : List ℕ → List Definition
 definitions ws = parsed (frames ws) .models
 
--- The ids of the model frames (document 01, "The map": an id is in the book when a model frame there has it).
+-- The ids of the model frames: those that a catalog, accepted or not, knows (document 01, "The map").
 abbrev pub modelIds : List Frame → List ℕ
 modelIds [] = []
 modelIds (modelFrame id ∷ fs) = id ∷ modelIds fs

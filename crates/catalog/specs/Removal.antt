@@ -1,5 +1,5 @@
--- Taking models out of a catalog (document 01, "The map": striking out a model takes its frames out of the book, from its
--- model frame to the end of its top group).
+-- Taking models out of a catalog (document 01, "The map", on striking out): all frames of a model go, from its model frame to
+-- its last end frame.
 use mathlib.Core.Bool.{Bool, true, false}
 use mathlib.Core.List.{List, [], _∷_}
 use Prim.Native.Nat.{ℕ, zero, suc}

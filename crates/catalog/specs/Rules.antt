@@ -10,7 +10,7 @@ use Rattle.values.specs.Classes.{twosComplement, isScaleFactor}
 use Rattle.catalog.specs.Frames.{Point, Head, Frame, modelFrame, groupFrame, pointFrame, endFrame, malformed, noScale, fixedScale, scaleByPoint, constantCount, countByPoint, fill, uint16, sunssf, readOnly}
 use Rattle.catalog.specs.State.{OpenGroup, State}
 
--- ---- What the rules look at (with no model open rule 4 decides first, so what these say then does not matter)
+-- ---- What the rules look at (where a rule behind 4 needs an open model, 4 has decided without one)
 
 -- Is a number one of these?
 abbrev pub among : ℕ → List ℕ → Bool
@@ -174,7 +174,7 @@ abbrev pub noPoint : List Point → Bool
 noPoint [] = true
 noPoint (p ∷ ps) = false
 
--- 10: the end of a lower group with no point of its own, or of a top group with neither point nor group.
+-- 10: a lower group ends without a point of its own, or a top group that holds nothing ends.
 abbrev pub isHollow : List OpenGroup → Frame → Bool
 isHollow ls (modelFrame id) = false
 isHollow ls (groupFrame h) = false

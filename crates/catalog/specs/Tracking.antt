@@ -114,11 +114,12 @@ Room c (pointFrame p) = Unit {0}
 Room c endFrame = 1 ≤ c .depth
 Room c malformed = Unit {0}
 
--- What is left of the run of the innermost open group before frame i: nothing once a group stands in it.
+-- What is left, from frame i on, of the run of the innermost open group: nothing once a group stands in it.
 abbrev pub aheadOf : List ℕ → ℕ → Bool → List Point
 aheadOf ws i hasGroup = elim hasGroup [ true ↦ [] | false ↦ run (framesOnward ws i) ]
 
--- Each open group's run of points is its points so far and then what is ahead; a group stands in each but the innermost.
+-- Each open group's run of points is its points so far, and for the innermost then what is ahead. A group stands in each of
+-- the others, and in the innermost where hasGroup says so.
 abbrev pub Opens : List ℕ → List ℕ → Bool → List Point → List OpenGroup → Type 0
 Opens ws firsts hasGroup ahead [] = Unit {0}
 Opens ws firsts hasGroup ahead (l ∷ ls) =

@@ -135,7 +135,7 @@ fn point_at(catalog: &[u16], i: usize) -> Point
     }
 }
 
-// Are the words of frame i from word `from` on all 0? At most seven are read.
+// Are the words of frame i from word `from` on all 0?
 fn zero_from(catalog: &[u16], i: usize, from: usize) -> bool
     requires { ⌜ (i < length (now catalog) / 8) × (from ≤ 8) ⌝ }
     ensures { λ r. ⌜ r ≡ zeroWords (now (catalog .entry)) i from (8 - from) ⌝ }

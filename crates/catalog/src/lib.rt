@@ -45,8 +45,9 @@ pub fn check(catalog: &[u16]) -> Checked
     check_frames(catalog)
 }
 
-// Checks the frames in order: the first fault decides, and at the end no model may be open. A frame costs
-// at most what its model has so far and the points of its open groups; a model frame, the frames before it.
+// Checks the frames in order: the first fault decides, and at the end no model may be open. A point
+// or group frame reads at most the frames of its model so far and the points of its open groups; a model
+// frame reads the frames before it.
 fn check_frames(catalog: &[u16]) -> Checked
     requires { ⌜ length (now catalog) / 8 ≤ 4096 ⌝ }
     ensures { λ r. ⌜ answer r ≡ framesChecked (now (catalog .entry)) ⌝ }

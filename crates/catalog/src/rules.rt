@@ -23,7 +23,7 @@ ghost use mathlib.Core.Path.{_≡_};
 ghost use mathlib.Core.Bool.{_&&_};
 ghost use Prim.Native.Nat.{_/_, _≤_, _<_};
 ghost use lib.Dec.{eqb};
-ghost use lib.ListN.{length, getD};
+ghost use lib.ListN.{length};
 ghost use Rattle.catalog.specs.Frames.{pointFrame};
 ghost use Rattle.catalog.specs.Rules.{isSizeOf, isMistyped, oneHolds, scaleFaults, countFaults, firstBroken};
 ghost use Rattle.catalog.specs.Scans.{runsOf};
@@ -51,7 +51,7 @@ pub(crate) fn fault_at(catalog: &[u16], i: usize, state: State, frame: Frame) ->
     }
 }
 
-// The rules of a model frame. The search for its id reads the frames before it: once for each model.
+// The rules of a model frame. The search for its id reads the frames before it at most once.
 fn model_fault(catalog: &[u16], i: usize, state: State, id: u16) -> Fault
     requires { ⌜ i < length (now catalog) / 8 ⌝ }
     ensures { λ r. ⌜ faultForm r ≡ firstBroken (modelRules (now (catalog .entry)) i state id) ⌝ }
@@ -134,7 +134,7 @@ fn end_fault(catalog: &[u16], i: usize, state: State) -> Fault
     if word_of(catalog, state.firsts[state.depth - 1], 0) == POINT {
         return Fault::Nothing;
     }
-    if state.depth != 1 {
+    if 1 < state.depth {
         return Fault::Rule(10);
     }
     if !state.has_group {
@@ -153,7 +153,7 @@ fn is_after_fill(state: State) -> bool
     state.has_fill
 }
 
-// Is the number of a point or group 0, or used in this model? Reads the frames of the model so far once.
+// Is the number of a point or group 0, or used in this model? Reads the frames of the model so far at most once.
 fn is_misnumbered(catalog: &[u16], i: usize, state: State, number: u16) -> bool
     requires { ⌜ i < length (now catalog) / 8 ⌝ }
     requires { ⌜ Within i state ⌝ }

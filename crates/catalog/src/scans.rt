@@ -34,7 +34,7 @@ fn has_number(catalog: &[u16], j: usize, low: u16, high: u16, number: u16) -> bo
 }
 
 // Does one of the frames from first up to, not including, end, of a kind from low to high, have this
-// number? Reads each of these frames once.
+// number? Reads each of these frames at most once.
 pub(crate) fn number_used(
     catalog: &[u16],
     first: usize,
@@ -77,7 +77,7 @@ fn is_sought(catalog: &[u16], j: usize, sought: Sought, number: u16) -> bool
 }
 
 // Is the point that is looked for in the unbroken run of point frames from frame `from` on? Reads the
-// run once.
+// run at most once.
 pub(crate) fn run_has(catalog: &[u16], from: usize, sought: Sought, number: u16) -> bool
     ensures { λ r. ⌜ r ≡ hasPoint (isSought sought number) (run (framesOnward (now (catalog .entry)) from)) ⌝ }
 {

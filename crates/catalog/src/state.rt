@@ -4,7 +4,6 @@ use crate::frames::Frame;
 use crate::frames::Head;
 ghost use mathlib.Core.Path.{_≡_};
 ghost use Prim.Native.Nat.{_<_, _≤_};
-ghost use lib.ListN.{length};
 ghost use Rattle.catalog.specs.Answers.{frameForm, headForm};
 ghost use Rattle.catalog.specs.Tracking.{Room, stateBehind, behindModel, behindGroup, behindEnd};
 

@@ -32,48 +32,44 @@ returns-2 c =
     let first = getD (s .args .t3 .firsts) (s .args .t3 .depth - 1) 0 in
     let p = s .pre .1 .passed (s .args .t3 .depth - 1) in
     let h : first < length (s .args .catalog .now) / 8 = omega (arith, p, s .pre .0) in
-    rw (
-      ne-eqb _ _ (c .before .before .before .if1 .left),
-      run-goes (s .args .catalog .now) first _ h (c .before .word-of .ensures) (c .if2 .taken),
-    )
+    let goes = run-goes (s .args .catalog .now) first _ h (c .before .word-of .ensures) (c .if2 .taken) in
+    rw (ne-eqb _ _ (c .before .before .before .if1 .left), goes)
 
 returns-3 : tie.Need-returns-3
 returns-3 c =
     let s = c .before .before .before .before .before .before in
-    let first = getD (s .args .t3 .firsts) (s .args .t3 .depth - 1) 0 in
-    let p = s .pre .1 .passed (s .args .t3 .depth - 1) in
+    let depth = s .args .t3 .depth in
+    let first = getD (s .args .t3 .firsts) (depth - 1) 0 in
+    let p = s .pre .1 .passed (depth - 1) in
     let h : first < length (s .args .catalog .now) / 8 = omega (arith, p, s .pre .0) in
-    rw (
-      ne-eqb _ _ (c .before .before .before .before .if1 .left),
-      run-ends (s .args .catalog .now) first _ h (c .before .before .word-of .ensures) (c .before .if2 .left),
-      ne-eqb _ _ (c .if3 .taken),
-    )
+    let ends = run-ends (s .args .catalog .now) first _ h (c .before .before .word-of .ensures) (c .before .if2 .left) in
+    rw (ne-eqb _ _ (c .before .before .before .before .if1 .left), ends, ne-eqb depth 1 (λ z. omega (arith, z, c .if3 .taken)))
 
 returns-4 : tie.Need-returns-4
 returns-4 c =
     let s = c .before .before .before .before .before .before .before in
-    let first = getD (s .args .t3 .firsts) (s .args .t3 .depth - 1) 0 in
-    let p = s .pre .1 .passed (s .args .t3 .depth - 1) in
+    let depth = s .args .t3 .depth in
+    let first = getD (s .args .t3 .firsts) (depth - 1) 0 in
+    let p = s .pre .1 .passed (depth - 1) in
     let h : first < length (s .args .catalog .now) / 8 = omega (arith, p, s .pre .0) in
-    rw (
-      ne-eqb _ _ (c .before .before .before .before .before .if1 .left),
-      run-ends (s .args .catalog .now) first _ h (c .before .before .before .word-of .ensures) (c .before .before .if2 .left),
-      eq-eqb _ _ (c .before .if3 .left),
-      not-true (s .args .t3 .«has_group») (c .if4 .taken),
-    )
+    let kind = c .before .before .before .word-of .ensures in
+    let ends = run-ends (s .args .catalog .now) first _ h kind (c .before .before .if2 .left) in
+    let some-open = c .before .before .before .before .before .if1 .left in
+    let one-open = eq-eqb depth 1 (omega (arith, some-open, c .before .if3 .left)) in
+    rw (ne-eqb _ _ some-open, ends, one-open, not-true (s .args .t3 .«has_group») (c .if4 .taken))
 
 returns-5 : tie.Need-returns-5
 returns-5 c =
     let s = c .before .before .before .before .before .before .before in
-    let first = getD (s .args .t3 .firsts) (s .args .t3 .depth - 1) 0 in
-    let p = s .pre .1 .passed (s .args .t3 .depth - 1) in
+    let depth = s .args .t3 .depth in
+    let first = getD (s .args .t3 .firsts) (depth - 1) 0 in
+    let p = s .pre .1 .passed (depth - 1) in
     let h : first < length (s .args .catalog .now) / 8 = omega (arith, p, s .pre .0) in
-    rw (
-      ne-eqb _ _ (c .before .before .before .before .before .if1 .left),
-      run-ends (s .args .catalog .now) first _ h (c .before .before .before .word-of .ensures) (c .before .before .if2 .left),
-      eq-eqb _ _ (c .before .if3 .left),
-      not-false (s .args .t3 .«has_group») (c .if4 .left),
-    )
+    let kind = c .before .before .before .word-of .ensures in
+    let ends = run-ends (s .args .catalog .now) first _ h kind (c .before .before .if2 .left) in
+    let some-open = c .before .before .before .before .before .if1 .left in
+    let one-open = eq-eqb depth 1 (omega (arith, some-open, c .before .if3 .left)) in
+    rw (ne-eqb _ _ some-open, ends, one-open, not-false (s .args .t3 .«has_group») (c .if4 .left))
 
 pub end-fault-spec : {M : Type 1} → statement M
 end-fault-spec =
