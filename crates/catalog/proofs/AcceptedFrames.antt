@@ -10,7 +10,7 @@ use lib.ListN.{length}
 use Rattle.values.specs.Each.{Each}
 use Rattle.catalog.specs.Frames.{Frame, modelFrame, groupFrame, pointFrame, endFrame, malformed, fill}
 use Rattle.catalog.specs.State.{OpenGroup, State, opened, withPoint, withGroup, closed, next}
-use Rattle.catalog.specs.Rules.{among, noModel, inTop, afterGroup, run, inReach, isHollow, rules}
+use Rattle.catalog.specs.Rules.{among, noModel, inTop, afterGroup, run, inReach, lacksContent, rules}
 use Rattle.catalog.specs.Checking.{accepted, checkFrom}
 use Rattle.catalog.specs.Soundness.{SoundPoint}
 use Rattle.catalog.proofs.TestLaws.{clash, none-broken}
@@ -27,7 +27,7 @@ Standing filled ls (groupFrame h ∷ fs) =
     × Standing (filled || eqb (h .countKind) fill) (withGroup ls) fs
 Standing filled ls (pointFrame p ∷ fs) =
     (noModel ls || afterGroup ls ≡ false) × SoundPoint (inReach ls (p ∷ run fs)) p × Standing filled (withPoint p ls) fs
-Standing filled ls (endFrame ∷ fs) = (noModel ls ≡ false) × (isHollow ls endFrame ≡ false) × Standing filled (closed ls) fs
+Standing filled ls (endFrame ∷ fs) = (noModel ls ≡ false) × (lacksContent ls endFrame ≡ false) × Standing filled (closed ls) fs
 Standing filled ls (malformed ∷ fs) = ⊥
 
 -- Behind models with these ids, and these numbers in the open model, the frames do not break rule 6, and end with n models.

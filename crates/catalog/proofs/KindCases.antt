@@ -1,16 +1,17 @@
 -- Rules 8 and 9 by the scale kind of a point and the count kind of a group.
 use mathlib.Core.Path.{_≡_, refl}
-use mathlib.Core.Bool.{Bool, true, false, not, _||_}
+use mathlib.Core.Bool.{Bool, true, false, not, _||_, or-true}
 use mathlib.Core.List.{List}
 use Prim.Native.Nat.{ℕ}
 use native.Mathlib.Omega.{arith}
-use borrow.Author.Tests.{lt-ltb}
+use borrow.Author.Tests.{ne-eqb, lt-ltb}
 use lib.Dec.{eqb, ltb}
 use Rattle.values.specs.Rows.{mayScale}
 use Rattle.values.specs.Classes.{twosComplement, isScaleFactor}
 use Rattle.catalog.specs.Frames.{Point, Head, noScale, fixedScale, scaleByPoint, constantCount, countByPoint, fill}
 use Rattle.catalog.specs.Rules.{oneHolds, scaleFaults, countFaults, hasScaleFactor, hasCountPoint}
 
+-- A test or nothing.
 or-nothing : (b : Bool) → b || false ≡ b
 or-nothing true = refl
 or-nothing false = refl
@@ -19,15 +20,13 @@ or-nothing false = refl
 over-2 : (k : ℕ) → (k ≡ 0 → ⊥) → (k ≡ 1 → ⊥) → (k ≡ 2 → ⊥) → ltb 2 k ≡ true
 over-2 k a b c = lt-ltb 2 k (omega (arith, a, b, c))
 
+-- Is rule 8 broken? By the scale kind: none, a type that may carry no scale factor, fixed, by a point, any other.
 module _ (reach : List Point) (p : Point) where
   pub no-scale : p .scaleKind ≡ noScale → oneHolds (scaleFaults reach p) ≡ not (eqb (p .scale) 0)
   no-scale e = rw e (or-nothing (not (eqb (p .scale) 0)))
 
-  pub fixed-not-scalable : p .scaleKind ≡ fixedScale → mayScale (p .typeCode) ≡ false → oneHolds (scaleFaults reach p) ≡ true
-  fixed-not-scalable e m = rw (e, m)
-
-  pub by-point-not-scalable : p .scaleKind ≡ scaleByPoint → mayScale (p .typeCode) ≡ false → oneHolds (scaleFaults reach p) ≡ true
-  by-point-not-scalable e m = rw (e, m)
+  pub not-scalable : (p .scaleKind ≡ noScale → ⊥) → mayScale (p .typeCode) ≡ false → oneHolds (scaleFaults reach p) ≡ true
+  not-scalable n m = rw (ne-eqb (p .scaleKind) noScale n, m) (or-true (ltb 2 (p .scaleKind)))
 
   pub fixed-scale : p .scaleKind ≡ fixedScale → mayScale (p .typeCode) ≡ true
       → oneHolds (scaleFaults reach p) ≡ not (isScaleFactor (twosComplement 16 (p .scale)))
@@ -41,6 +40,7 @@ module _ (reach : List Point) (p : Point) where
       → oneHolds (scaleFaults reach p) ≡ true
   scale-kind-over a b c = rw (over-2 (p .scaleKind) a b c)
 
+-- Is rule 9 broken? By the count kind: a constant, by a point, fill outside the top group and in it, any other.
 module _ (top : List Point) (direct : Bool) (h : Head) where
   pub constant-count : h .countKind ≡ constantCount → oneHolds (countFaults top direct h) ≡ eqb (h .count) 0
   constant-count e = rw e (or-nothing (eqb (h .count) 0))

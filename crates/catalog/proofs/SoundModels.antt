@@ -95,7 +95,7 @@ GroupsStand g =
     × (inTop (l ∷ ls) && filled ≡ true → g ≡ noGroup)
     × Standing (anyFill g filled) (past g l ∷ ls) fs)
 
--- What a group holds, to its end frame, stands in its place just where its points and groups are sound and it is not hollow.
+-- What a group holds, to its end frame, stands in its place just where its points and groups are sound and rule 10 holds.
 content-stands : (ps : List Point) (g : Groups) → GroupsStand g → (filled : Bool) (ls : List OpenGroup) (fs : List Frame)
     → noModel ls && filled ≡ false
     → Standing filled (opened ∷ ls) (contentFrames ps g fs)
@@ -113,7 +113,7 @@ content-stands ps g stand filled ls fs unfilled =
       λ w. own .1 (w .0, lower .1 (w .1, λ t. clash (sym t ∙ unfilled), (refl, w .2, w .3))),
     )
 
--- A lower group is not hollow just where it has a point of its own.
+-- Rule 10 of a lower group: it has a point of its own.
 has-point : (ps : List Point) → (noPoint ps && true ≡ false) ↔ (1 ≤ length ps)
 has-point [] = (λ e. clash e, λ h. absurd (omega arith))
 has-point (p ∷ ps) = (λ e. omega arith, λ h. refl)
@@ -164,7 +164,7 @@ groups-stand (group h ps inside behind) = group-stands h ps inside behind (group
 
 -- ---- Models
 
--- A top group is not hollow just where it has a point or a group.
+-- Rule 10 of a top group: it has a point or a group.
 has-content : (ps : List Point) (g : Groups) → (noPoint ps && not (anyGroup g false) ≡ false) ↔ (ps ≡ [] → g ≡ noGroup → ⊥)
 has-content [] noGroup = (λ e. clash e, λ h. absurd (h refl refl))
 has-content [] (group h ps inside behind) = (λ e p g. let z : _≡_ {A = ℕ} 0 1 = cc in omega arith, λ h. refl)

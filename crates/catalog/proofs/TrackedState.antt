@@ -23,13 +23,21 @@ use Rattle.catalog.proofs.OpenGroups.{one-deeper}
 use Rattle.catalog.proofs.TestLaws.{none-broken, clash, neither}
 use Rattle.catalog.proofs.TrackedRules.{no-point-ahead}
 
+-- Of four numbers, all but the first 0, none is over a bound on the first.
+first-alone : (n b : ℕ) → n ≤ b → (k : ℕ) → getD (n ∷ 0 ∷ 0 ∷ 0 ∷ []) k 0 ≤ b
+first-alone n b h zero = h
+first-alone n b h (suc zero) = omega arith
+first-alone n b h (suc (suc zero)) = omega arith
+first-alone n b h (suc (suc (suc zero))) = omega arith
+first-alone n b h (suc (suc (suc (suc k)))) = omega arith
+
 -- Before the first frame.
 pub tracks-start : (ws : List ℕ)
     → Tracks ws 0 (record { models = 0; depth = 0; firsts = 0 ∷ 0 ∷ 0 ∷ 0 ∷ []; «has_group» = false; «has_fill» = false }) start
 unfolding numbersBefore
 tracks-start ws =
     record {
-      within = record { few = omega arith; deep = omega arith; four = refl; passed = all-zero };
+      within = record { few = omega arith; deep = omega arith; four = refl; passed = first-alone 0 0 (omega arith) };
       models = refl;
       ids = refl;
       depth = refl;
@@ -37,13 +45,6 @@ tracks-start ws =
       hasFill = refl;
       openGroups = tt;
     }
-  where
-    all-zero : (k : ℕ) → getD (0 ∷ 0 ∷ 0 ∷ 0 ∷ []) k 0 ≤ 0
-    all-zero zero = omega arith
-    all-zero (suc zero) = omega arith
-    all-zero (suc (suc zero)) = omega arith
-    all-zero (suc (suc (suc zero))) = omega arith
-    all-zero (suc (suc (suc (suc k)))) = omega arith
 
 -- ---- Numbers of the frames so far
 
@@ -119,7 +120,7 @@ module _ (ws : List ℕ) (i : ℕ) (c : State) (s : check.State) (t : Tracks ws 
       let few = t .within .few in
       let none-yet : i + 1 - (i + 1) ≡ 0 = omega arith in
       record {
-        within = record { few = omega arith; deep = omega arith; four = refl; passed = here };
+        within = record { few = omega arith; deep = omega arith; four = refl; passed = first-alone (i + 1) (i + 1) (omega arith) };
         models = ap (λ n. n + 1) (t .models) ∙ add-one (length (s .ids));
         ids = id-added ws i c s t id (sym (ap (λ l. getD l 0 0) w)) (sym (ap (λ l. getD l 1 0) w));
         depth = refl;
@@ -127,13 +128,6 @@ module _ (ws : List ℕ) (i : ℕ) (c : State) (s : check.State) (t : Tracks ws 
         hasFill = refl;
         openGroups = (refl, refl, tt);
       }
-    where
-      here : (k : ℕ) → getD ((i + 1) ∷ 0 ∷ 0 ∷ 0 ∷ []) k 0 ≤ i + 1
-      here zero = omega arith
-      here (suc zero) = omega arith
-      here (suc (suc zero)) = omega arith
-      here (suc (suc (suc zero))) = omega arith
-      here (suc (suc (suc (suc k)))) = omega arith
 
   module _ (l : OpenGroup) (ls : List OpenGroup) (q : s .openGroups ≡ l ∷ ls) where
     depth-here : c .depth ≡ suc (length ls)

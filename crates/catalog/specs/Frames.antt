@@ -71,7 +71,7 @@ allZero (w ∷ ws) = eqb w 0 && allZero ws
 abbrev pub ifZero : List ℕ → Frame → Frame
 ifZero ws f = elim (allZero ws) [ true ↦ f | false ↦ malformed ]
 
--- The frame of eight words, the first of which is its kind: 1 model, 2 group, 3 point, 4 end.
+-- The frame of eight words: its kind (1 model, 2 group, 3 point, 4 end) and words 1 to 7, a to g.
 unfoldable pub frameOf : ℕ → ℕ → ℕ → ℕ → ℕ → ℕ → ℕ → ℕ → Frame
 frameOf kind a b c d e f g =
     elim (eqb kind 1) [

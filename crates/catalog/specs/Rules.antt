@@ -175,13 +175,13 @@ noPoint [] = true
 noPoint (p ∷ ps) = false
 
 -- 10: a lower group ends without a point of its own, or a top group that holds nothing ends.
-abbrev pub isHollow : List OpenGroup → Frame → Bool
-isHollow ls (modelFrame id) = false
-isHollow ls (groupFrame h) = false
-isHollow ls (pointFrame p) = false
-isHollow [] endFrame = false
-isHollow (l ∷ ls) endFrame = noPoint (l .points) && not (noModel ls && l .hasGroup)
-isHollow ls malformed = false
+abbrev pub lacksContent : List OpenGroup → Frame → Bool
+lacksContent ls (modelFrame id) = false
+lacksContent ls (groupFrame h) = false
+lacksContent ls (pointFrame p) = false
+lacksContent [] endFrame = false
+lacksContent (l ∷ ls) endFrame = noPoint (l .points) && not (noModel ls && l .hasGroup)
+lacksContent ls malformed = false
 
 -- ---- The rules in order
 
@@ -195,7 +195,7 @@ rules s f ahead =
     ∷ (isMistyped f, 7)
     ∷ (isMisscaled s ahead f, 8)
     ∷ (isMiscounted s f, 9)
-    ∷ (isHollow (s .openGroups) f, 10)
+    ∷ (lacksContent (s .openGroups) f, 10)
     ∷ []
 
 -- The number of the first rule that is broken, if one is.

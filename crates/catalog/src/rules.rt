@@ -200,20 +200,15 @@ fn is_misscaled(catalog: &[u16], state: State, point: Point) -> bool
     ensures { λ r. ⌜ r ≡ oneHolds (scaleFaults (runsOf (now (catalog .entry)) (state .firsts) (state .depth)) (pointForm point)) ⌝ }
 {
     let kind = point.scale_kind;
+    if kind == NO_SCALE {
+        return point.scale != 0;
+    }
+    if !values::scalable(point.type_code) {
+        return true;
+    }
     match kind {
-        NO_SCALE => point.scale != 0,
-        FIXED_SCALE => {
-            if !values::scalable(point.type_code) {
-                return true;
-            }
-            !values::scale_factor_in_range(point.scale)
-        }
-        SCALE_BY_POINT => {
-            if !values::scalable(point.type_code) {
-                return true;
-            }
-            !scale_factor_in_reach(catalog, state, point.scale)
-        }
+        FIXED_SCALE => !values::scale_factor_in_range(point.scale),
+        SCALE_BY_POINT => !scale_factor_in_reach(catalog, state, point.scale),
         _ => true,
     }
 }
