@@ -12,6 +12,7 @@ use Rattle.catalog.specs.Frames.{Frame, frameAt}
 use Rattle.catalog.specs.State as check
 use Rattle.catalog.specs.Rules.{run, noModel, firstBroken, fault}
 use Rattle.catalog.specs.Checking.{accepted, refused, checkFrom, framesChecked}
+use Rattle.catalog.specs.IdSets.{idsBehind, IdFits}
 use Rattle.catalog.specs.Scans.{framesOnward}
 use Rattle.catalog.specs.Tracking.{Tracks, Room, codeRules, stateBehind}
 use Rattle.catalog.specs.declared.state.State.{State}
@@ -20,40 +21,41 @@ use Rattle.catalog.proofs.CheckSteps as steps
 use Rattle.catalog.proofs.TrackedRules.{same-fault, none-open}
 use Rattle.catalog.proofs.TrackedState.{tracks-next, has-room}
 
--- Before frame i the code's state stands for one from which the rest decides.
-pub record Decides (ws : List ℕ) (i : ℕ) (c : State) : Type 0 where
+-- Before frame i the code's state and set of ids stand for a state from which the rest decides.
+pub record Decides (ws used : List ℕ) (i : ℕ) (c : State) : Type 0 where
   pub state : check.State
-  pub tracks : Tracks ws i c state
+  pub tracks : Tracks ws used i c state
   pub rest : checkFrom state i (framesOnward ws i) ≡ framesChecked ws
 
-module _ (ws : List ℕ) (i : ℕ) (c : State) (d : Decides ws i c) (f : Frame) (h : i < length ws / 8) (e : f ≡ frameAt ws i) where
+module _ (ws used : List ℕ) (i : ℕ) (c : State) (d : Decides ws used i c)
+    (f : Frame) (u : IdFits f) (h : i < length ws / 8) (e : f ≡ frameAt ws i) where
   frames-here : framesOnward ws i ≡ f ∷ framesOnward ws (i + 1)
   frames-here = frames-more ws i h ∙ ap (λ x. x ∷ framesOnward ws (i + 1)) (sym e)
 
-  fault-here : firstBroken (codeRules ws i c f) ≡ fault (d .state) f (run (framesOnward ws i))
+  fault-here : firstBroken (codeRules ws used i c f) ≡ fault (d .state) f (run (framesOnward ws i))
   fault-here =
-      same-fault ws i c (d .state) (d .tracks) f (framesOnward ws (i + 1)) frames-here
+      same-fault ws used i c (d .state) (d .tracks) f (framesOnward ws (i + 1)) u frames-here
       ∙ ap (λ fs. fault (d .state) f (run fs)) (sym frames-here)
 
-  pub room-here : none ≡ firstBroken (codeRules ws i c f) → Room c f
-  room-here n = has-room ws i c (d .state) (d .tracks) f (run (framesOnward ws i)) (sym (n ∙ fault-here))
+  pub room-here : none ≡ firstBroken (codeRules ws used i c f) → Room c f
+  room-here n = has-room ws used i c (d .state) (d .tracks) f (run (framesOnward ws i)) (sym (n ∙ fault-here))
 
-  pub goes-on : none ≡ firstBroken (codeRules ws i c f) → Decides ws (i + 1) (stateBehind c i f)
+  pub goes-on : none ≡ firstBroken (codeRules ws used i c f) → Decides ws (idsBehind used f) (i + 1) (stateBehind c i f)
   goes-on n =
       let unbroken = sym (n ∙ fault-here) in
       record {
         state = check.next (d .state) f;
-        tracks = tracks-next ws i c (d .state) (d .tracks) f (sym e) frames-here unbroken;
+        tracks = tracks-next ws used i c (d .state) (d .tracks) f u (sym e) frames-here unbroken;
         rest = sym (steps.goes-on (d .state) i f (framesOnward ws (i + 1)) (framesOnward ws i) frames-here unbroken) ∙ d .rest;
       }
 
-  pub refused-here : (r : ℕ) → some r ≡ firstBroken (codeRules ws i c f) → refused r i ≡ framesChecked ws
+  pub refused-here : (r : ℕ) → some r ≡ firstBroken (codeRules ws used i c f) → refused r i ≡ framesChecked ws
   refused-here r n =
       let broken = sym (n ∙ fault-here) in
       sym (steps.is-refused (d .state) i f (framesOnward ws (i + 1)) (framesOnward ws i) frames-here r broken) ∙ d .rest
 
 -- At the end.
-module _ (ws : List ℕ) (i : ℕ) (c : State) (d : Decides ws i c) (h : length ws / 8 ≤ i) where
+module _ (ws used : List ℕ) (i : ℕ) (c : State) (d : Decides ws used i c) (h : length ws / 8 ≤ i) where
   none-left : (b : Bool) → eqb (c .depth) 0 ≡ b → noModel (d .state .openGroups) ≡ b
   none-left b e = sym (none-open (c .depth) (d .state .openGroups) (d .tracks .depth)) ∙ e
 

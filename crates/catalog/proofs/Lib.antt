@@ -24,6 +24,7 @@ pub mod EveryGroup
 pub mod FrameKinds
 pub mod WordScans
 pub mod KindCases
+pub mod IdSetLaws
 pub mod OpenGroups
 pub mod TrackedRules
 pub mod TrackedState

@@ -3,7 +3,7 @@ use mathlib.Core.Path.{_≡_, refl, sym, ap, subst, _∙_}
 use mathlib.Core.Bool.{Bool, true, false, _||_}
 use mathlib.Core.List.{List, [], _∷_, append-nil}
 use mathlib.Core.Option.{Option}
-use Prim.Native.Nat.{ℕ, suc, _-_}
+use Prim.Native.Nat.{ℕ, suc, _-_, _<_}
 use native.Mathlib.Omega.{arith}
 use borrow.Author.Tests.{eq-eqb, ne-eqb}
 use lib.Dec.{eqb}
@@ -12,6 +12,7 @@ use Rattle.catalog.specs.Frames.{Point, Head, Frame, modelFrame, groupFr
 use Rattle.catalog.specs.State as check
 use Rattle.catalog.specs.State.{OpenGroup}
 use Rattle.catalog.specs.Rules.{run, inReach, among, oneHolds, noModel, isMisplaced, isMisnumbered, isMisscaled, isMistyped, scaleFaults, firstBroken, fault}
+use Rattle.catalog.specs.IdSets.{IdFits}
 use Rattle.catalog.specs.Scans.{framesOnward, runsOf}
 use Rattle.catalog.specs.Tracking.{Tracks, Opens, aheadOf, codeRules, wrongNumber}
 use Rattle.catalog.specs.declared.state.State.{State}
@@ -39,7 +40,7 @@ nothing-ahead : (ws : List ℕ) (i : ℕ) (b : Bool) → run (framesOnward ws i)
 nothing-ahead ws i true e = refl
 nothing-ahead ws i false e = e
 
-module _ (ws : List ℕ) (i : ℕ) (c : State) (s : check.State) (t : Tracks ws i c s) where
+module _ (ws used : List ℕ) (i : ℕ) (c : State) (s : check.State) (t : Tracks ws used i c s) where
   -- The open groups, at a frame that is no point's.
   pub no-point-ahead : run (framesOnward ws i) ≡ [] → Opens ws (c .firsts) (c .«has_group») [] (s .openGroups)
   no-point-ahead e =
@@ -47,14 +48,14 @@ module _ (ws : List ℕ) (i : ℕ) (c : State) (s : check.State) (t : Tracks ws 
       subst (λ (ps : List Point). Opens ws (c .firsts) (c .«has_group») ps (s .openGroups)) none-left (t .openGroups)
 
   -- The same fault, kind by kind.
-  model-fault : (id : ℕ) (ahead : List Point) → firstBroken (codeRules ws i c (modelFrame id)) ≡ fault s (modelFrame id) ahead
-  model-fault id ahead = rw (none-open (c .depth) (s .openGroups) (t .depth), t .ids)
+  model-fault : (id : ℕ) (ahead : List Point) → id < 65536 → firstBroken (codeRules ws used i c (modelFrame id)) ≡ fault s (modelFrame id) ahead
+  model-fault id ahead h = rw (none-open (c .depth) (s .openGroups) (t .depth), t .ids id h)
 
   group-fault : (h : Head) (ahead : List Point) → run (framesOnward ws i) ≡ []
-      → firstBroken (codeRules ws i c (groupFrame h)) ≡ fault s (groupFrame h) ahead
+      → firstBroken (codeRules ws used i c (groupFrame h)) ≡ fault s (groupFrame h) ahead
   group-fault h ahead e = go (s .openGroups) refl
     where
-      go : (ls : List OpenGroup) → s .openGroups ≡ ls → firstBroken (codeRules ws i c (groupFrame h)) ≡ fault s (groupFrame h) ahead
+      go : (ls : List OpenGroup) → s .openGroups ≡ ls → firstBroken (codeRules ws used i c (groupFrame h)) ≡ fault s (groupFrame h) ahead
       go [] q = rw (none-open (c .depth) [] (t .depth ∙ ap length q), q)
       go (l ∷ ls) q =
           let d : c .depth ≡ suc (length ls) = t .depth ∙ ap length q in
@@ -69,7 +70,7 @@ module _ (ws : List ℕ) (i : ℕ) (c : State) (s : check.State) (t : Tracks ws 
             q,
           )
 
-  point-fault : (p : Point) → firstBroken (codeRules ws i c (pointFrame p)) ≡ fault s (pointFrame p) (run (framesOnward ws i))
+  point-fault : (p : Point) → firstBroken (codeRules ws used i c (pointFrame p)) ≡ fault s (pointFrame p) (run (framesOnward ws i))
   point-fault p = go (s .openGroups) refl
     where
       opens : (l : OpenGroup) (ls : List OpenGroup) → s .openGroups ≡ l ∷ ls → (b : Bool) → c .«has_group» ≡ b
@@ -79,7 +80,7 @@ module _ (ws : List ℕ) (i : ℕ) (c : State) (s : check.State) (t : Tracks ws 
           (subst (Opens ws (c .firsts) (c .«has_group») (aheadOf ws i (c .«has_group»))) q (t .openGroups))
 
       inside : (l : OpenGroup) (ls : List OpenGroup) → s .openGroups ≡ l ∷ ls → (b : Bool) → c .«has_group» ≡ b
-          → firstBroken (codeRules ws i c (pointFrame p)) ≡ fault s (pointFrame p) (run (framesOnward ws i))
+          → firstBroken (codeRules ws used i c (pointFrame p)) ≡ fault s (pointFrame p) (run (framesOnward ws i))
       inside l ls q true g =
           rw (none-open (c .depth) (l ∷ ls) (t .depth ∙ ap length q), g, q, opens l ls q true g .1)
       inside l ls q false g =
@@ -97,15 +98,15 @@ module _ (ws : List ℕ) (i : ℕ) (c : State) (s : check.State) (t : Tracks ws 
           same-tests _ _ _ _ (isMistyped (pointFrame p)) _ _ placed numbered scaled
 
       go : (ls : List OpenGroup) → s .openGroups ≡ ls
-          → firstBroken (codeRules ws i c (pointFrame p)) ≡ fault s (pointFrame p) (run (framesOnward ws i))
+          → firstBroken (codeRules ws used i c (pointFrame p)) ≡ fault s (pointFrame p) (run (framesOnward ws i))
       go [] q = rw (none-open (c .depth) [] (t .depth ∙ ap length q), q)
       go (l ∷ ls) q = inside l ls q (c .«has_group») refl
 
   end-fault : (ahead : List Point) → run (framesOnward ws i) ≡ []
-      → firstBroken (codeRules ws i c endFrame) ≡ fault s endFrame ahead
+      → firstBroken (codeRules ws used i c endFrame) ≡ fault s endFrame ahead
   end-fault ahead e = go (s .openGroups) refl
     where
-      go : (ls : List OpenGroup) → s .openGroups ≡ ls → firstBroken (codeRules ws i c endFrame) ≡ fault s endFrame ahead
+      go : (ls : List OpenGroup) → s .openGroups ≡ ls → firstBroken (codeRules ws used i c endFrame) ≡ fault s endFrame ahead
       go [] q = rw (none-open (c .depth) [] (t .depth ∙ ap length q), q)
       go (l ∷ ls) q =
           let d : c .depth ≡ suc (length ls) = t .depth ∙ ap length q in
@@ -114,10 +115,10 @@ module _ (ws : List ℕ) (i : ℕ) (c : State) (s : check.State) (t : Tracks ws 
           rw (none-open (c .depth) (l ∷ ls) d, one-open (c .depth) ls d, m, o .0, append-nil (l .points), ← o .1, q)
 
   -- The same fault, whatever the frame.
-  pub same-fault : (f : Frame) (fs : List Frame) → framesOnward ws i ≡ f ∷ fs
-      → firstBroken (codeRules ws i c f) ≡ fault s f (run (f ∷ fs))
-  same-fault (modelFrame id) fs e = model-fault id []
-  same-fault (groupFrame h) fs e = group-fault h [] (ap run e)
-  same-fault (pointFrame p) fs e = point-fault p ∙ ap (λ fs. fault s (pointFrame p) (run fs)) e
-  same-fault endFrame fs e = end-fault [] (ap run e)
-  same-fault malformed fs e = refl
+  pub same-fault : (f : Frame) (fs : List Frame) → IdFits f → framesOnward ws i ≡ f ∷ fs
+      → firstBroken (codeRules ws used i c f) ≡ fault s f (run (f ∷ fs))
+  same-fault (modelFrame id) fs h e = model-fault id [] h
+  same-fault (groupFrame h) fs u e = group-fault h [] (ap run e)
+  same-fault (pointFrame p) fs u e = point-fault p ∙ ap (λ fs. fault s (pointFrame p) (run fs)) e
+  same-fault endFrame fs u e = end-fault [] (ap run e)
+  same-fault malformed fs u e = refl

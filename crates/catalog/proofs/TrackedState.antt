@@ -4,21 +4,22 @@ use mathlib.Core.Bool.{true, false, _&&_, _||_}
 use mathlib.Core.List.{List, [], _∷_, _++_, append-assoc}
 use mathlib.Core.Option.{none}
 use Prim.Native.Nat.{ℕ, zero, suc, _+_, _-_, _≤_, _<_}
-use native.Mathlib.Nat.{zero-add}
 use native.Mathlib.Numerals.{add-one}
 use native.Mathlib.Omega.{arith}
 use borrow.Author.Tests.{leb-false}
 use lib.Dec.{eqb, leb}
-use lib.ListN.{length, getD, set, length-set}
+use lib.ListN.{length, getD, set, length-set, replicate, length-replicate}
 use lib.Seq.{getD-set-same, getD-set-other}
 use Rattle.catalog.specs.Frames.{Point, Head, Frame, modelFrame, groupFrame, pointFrame, endFrame, malformed, word, frameAt, wordsOf, fill}
 use Rattle.catalog.specs.State as check
 use Rattle.catalog.specs.State.{OpenGroup, start, next}
 use Rattle.catalog.specs.Rules.{run, noModel, inTop, afterGroup, isMalformed, rules, fault}
-use Rattle.catalog.specs.Scans.{framesOnward, numbersBefore}
+use Rattle.catalog.specs.IdSets.{withId, idsBehind, IdFits}
+use Rattle.catalog.specs.Scans.{framesOnward, isNumbered, numbersBefore}
 use Rattle.catalog.specs.Tracking.{Within, Tracks, Opens, Room, aheadOf, stateBehind}
 use Rattle.catalog.specs.declared.state.State.{State}
 use Rattle.catalog.proofs.FrameWords.{eight-back}
+use Rattle.catalog.proofs.IdSetLaws.{none-in, in-with, length-with}
 use Rattle.catalog.proofs.OpenGroups.{one-deeper}
 use Rattle.catalog.proofs.TestLaws.{none-broken, clash, neither}
 use Rattle.catalog.proofs.TrackedRules.{no-point-ahead}
@@ -33,13 +34,14 @@ first-alone n b h (suc (suc (suc (suc k)))) = omega arith
 
 -- Before the first frame.
 pub tracks-start : (ws : List ℕ)
-    → Tracks ws 0 (record { models = 0; depth = 0; firsts = 0 ∷ 0 ∷ 0 ∷ 0 ∷ []; «has_group» = false; «has_fill» = false }) start
+    → Tracks ws (replicate 1024 0) 0 (record { models = 0; depth = 0; firsts = 0 ∷ 0 ∷ 0 ∷ 0 ∷ []; «has_group» = false; «has_fill» = false }) start
 unfolding numbersBefore
 tracks-start ws =
     record {
       within = record { few = omega arith; deep = omega arith; four = refl; passed = first-alone 0 0 (omega arith) };
       models = refl;
-      ids = refl;
+      words = length-replicate {A = ℕ} 1024 0;
+      ids = λ n h. none-in n h;
       depth = refl;
       numbers = λ h. absurd (omega (arith, h));
       hasFill = refl;
@@ -48,14 +50,14 @@ tracks-start ws =
 
 -- ---- Numbers of the frames so far
 
-module _ (ws : List ℕ) (low high first n i : ℕ) (e : first + n ≡ i) where
-  number-added : leb low (word ws i 0) && leb (word ws i 0) high ≡ true
-      → numbersBefore ws low high first (suc n) ≡ word ws i 1 ∷ numbersBefore ws low high first n
+module _ (ws : List ℕ) (first n i : ℕ) (e : first + n ≡ i) where
+  number-added : isNumbered ws i ≡ true
+      → numbersBefore ws first (suc n) ≡ word ws i 1 ∷ numbersBefore ws first n
   unfolding numbersBefore
   number-added h = let g = rw (← e) at h in rw (← e, numbersBefore, g)
 
-  nothing-added : leb low (word ws i 0) && leb (word ws i 0) high ≡ false
-      → numbersBefore ws low high first (suc n) ≡ numbersBefore ws low high first n
+  nothing-added : isNumbered ws i ≡ false
+      → numbersBefore ws first (suc n) ≡ numbersBefore ws first n
   unfolding numbersBefore
   nothing-added h = let g = rw (← e) at h in simp (numbersBefore, g)
 
@@ -70,29 +72,23 @@ words-here ws i f e =
     let back = eight-back (w 0) (w 1) (w 2) (w 3) (w 4) (w 5) (w 6) (w 7) in
     subst (λ x. isMalformed x ≡ false → wordsOf x ≡ eightWords ws i) e back
 
--- The ids and numbers so far, behind a frame of this kind and with this number.
-module _ (ws : List ℕ) (i : ℕ) (c : State) (s : check.State) (t : Tracks ws i c s) where
-  ids-kept : (k : ℕ) → word ws i 0 ≡ k → leb 1 k && leb k 1 ≡ false → s .ids ≡ numbersBefore ws 1 1 0 (i + 1)
-  ids-kept k e h = rw (add-one i, nothing-added ws 1 1 0 i i (zero-add i) (rw e h)) (t .ids)
-
-  id-added : (id : ℕ) → word ws i 0 ≡ 1 → word ws i 1 ≡ id → id ∷ s .ids ≡ numbersBefore ws 1 1 0 (i + 1)
-  id-added id e q = rw (add-one i, number-added ws 1 1 0 i i (zero-add i) (rw e), q) (ap (λ ns. id ∷ ns) (t .ids))
-
+-- The numbers so far, behind a frame of this kind and with this number.
+module _ (ws used : List ℕ) (i : ℕ) (c : State) (s : check.State) (t : Tracks ws used i c s) where
   numbers-kept : 1 ≤ c .depth → (k : ℕ) → word ws i 0 ≡ k → leb 2 k && leb k 3 ≡ false
-      → s .numbers ≡ numbersBefore ws 2 3 (getD (c .firsts) 0 0) (i + 1 - getD (c .firsts) 0 0)
+      → s .numbers ≡ numbersBefore ws (getD (c .firsts) 0 0) (i + 1 - getD (c .firsts) 0 0)
   numbers-kept d k e h =
       let p = t .within .passed 0 in
       let f = getD (c .firsts) 0 0 in
       let m : i + 1 - f ≡ suc (i - f) = omega arith in
-      rw (m, nothing-added ws 2 3 f (i - f) i (omega arith) (rw e h)) (t .numbers d)
+      rw (m, nothing-added ws f (i - f) i (omega arith) (rw e h)) (t .numbers d)
 
   number-more : 1 ≤ c .depth → (k n : ℕ) → word ws i 0 ≡ k → leb 2 k && leb k 3 ≡ true → word ws i 1 ≡ n
-      → n ∷ s .numbers ≡ numbersBefore ws 2 3 (getD (c .firsts) 0 0) (i + 1 - getD (c .firsts) 0 0)
+      → n ∷ s .numbers ≡ numbersBefore ws (getD (c .firsts) 0 0) (i + 1 - getD (c .firsts) 0 0)
   number-more d k n e h q =
       let p = t .within .passed 0 in
       let f = getD (c .firsts) 0 0 in
       let m : i + 1 - f ≡ suc (i - f) = omega arith in
-      rw (m, number-added ws 2 3 f (i - f) i (omega arith) (rw e h), q) (ap (λ ns. n ∷ ns) (t .numbers d))
+      rw (m, number-added ws f (i - f) i (omega arith) (rw e h), q) (ap (λ ns. n ∷ ns) (t .numbers d))
 
   -- The bounds of a state that stays, one frame later.
   later : Within (i + 1) c
@@ -111,18 +107,18 @@ still-bounded (x ∷ xs) (suc d) v b h g (suc k) = still-bounded xs d v b (λ j.
 
 -- ---- Behind each kind of frame
 
-module _ (ws : List ℕ) (i : ℕ) (c : State) (s : check.State) (t : Tracks ws i c s) where
-  behind-model : (id : ℕ) → frameAt ws i ≡ modelFrame id
-      → Tracks ws (i + 1) (stateBehind c i (modelFrame id)) (next s (modelFrame id))
+module _ (ws used : List ℕ) (i : ℕ) (c : State) (s : check.State) (t : Tracks ws used i c s) where
+  behind-model : (id : ℕ) → id < 65536
+      → Tracks ws (withId used id) (i + 1) (stateBehind c i (modelFrame id)) (next s (modelFrame id))
   unfolding numbersBefore
-  behind-model id e =
-      let w = words-here ws i (modelFrame id) e refl in
+  behind-model id u =
       let few = t .within .few in
       let none-yet : i + 1 - (i + 1) ≡ 0 = omega arith in
       record {
         within = record { few = omega arith; deep = omega arith; four = refl; passed = first-alone (i + 1) (i + 1) (omega arith) };
         models = ap (λ n. n + 1) (t .models) ∙ add-one (length (s .ids));
-        ids = id-added ws i c s t id (sym (ap (λ l. getD l 0 0) w)) (sym (ap (λ l. getD l 1 0) w));
+        words = length-with used id ∙ t .words;
+        ids = λ n h. in-with used id n (t .words) u ∙ ap (λ b. eqb n id || b) (t .ids n h);
         depth = refl;
         numbers = λ h. rw none-yet;
         hasFill = refl;
@@ -134,12 +130,12 @@ module _ (ws : List ℕ) (i : ℕ) (c : State) (s : check.State) (t : Tracks ws 
     depth-here = t .depth ∙ ap length q
 
     behind-group : (h : Head) → frameAt ws i ≡ groupFrame h → run (framesOnward ws i) ≡ [] → c .depth < 4
-        → Tracks ws (i + 1) (stateBehind c i (groupFrame h)) (next s (groupFrame h))
+        → Tracks ws used (i + 1) (stateBehind c i (groupFrame h)) (next s (groupFrame h))
     behind-group h e r deep =
         let w = words-here ws i (groupFrame h) e refl in
         let few = t .within .few in
         let d = depth-here in
-        let o = subst (Opens ws (c .firsts) (c .«has_group») []) q (no-point-ahead ws i c s t r) in
+        let o = subst (Opens ws (c .firsts) (c .«has_group») []) q (no-point-ahead ws used i c s t r) in
         let f = getD-set-other (c .firsts) (c .depth) 0 (i + 1) 0 (λ z. omega (arith, z, d)) in
         let four = t .within .four in
         let stored = getD-set-same (c .firsts) (c .depth) (i + 1) 0 (omega arith) in
@@ -156,15 +152,16 @@ module _ (ws : List ℕ) (i : ℕ) (c : State) (s : check.State) (t : Tracks ws 
             passed = still-bounded (c .firsts) (c .depth) (i + 1) (i + 1) passed (omega arith);
           };
           models = t .models;
-          ids = ids-kept ws i c s t 2 kind refl;
+          words = t .words;
+          ids = t .ids;
           depth = rw q (omega arith);
-          numbers = λ h. rw f (number-more ws i c s t (omega arith) 2 _ kind refl number);
+          numbers = λ h. rw f (number-more ws used i c s t (omega arith) 2 _ kind refl number);
           hasFill = ap (λ b. b || eqb (h .countKind) fill) (t .hasFill);
           openGroups = rw q (rw (← d, stored), refl, kept);
         }
 
     behind-point : (p : Point) → frameAt ws i ≡ pointFrame p → run (framesOnward ws i) ≡ p ∷ run (framesOnward ws (i + 1))
-        → l .hasGroup ≡ false → Tracks ws (i + 1) (stateBehind c i (pointFrame p)) (next s (pointFrame p))
+        → l .hasGroup ≡ false → Tracks ws used (i + 1) (stateBehind c i (pointFrame p)) (next s (pointFrame p))
     behind-point p e r g =
         let w = words-here ws i (pointFrame p) e refl in
         let d = depth-here in
@@ -175,42 +172,44 @@ module _ (ws : List ℕ) (i : ℕ) (c : State) (s : check.State) (t : Tracks ws 
         let behind = append-assoc (l .points) (p ∷ []) (run (framesOnward ws (i + 1))) in
         let moved = ap (λ ps. (l .points ++ (p ∷ [])) ++ ps) on ∙ behind in
         record {
-          within = later ws i c s t;
+          within = later ws used i c s t;
           models = t .models;
-          ids = ids-kept ws i c s t 3 (sym (ap (λ l. getD l 0 0) w)) refl;
+          words = t .words;
+          ids = t .ids;
           depth = rw q d;
-          numbers = λ h. number-more ws i c s t h 3 _ (sym (ap (λ l. getD l 0 0) w)) refl (sym (ap (λ l. getD l 1 0) w));
+          numbers = λ h. number-more ws used i c s t h 3 _ (sym (ap (λ l. getD l 0 0) w)) refl (sym (ap (λ l. getD l 1 0) w));
           hasFill = t .hasFill;
           openGroups = rw q (o .0 ∙ ap (λ ps. l .points ++ ps) same ∙ sym moved, o .1, o .2);
         }
 
     behind-end : frameAt ws i ≡ endFrame → run (framesOnward ws i) ≡ []
-        → Tracks ws (i + 1) (stateBehind c i endFrame) (next s endFrame)
+        → Tracks ws used (i + 1) (stateBehind c i endFrame) (next s endFrame)
     behind-end e r =
         let w = words-here ws i endFrame e refl in
         let few = t .within .few in
         let deep = t .within .deep in
         let d = depth-here in
         let kind = sym (ap (λ l. getD l 0 0) w) in
-        let o = subst (Opens ws (c .firsts) (c .«has_group») []) q (no-point-ahead ws i c s t r) in
+        let o = subst (Opens ws (c .firsts) (c .«has_group») []) q (no-point-ahead ws used i c s t r) in
         record {
           within = record {
             few = omega arith;
             deep = omega arith;
             four = t .within .four;
-            passed = later ws i c s t .passed;
+            passed = later ws used i c s t .passed;
           };
           models = t .models;
-          ids = ids-kept ws i c s t 4 kind refl;
+          words = t .words;
+          ids = t .ids;
           depth = rw q (omega arith);
-          numbers = λ h. numbers-kept ws i c s t (omega arith) 4 kind refl;
+          numbers = λ h. numbers-kept ws used i c s t (omega arith) 4 kind refl;
           hasFill = t .hasFill;
           openGroups = rw q (o .2);
         }
 
 -- ---- Whatever the frame
 
-module _ (ws : List ℕ) (i : ℕ) (c : State) (s : check.State) (t : Tracks ws i c s) where
+module _ (ws used : List ℕ) (i : ℕ) (c : State) (s : check.State) (t : Tracks ws used i c s) where
   -- With an open model there is an innermost open group.
   inside : (X : Type 0) → noModel (s .openGroups) ≡ false → ((l : OpenGroup) (ls : List OpenGroup) → s .openGroups ≡ l ∷ ls → X) → X
   inside X h k = go (s .openGroups) refl h
@@ -234,22 +233,22 @@ module _ (ws : List ℕ) (i : ℕ) (c : State) (s : check.State) (t : Tracks ws 
   has-room malformed ahead n = tt
 
   -- Behind a frame that breaks no rule.
-  pub tracks-next : (f : Frame) → frameAt ws i ≡ f → framesOnward ws i ≡ f ∷ framesOnward ws (i + 1)
-      → fault s f (run (framesOnward ws i)) ≡ none → Tracks ws (i + 1) (stateBehind c i f) (next s f)
-  tracks-next (modelFrame id) e a n = behind-model ws i c s t id e
-  tracks-next (groupFrame h) e a n =
+  pub tracks-next : (f : Frame) → IdFits f → frameAt ws i ≡ f → framesOnward ws i ≡ f ∷ framesOnward ws (i + 1)
+      → fault s f (run (framesOnward ws i)) ≡ none → Tracks ws (idsBehind used f) (i + 1) (stateBehind c i f) (next s f)
+  tracks-next (modelFrame id) u e a n = behind-model ws used i c s t id u
+  tracks-next (groupFrame h) u e a n =
       let b = none-broken (rules s (groupFrame h) (run (framesOnward ws i))) .0 n in
       let x = neither (noModel (s .openGroups)) (inTop (s .openGroups) && s .hasFill) .0 (b .1 .0) .0 in
       let room = has-room (groupFrame h) (run (framesOnward ws i)) n in
-      inside (Tracks ws (i + 1) (stateBehind c i (groupFrame h)) (next s (groupFrame h))) x
-      (λ l ls q. behind-group ws i c s t l ls q h e (ap run a) room)
-  tracks-next (pointFrame p) e a n =
+      inside (Tracks ws used (i + 1) (stateBehind c i (groupFrame h)) (next s (groupFrame h))) x
+      (λ l ls q. behind-group ws used i c s t l ls q h e (ap run a) room)
+  tracks-next (pointFrame p) u e a n =
       let b = none-broken (rules s (pointFrame p) (run (framesOnward ws i))) .0 n in
       let x = neither (noModel (s .openGroups)) (afterGroup (s .openGroups)) .0 (b .1 .0) in
-      inside (Tracks ws (i + 1) (stateBehind c i (pointFrame p)) (next s (pointFrame p))) (x .0)
-      (λ l ls q. behind-point ws i c s t l ls q p e (ap run a) (sym (ap afterGroup q) ∙ x .1))
-  tracks-next endFrame e a n =
+      inside (Tracks ws used (i + 1) (stateBehind c i (pointFrame p)) (next s (pointFrame p))) (x .0)
+      (λ l ls q. behind-point ws used i c s t l ls q p e (ap run a) (sym (ap afterGroup q) ∙ x .1))
+  tracks-next endFrame u e a n =
       let b = none-broken (rules s endFrame (run (framesOnward ws i))) .0 n in
-      inside (Tracks ws (i + 1) (stateBehind c i endFrame) (next s endFrame)) (b .1 .0)
-      (λ l ls q. behind-end ws i c s t l ls q e (ap run a))
-  tracks-next malformed e a n = let z : _≡_ {A = ℕ} 0 1 = cc in absurd (omega arith)
+      inside (Tracks ws used (i + 1) (stateBehind c i endFrame) (next s endFrame)) (b .1 .0)
+      (λ l ls q. behind-end ws used i c s t l ls q e (ap run a))
+  tracks-next malformed u e a n = let z : _≡_ {A = ℕ} 0 1 = cc in absurd (omega arith)

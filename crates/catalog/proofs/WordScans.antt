@@ -6,11 +6,11 @@ use Prim.Native.Nat.{ℕ, suc, _+_, _-_, _/_, _≤_, _<_}
 use native.Mathlib.Numerals.{add-one}
 use native.Mathlib.Omega.{arith}
 use borrow.Author.Tests.{eq-eqb, ne-eqb}
-use lib.Dec.{eqb, leb}
+use lib.Dec.{eqb}
 use lib.ListN.{length, getD}
 use Rattle.catalog.specs.Frames.{Point, word, frameAt, framesFrom}
 use Rattle.catalog.specs.Rules.{among, run, hasPoint, hasScaleFactor, isScaleFactorPoint}
-use Rattle.catalog.specs.Scans.{zeroWords, hasNumber, numbersBefore, isSought, framesOnward, pointWords, runsOf}
+use Rattle.catalog.specs.Scans.{zeroWords, isNumbered, hasNumber, numbersBefore, isSought, framesOnward, pointWords, runsOf}
 use Rattle.catalog.specs.declared.scans.Sought.{Sought}
 use Rattle.catalog.proofs.FrameKinds as kinds
 
@@ -32,15 +32,13 @@ module _ (ws : List ℕ) (i k n : ℕ) where
 
 -- ---- Numbers of frames
 
-module _ (ws : List ℕ) (low high first number : ℕ) where
+module _ (ws : List ℕ) (first number : ℕ) where
   -- One frame more.
   number-more : (m : ℕ)
-      → among number (numbersBefore ws low high first (suc m))
-      ≡ hasNumber ws low high number (first + m) || among number (numbersBefore ws low high first m)
+      → among number (numbersBefore ws first (suc m))
+      ≡ hasNumber ws number (first + m) || among number (numbersBefore ws first m)
   unfolding numbersBefore
-  number-more m =
-      let k = word ws (first + m) 0 in
-      go (word ws (first + m) 1) (numbersBefore ws low high first m) (leb low k && leb k high)
+  number-more m = go (word ws (first + m) 1) (numbersBefore ws first m) (isNumbered ws (first + m))
     where
       go : (w : ℕ) (ns : List ℕ) (b : Bool)
           → among number (elim b [ true ↦ w ∷ ns | false ↦ ns ]) ≡ (b && eqb number w) || among number ns
@@ -48,14 +46,14 @@ module _ (ws : List ℕ) (low high first number : ℕ) where
       go w ns false = refl
 
   module _ (n m j : ℕ) (e : n ≡ m + 1) (q : j ≡ first + m) where
-    pub number-here : hasNumber ws low high number j ≡ true → among number (numbersBefore ws low high first n) ≡ true
+    pub number-here : hasNumber ws number j ≡ true → among number (numbersBefore ws first n) ≡ true
     number-here h = rw (e, add-one m, number-more m, ← q, h)
 
-    pub number-not-here : hasNumber ws low high number j ≡ false
-        → among number (numbersBefore ws low high first n) ≡ among number (numbersBefore ws low high first m)
+    pub number-not-here : hasNumber ws number j ≡ false
+        → among number (numbersBefore ws first n) ≡ among number (numbersBefore ws first m)
     number-not-here h = rw (e, add-one m, number-more m, ← q, h)
 
-  pub number-nowhere : (n : ℕ) → n ≤ 0 → among number (numbersBefore ws low high first n) ≡ false
+  pub number-nowhere : (n : ℕ) → n ≤ 0 → among number (numbersBefore ws first n) ≡ false
   unfolding numbersBefore
   number-nowhere n h = let e : n ≡ 0 = omega arith in rw e
 

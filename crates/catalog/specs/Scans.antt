@@ -17,17 +17,21 @@ zeroWords ws i k (suc n) = eqb (word ws i k) 0 && zeroWords ws i (suc k) n
 abbrev pub framesOnward : List ℕ → ℕ → List Frame
 framesOnward ws i = framesFrom ws i (length ws / 8 - i)
 
--- Is frame j of a kind from low to high, with this number?
-abbrev pub hasNumber : List ℕ → ℕ → ℕ → ℕ → ℕ → Bool
-hasNumber ws low high number j = leb low (word ws j 0) && leb (word ws j 0) high && eqb number (word ws j 1)
+-- Is frame j a group's or a point's (kind 2 or 3)?
+abbrev pub isNumbered : List ℕ → ℕ → Bool
+isNumbered ws j = leb 2 (word ws j 0) && leb (word ws j 0) 3
 
--- The numbers of n frames from frame `first` on, where their kind is from low to high, the last first.
-unfoldable pub numbersBefore : List ℕ → ℕ → ℕ → ℕ → ℕ → List ℕ
-numbersBefore ws low high first zero = []
-numbersBefore ws low high first (suc n) =
-    elim (leb low (word ws (first + n) 0) && leb (word ws (first + n) 0) high) [
-      | true ↦ word ws (first + n) 1 ∷ numbersBefore ws low high first n
-      | false ↦ numbersBefore ws low high first n
+-- Is it one, with this number?
+abbrev pub hasNumber : List ℕ → ℕ → ℕ → Bool
+hasNumber ws number j = isNumbered ws j && eqb number (word ws j 1)
+
+-- The numbers of the groups and points of n frames from frame `first` on, the last first.
+unfoldable pub numbersBefore : List ℕ → ℕ → ℕ → List ℕ
+numbersBefore ws first zero = []
+numbersBefore ws first (suc n) =
+    elim (isNumbered ws (first + n)) [
+      | true ↦ word ws (first + n) 1 ∷ numbersBefore ws first n
+      | false ↦ numbersBefore ws first n
     ]
 
 -- The head of group frame j, by its words.

@@ -10,6 +10,7 @@ use Rattle.catalog.specs.Frames.{Point, Head, Frame, modelFrame, groupFr
 use Rattle.catalog.specs.State as check
 use Rattle.catalog.specs.State.{OpenGroup}
 use Rattle.catalog.specs.Rules.{among, run, noPoint, isMistyped, oneHolds, scaleFaults, countFaults}
+use Rattle.catalog.specs.IdSets.{inSet}
 use Rattle.catalog.specs.Scans.{framesOnward, numbersBefore, runsOf}
 use Rattle.catalog.specs.declared.state.State.{State}
 
@@ -22,14 +23,11 @@ runIn ws c k = run (framesOnward ws (getD (c .firsts) k 0))
 -- Is a point's or group's number wrong?
 abbrev pub wrongNumber : List ℕ → ℕ → State → ℕ → Bool
 wrongNumber ws i c n =
-    eqb n 0 || among n (numbersBefore ws 2 3 (getD (c .firsts) 0 0) (i - getD (c .firsts) 0 0))
+    eqb n 0 || among n (numbersBefore ws (getD (c .firsts) 0 0) (i - getD (c .firsts) 0 0))
 
 -- The rules of a model frame, a group frame, a point frame and an end frame that can be broken, in order.
-abbrev pub modelRules : List ℕ → ℕ → State → ℕ → List (Bool × ℕ)
-modelRules ws i c id =
-    (not (eqb (c .depth) 0), 4)
-    ∷ (eqb id 0 || eqb id 65535 || among id (numbersBefore ws 1 1 0 i), 6)
-    ∷ []
+abbrev pub modelRules : List ℕ → State → ℕ → List (Bool × ℕ)
+modelRules used c id = (not (eqb (c .depth) 0), 4) ∷ (eqb id 0 || eqb id 65535 || inSet used id, 6) ∷ []
 
 abbrev pub groupRules : List ℕ → ℕ → State → Head → List (Bool × ℕ)
 groupRules ws i c h =
@@ -54,13 +52,13 @@ endRules ws c =
     ∷ (noPoint (runIn ws c (c .depth - 1)) && not (eqb (c .depth) 1 && c .«has_group»), 10)
     ∷ []
 
--- The rules of a frame.
-abbrev pub codeRules : List ℕ → ℕ → State → Frame → List (Bool × ℕ)
-codeRules ws i c (modelFrame id) = modelRules ws i c id
-codeRules ws i c (groupFrame h) = groupRules ws i c h
-codeRules ws i c (pointFrame p) = pointRules ws i c p
-codeRules ws i c endFrame = endRules ws c
-codeRules ws i c malformed = (true, 3) ∷ []
+-- The rules of a frame, where `used` is the set of the ids so far.
+abbrev pub codeRules : List ℕ → List ℕ → ℕ → State → Frame → List (Bool × ℕ)
+codeRules ws used i c (modelFrame id) = modelRules used c id
+codeRules ws used i c (groupFrame h) = groupRules ws i c h
+codeRules ws used i c (pointFrame p) = pointRules ws i c p
+codeRules ws used i c endFrame = endRules ws c
+codeRules ws used i c malformed = (true, 3) ∷ []
 
 -- ---- The code's state behind frame i
 
@@ -125,12 +123,13 @@ Opens ws firsts hasGroup ahead [] = Unit {0}
 Opens ws firsts hasGroup ahead (l ∷ ls) =
     (run (framesOnward ws (getD firsts (length ls) 0)) ≡ l .points ++ ahead) × (l .hasGroup ≡ hasGroup) × Opens ws firsts true [] ls
 
--- The code's state stands for a state of the check before frame i.
-pub record Tracks (ws : List ℕ) (i : ℕ) (c : State) (s : check.State) : Type 0 where
+-- The code's state and its set of ids stand for a state of the check before frame i.
+pub record Tracks (ws used : List ℕ) (i : ℕ) (c : State) (s : check.State) : Type 0 where
   pub within : Within i c
   pub models : c .models ≡ length (s .ids)
-  pub ids : s .ids ≡ numbersBefore ws 1 1 0 i
+  pub words : length used ≡ 1024
+  pub ids : (n : ℕ) → n < 65536 → inSet used n ≡ among n (s .ids)
   pub depth : c .depth ≡ length (s .openGroups)
-  pub numbers : 1 ≤ c .depth → s .numbers ≡ numbersBefore ws 2 3 (getD (c .firsts) 0 0) (i - getD (c .firsts) 0 0)
+  pub numbers : 1 ≤ c .depth → s .numbers ≡ numbersBefore ws (getD (c .firsts) 0 0) (i - getD (c .firsts) 0 0)
   pub hasFill : c .«has_fill» ≡ s .hasFill
   pub openGroups : Opens ws (c .firsts) (c .«has_group») (aheadOf ws i (c .«has_group»)) (s .openGroups)

@@ -4,6 +4,7 @@ ghost use Prim.Native.Nat.{_/_, _-_, _<_, _≤_};
 ghost use lib.ListN.{length};
 ghost use Rattle.catalog.specs.Frames.{word, frameAt};
 ghost use Rattle.catalog.specs.Answers.{frameForm, headForm, pointForm};
+ghost use Rattle.catalog.specs.IdSets.{IdFits};
 ghost use Rattle.catalog.specs.Scans.{headWords, pointWords, zeroWords};
 
 // The words of a frame.
@@ -80,6 +81,7 @@ pub(crate) fn word_of(catalog: &[u16], i: usize, k: usize) -> u16
 pub(crate) fn frame_at(catalog: &[u16], i: usize) -> Frame
     requires { ⌜ i < length (now catalog) / 8 ⌝ }
     ensures { λ r. ⌜ frameForm r ≡ frameAt (now (catalog .entry)) i ⌝ }
+    ensures { λ r. ⌜ IdFits (frameForm r) ⌝ }
 {
     let kind = word_of(catalog, i, 0);
     match kind {

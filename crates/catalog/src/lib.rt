@@ -1,11 +1,14 @@
 // Checks a catalog of model definitions (refusals 1 to 11). `check` takes any words and writes nothing.
 mod frames;
+mod idset;
 mod rules;
 mod scans;
 mod state;
 
 use frames::WORDS;
 use frames::frame_at;
+use idset::SET_WORDS;
+use idset::put_frame_in;
 use rules::Fault;
 use rules::fault_at;
 use state::State;
@@ -46,8 +49,7 @@ pub fn check(catalog: &[u16]) -> Checked
 }
 
 // Checks the frames in order: the first fault decides, and at the end no model may be open. A point
-// or group frame reads at most the frames of its model so far and the points of its open groups; a model
-// frame reads the frames before it.
+// or group frame reads at most the frames of its model so far and the points of its open groups.
 fn check_frames(catalog: &[u16]) -> Checked
     requires { ⌜ length (now catalog) / 8 ≤ 4096 ⌝ }
     ensures { λ r. ⌜ answer r ≡ framesChecked (now (catalog .entry)) ⌝ }
@@ -60,12 +62,14 @@ fn check_frames(catalog: &[u16]) -> Checked
         has_group: false,
         has_fill: false,
     };
+    let mut ids = [0u64; SET_WORDS];
     let mut i = 0;
     while i < frames {
         let frame = frame_at(catalog, i);
-        let fault = fault_at(catalog, i, state, frame);
+        let fault = fault_at(catalog, &ids, i, state, frame);
         match fault {
             Fault::Nothing => {
+                put_frame_in(&mut ids, frame);
                 state = behind(state, i, frame);
             }
             Fault::Rule(number) => {

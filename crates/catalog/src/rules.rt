@@ -4,14 +4,13 @@ use crate::frames::COUNT_BY_POINT;
 use crate::frames::FILL;
 use crate::frames::FIXED_SCALE;
 use crate::frames::Frame;
-use crate::frames::GROUP;
 use crate::frames::Head;
-use crate::frames::MODEL;
 use crate::frames::NO_SCALE;
 use crate::frames::POINT;
 use crate::frames::Point;
 use crate::frames::SCALE_BY_POINT;
 use crate::frames::word_of;
+use crate::idset::is_in;
 use crate::scans::Sought;
 use crate::scans::number_used;
 use crate::scans::run_has;
@@ -36,14 +35,14 @@ pub(crate) enum Fault {
     Rule(u16),
 }
 
-// The fault of frame i, which is `frame`.
-pub(crate) fn fault_at(catalog: &[u16], i: usize, state: State, frame: Frame) -> Fault
-    requires { ⌜ i < length (now catalog) / 8 ⌝ }
+// The fault of frame i, which is `frame`, behind models with these ids.
+pub(crate) fn fault_at(catalog: &[u16], ids: &[u64], i: usize, state: State, frame: Frame) -> Fault
+    requires { ⌜ (i < length (now catalog) / 8) × (length (now ids) ≡ 1024) ⌝ }
     requires { ⌜ Within i state ⌝ }
-    ensures { λ r. ⌜ faultForm r ≡ firstBroken (codeRules (now (catalog .entry)) i state (frameForm frame)) ⌝ }
+    ensures { λ r. ⌜ faultForm r ≡ firstBroken (codeRules (now (catalog .entry)) (now (ids .entry)) i state (frameForm frame)) ⌝ }
 {
     match frame {
-        Frame::Model(id) => model_fault(catalog, i, state, id),
+        Frame::Model(id) => model_fault(ids, state, id),
         Frame::Group(head) => group_fault(catalog, i, state, head),
         Frame::Point(point) => point_fault(catalog, i, state, point),
         Frame::End => end_fault(catalog, i, state),
@@ -51,10 +50,10 @@ pub(crate) fn fault_at(catalog: &[u16], i: usize, state: State, frame: Frame) ->
     }
 }
 
-// The rules of a model frame. The search for its id reads the frames before it at most once.
-fn model_fault(catalog: &[u16], i: usize, state: State, id: u16) -> Fault
-    requires { ⌜ i < length (now catalog) / 8 ⌝ }
-    ensures { λ r. ⌜ faultForm r ≡ firstBroken (modelRules (now (catalog .entry)) i state id) ⌝ }
+// The rules of a model frame.
+fn model_fault(ids: &[u64], state: State, id: u16) -> Fault
+    requires { ⌜ length (now ids) ≡ 1024 ⌝ }
+    ensures { λ r. ⌜ faultForm r ≡ firstBroken (modelRules (now (ids .entry)) state id) ⌝ }
 {
     if state.depth != 0 {
         return Fault::Rule(4);
@@ -65,7 +64,7 @@ fn model_fault(catalog: &[u16], i: usize, state: State, id: u16) -> Fault
     if id == 65535 {
         return Fault::Rule(6);
     }
-    if number_used(catalog, 0, i, MODEL, MODEL, id) {
+    if is_in(ids, id) {
         return Fault::Rule(6);
     }
     Fault::Nothing
@@ -162,7 +161,7 @@ fn is_misnumbered(catalog: &[u16], i: usize, state: State, number: u16) -> bool
     if number == 0 {
         return true;
     }
-    number_used(catalog, state.firsts[0], i, GROUP, POINT, number)
+    number_used(catalog, state.firsts[0], i, number)
 }
 
 // Is the type unknown, the size wrong, or mandatory or access not 0 or 1?

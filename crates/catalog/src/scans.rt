@@ -1,4 +1,5 @@
 // Searches over frames. Each reads every frame of its stretch once at most.
+use crate::frames::GROUP;
 use crate::frames::POINT;
 use crate::frames::READ_ONLY;
 use crate::frames::SUNSSF;
@@ -18,38 +19,31 @@ pub(crate) enum Sought {
     CountPoint,
 }
 
-// Does frame j, of a kind from low to high, have this number?
-fn has_number(catalog: &[u16], j: usize, low: u16, high: u16, number: u16) -> bool
+// Is frame j a group's or a point's, with this number?
+fn has_number(catalog: &[u16], j: usize, number: u16) -> bool
     requires { ⌜ j < length (now catalog) / 8 ⌝ }
-    ensures { λ r. ⌜ r ≡ hasNumber (now (catalog .entry)) low high number j ⌝ }
+    ensures { λ r. ⌜ r ≡ hasNumber (now (catalog .entry)) number j ⌝ }
 {
     let kind = word_of(catalog, j, 0);
-    if kind < low {
+    if kind < GROUP {
         return false;
     }
-    if high < kind {
+    if POINT < kind {
         return false;
     }
     number == word_of(catalog, j, 1)
 }
 
-// Does one of the frames from first up to, not including, end, of a kind from low to high, have this
-// number? Reads each of these frames at most once.
-pub(crate) fn number_used(
-    catalog: &[u16],
-    first: usize,
-    end: usize,
-    low: u16,
-    high: u16,
-    number: u16,
-) -> bool
+// Does a group or a point of the frames from first up to, not including, end have this number? Reads each
+// of these frames at most once.
+pub(crate) fn number_used(catalog: &[u16], first: usize, end: usize, number: u16) -> bool
     requires { ⌜ (first ≤ end) × (end ≤ length (now catalog) / 8) ⌝ }
-    ensures { λ r. ⌜ r ≡ among number (numbersBefore (now (catalog .entry)) low high first (end - first)) ⌝ }
+    ensures { λ r. ⌜ r ≡ among number (numbersBefore (now (catalog .entry)) first (end - first)) ⌝ }
 {
     let mut j = end;
     while first < j {
         j -= 1;
-        if has_number(catalog, j, low, high, number) {
+        if has_number(catalog, j, number) {
             return true;
         }
     }

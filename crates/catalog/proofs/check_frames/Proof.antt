@@ -12,10 +12,10 @@ use Rattle.catalog.proofs.check_frames.Statement.{statement}
 use Rattle.catalog.proofs.check_frames.Tie as tie
 
 abbrev Inv-loop : tie.InvT-loop
-Inv-loop catalog frames state₀ i₀ state i = (i ≤ frames) × frame.Decides catalog i state
+Inv-loop catalog frames state₀ ids₀ i₀ state ids i = (i ≤ frames) × frame.Decides catalog ids i state
 
 abbrev μ-loop : tie.MeasureT-loop
-μ-loop catalog frames state₀ i₀ state i = frames - i
+μ-loop catalog frames state₀ ids₀ i₀ state ids i = frames - i
 
 loop-holds : tie.Need-loop-holds Inv-loop μ-loop
 loop-holds c =
@@ -25,18 +25,28 @@ loop-holds c =
 frame-at-requires : tie.Need-frame-at-requires Inv-loop μ-loop
 frame-at-requires c κs = search needs
 
+slice-aggregate-fault-at : tie.Need-slice-aggregate-fault-at Inv-loop μ-loop
+slice-aggregate-fault-at c = sym (c .before .before .before .loop .inv .1 .tracks .words)
+
 fault-at-requires : tie.Need-fault-at-requires Inv-loop μ-loop
-fault-at-requires c κs = (search needs, c .before .before .loop .inv .1 .tracks .within)
+fault-at-requires c κs = let d = c .before .before .before .loop .inv .1 .tracks in ((search needs, d .words), d .within)
 
 enum-told : tie.Need-enum-told Inv-loop μ-loop
 enum-told c = search needs
 
+slice-aggregate-put-frame-in : tie.Need-slice-aggregate-put-frame-in Inv-loop μ-loop
+slice-aggregate-put-frame-in c = sym (c .before .before .before .before .before .before .before .loop .inv .1 .tracks .words)
+
+put-frame-in-requires : tie.Need-put-frame-in-requires Inv-loop μ-loop
+put-frame-in-requires c κs = c .before .before .before .before .before .before .before .loop .inv .1 .tracks .words
+
 behind-requires : tie.Need-behind-requires Inv-loop μ-loop
 behind-requires c κs =
-    let l = c .before .before .before .before .before .loop in
-    let f = c .before .before .before .frame-at in
-    let unbroken = sym (ap faultForm (c .enum-told .given .1)) ∙ c .before .before .fault-at .ensures in
-    let room = frame.room-here _ (l .i) (l .state) (l .inv .1) (frameForm (f .result)) (omega arith) (f .ensures) unbroken in
+    let l = c .before .before .before .before .before .before .before .before .before .loop in
+    let f = c .before .before .before .before .before .before .before .frame-at in
+    let told = c .before .before .before .enum-told in
+    let unbroken = sym (ap faultForm (told .given .1)) ∙ c .before .before .before .before .before .fault-at .ensures in
+    let room = frame.room-here _ _ (l .i) (l .state) (l .inv .1) _ (f .ensures .1) (omega arith) (f .ensures .0) unbroken in
     ((l .inv .1 .tracks .within .few, omega arith), room)
 
 enum-known-fault : tie.Need-enum-known-fault Inv-loop μ-loop
@@ -44,10 +54,10 @@ enum-known-fault c = search needs
 
 returns : tie.Need-returns Inv-loop μ-loop
 returns c =
-    let l = c .before .before .before .before .before .before .loop in
-    let f = c .before .before .before .before .frame-at in
+    let l = c .before .before .before .before .before .before .before .loop in
+    let f = c .before .before .before .before .before .frame-at in
     let broken = sym (ap faultForm (c .before .fault .given .1)) ∙ c .before .before .before .fault-at .ensures in
-    frame.refused-here _ (l .i) (l .state) (l .inv .1) (frameForm (f .result)) (omega arith) (f .ensures) _ broken
+    frame.refused-here _ _ (l .i) (l .state) (l .inv .1) _ (f .ensures .1) (omega arith) (f .ensures .0) _ broken
 
 add-i : tie.Need-add-i Inv-loop μ-loop
 add-i c = search needs
@@ -57,21 +67,22 @@ loop-less c = search needs
 
 loop-again : tie.Need-loop-again Inv-loop μ-loop
 loop-again c =
-    let l = c .before .before .before .before .before .before .loop in
-    let f = c .before .before .before .before .frame-at in
-    let unbroken = sym (ap faultForm (c .before .enum-told .given .1)) ∙ c .before .before .before .fault-at .ensures in
-    let on = frame.goes-on _ (l .i) (l .state) (l .inv .1) (frameForm (f .result)) (omega arith) (f .ensures) unbroken in
-    (omega arith, rw (c .behind .ensures) on)
+    let l = c .before .before .before .before .before .before .before .before .before .before .loop in
+    let f = c .before .before .before .before .before .before .before .before .frame-at in
+    let told = c .before .before .before .before .enum-told in
+    let unbroken = sym (ap faultForm (told .given .1)) ∙ c .before .before .before .before .before .before .fault-at .ensures in
+    let on = frame.goes-on _ _ (l .i) (l .state) (l .inv .1) _ (f .ensures .1) (omega arith) (f .ensures .0) unbroken in
+    (omega arith, rw (c .behind .ensures, c .before .before .put-frame-in .ensures) on)
 
 returns-2 : tie.Need-returns-2 Inv-loop μ-loop
 returns-2 c =
     let l = c .before .before .before .loop in
-    frame.open-at-end _ (l .i) (l .state) (l .inv .1) (omega arith) (l .inv .0) (c .if1 .taken)
+    frame.open-at-end _ _ (l .i) (l .state) (l .inv .1) (omega arith) (l .inv .0) (c .if1 .taken)
 
 returns-3 : tie.Need-returns-3 Inv-loop μ-loop
 returns-3 c =
     let l = c .before .before .before .loop in
-    frame.closed-at-end _ (l .i) (l .state) (l .inv .1) (omega arith) (c .if1 .left)
+    frame.closed-at-end _ _ (l .i) (l .state) (l .inv .1) (omega arith) (c .if1 .left)
 
 pub check-frames-spec : {M : Type 1} → statement M
 check-frames-spec =
@@ -81,8 +92,11 @@ check-frames-spec =
     μ-loop
     loop-holds
     frame-at-requires
+    slice-aggregate-fault-at
     fault-at-requires
     enum-told
+    slice-aggregate-put-frame-in
+    put-frame-in-requires
     behind-requires
     enum-known-fault
     returns

@@ -43,7 +43,7 @@ returns-4 : tie.Need-returns-4
 returns-4 c = rw (c .before .enum-told .given .1) (c .end-fault .ensures)
 
 returns-5 : tie.Need-returns-5
-returns-5 c = search needs
+returns-5 c = rw (c .enum-told2 .given .1)
 
 pub fault-at-spec : {M : Type 1} → statement M
 fault-at-spec =

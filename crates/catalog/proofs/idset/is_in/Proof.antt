@@ -1,0 +1,33 @@
+-- `catalog::idset::is_in` meets its contract: the id's bit is read.
+use mathlib.Core.Path.{refl}
+use Rattle.catalog.specs.IdSets.{inSet}
+use borrow.Author.Needs.{needs}
+use Rattle.catalog.proofs.idset.is_in.Statement.{statement}
+use Rattle.catalog.proofs.idset.is_in.Tie as tie
+
+cast-word : tie.Need-cast-word
+cast-word c = search needs
+
+mul-word : tie.Need-mul-word
+mul-word c = search needs
+
+shared-slice-read-word : tie.Need-shared-slice-read-word
+shared-slice-read-word c = search needs
+
+cast-bit : tie.Need-cast-bit
+cast-bit c = search needs
+
+cast-result : tie.Need-cast-result
+cast-result c = search needs
+
+shr-result : tie.Need-shr-result
+shr-result c = search needs
+
+returns : tie.Need-returns
+unfolding inSet
+returns c = refl
+
+pub is-in-spec : {M : Type 1} → statement M
+is-in-spec =
+    tie.close
+    (tie.spec cast-word mul-word shared-slice-read-word cast-bit cast-result shr-result returns)

@@ -1,0 +1,43 @@
+// The ids of the models so far, as a set: a bit for each of the 65,536 ids, 64 to a word.
+use crate::frames::Frame;
+ghost use mathlib.Core.Path.{_≡_};
+ghost use lib.ListN.{length};
+ghost use Rattle.catalog.specs.Answers.{frameForm};
+ghost use Rattle.catalog.specs.IdSets.{inSet, withId, idsBehind};
+
+// The words of a set.
+pub(crate) const SET_WORDS: usize = 1024;
+
+// Is the id in the set?
+pub(crate) fn is_in(ids: &[u64], id: u16) -> bool
+    requires { ⌜ length (now ids) ≡ 1024 ⌝ }
+    ensures { λ r. ⌜ r ≡ inSet (now (ids .entry)) id ⌝ }
+{
+    let word = ids[(id / 64) as usize];
+    let bit = (id % 64) as u32;
+    (word >> bit) % 2 == 1
+}
+
+// Puts the id into the set.
+fn put_in(ids: &mut [u64], id: u16)
+    requires { ⌜ length (now ids) ≡ 1024 ⌝ }
+    ensures { λ _. ⌜ now (ids .exit) ≡ withId (now (ids .entry)) id ⌝ }
+{
+    let at = (id / 64) as usize;
+    let bit = (id % 64) as u32;
+    ids[at] = ids[at] | 1u64 << bit;
+}
+
+// Puts the id of a model frame into the set; any other frame leaves it as it is.
+pub(crate) fn put_frame_in(ids: &mut [u64], frame: Frame)
+    requires { ⌜ length (now ids) ≡ 1024 ⌝ }
+    ensures { λ _. ⌜ now (ids .exit) ≡ idsBehind (now (ids .entry)) (frameForm frame) ⌝ }
+{
+    match frame {
+        Frame::Model(id) => put_in(ids, id),
+        Frame::Group(_) => {}
+        Frame::Point(_) => {}
+        Frame::End => {}
+        Frame::Malformed => {}
+    }
+}
