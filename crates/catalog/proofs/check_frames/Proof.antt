@@ -3,7 +3,7 @@ use mathlib.Core.Path.{sym, ap, _∙_}
 use Prim.Native.Nat.{_-_, _≤_}
 use native.Mathlib.Omega.{arith}
 use Rattle.catalog.specs.State.{start}
-use Rattle.catalog.specs.Answers.{faultForm, frameForm}
+use Rattle.catalog.specs.Answers.{faultForm}
 use Rattle.catalog.proofs.CheckSteps.{from-first}
 use Rattle.catalog.proofs.CheckedFrame as frame
 use Rattle.catalog.proofs.TrackedState.{tracks-start}
