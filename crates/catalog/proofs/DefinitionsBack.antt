@@ -7,18 +7,18 @@ use Rattle.catalog.proofs.FrameWords.{frames-words}
 use Rattle.catalog.proofs.TreeFrames.{group-frames, definition-frames}
 
 -- What is read where an open group holds these points and groups, and the frames behind it are read.
-abbrev holding : List Point → Groups → Parsed → Parsed
+abbrev pub holding : List Point → Groups → Parsed → Parsed
 holding ps g r = record { rest = record { points = ps; groups = g } ∷ r .rest; models = r .models }
 
 -- Points are read in front of the groups of their group.
-points-read : (ps : List Point) (g : Groups) (fs : List Frame) (r : Parsed)
+pub points-read : (ps : List Point) (g : Groups) (fs : List Frame) (r : Parsed)
     → parsed fs ≡ holding [] g r → parsed (pointFrames ps ++ fs) ≡ holding ps g r
 unfolding parsed
 points-read [] g fs r e = e
 points-read (p ∷ ps) g fs r e = ap (inFront (pointFrame p)) (points-read ps g fs r e)
 
 -- Groups are read up to the end frame of the group around them.
-groups-read : (g : Groups) (fs : List Frame) → parsed (groupFrames g ++ (endFrame ∷ fs)) ≡ holding [] g (parsed fs)
+pub groups-read : (g : Groups) (fs : List Frame) → parsed (groupFrames g ++ (endFrame ∷ fs)) ≡ holding [] g (parsed fs)
 unfolding parsed
 groups-read noGroup fs = refl
 groups-read (group h ps inside behind) fs =

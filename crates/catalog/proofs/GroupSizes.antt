@@ -20,7 +20,7 @@ use Rattle.catalog.proofs.TestLaws.{clash, both}
 use Rattle.catalog.proofs.EveryGroup.{of-lower-groups, of-models}
 
 -- A size of a type is 1 to 64 registers.
-type-size : (code size : ℕ) → isSizeOf code size ≡ true → (1 ≤ size) × (size ≤ 64)
+pub type-size : (code size : ℕ) → isSizeOf code size ≡ true → (1 ≤ size) × (size ≤ 64)
 unfolding isSizeOf registersOf
 type-size code size = go (rowOf code) refl
   where

@@ -22,6 +22,7 @@ pub mod SoundModels
 pub mod EveryGroup
 -- What the proofs of the functions cite
 pub mod FrameKinds
+pub mod FramesByIndex
 pub mod WordScans
 pub mod KindCases
 pub mod IdSetLaws

@@ -18,7 +18,7 @@ use Rattle.catalog.proofs.TreeFrames.{contentFrames, group-frames, defi
 use Rattle.catalog.proofs.FrameWords.{words-frames}
 
 -- The frames of what open groups still hold, each to its end frame, the innermost first, and then the frames behind.
-abbrev restFrames : List Content → List Frame → List Frame
+abbrev pub restFrames : List Content → List Frame → List Frame
 restFrames [] behind = behind
 restFrames (c ∷ cs) behind = contentFrames (c .points) (c .groups) (restFrames cs behind)
 

@@ -26,7 +26,7 @@ point-found such (p ∷ ps) e = go (such p) refl e (point-found such ps)
     go false h f behind = let r = behind f in (r .0, later (r .1), r .2)
 
 -- A scale reference names a sunssf point.
-scale-factor-found : (n : ℕ) (ps : List Point) → hasScaleFactor n ps ≡ true
+pub scale-factor-found : (n : ℕ) (ps : List Point) → hasScaleFactor n ps ≡ true
     → (p : Point) × (In p ps) × (p .number ≡ n) × (p .typeCode ≡ sunssf)
 scale-factor-found n ps e =
     let r = point-found (isScaleFactorPoint n) ps e in
@@ -35,7 +35,7 @@ scale-factor-found n ps e =
     (p, r .1, eqb-true (p .number) n (t .0), eqb-true (p .typeCode) sunssf (t .1))
 
 -- A count reference names a uint16 point with access R.
-count-point-found : (n : ℕ) (ps : List Point) → hasCountPoint n ps ≡ true
+pub count-point-found : (n : ℕ) (ps : List Point) → hasCountPoint n ps ≡ true
     → (p : Point) × (In p ps) × (p .number ≡ n) × (p .typeCode ≡ uint16) × (p .access ≡ readOnly)
 count-point-found n ps e =
     let r = point-found (isCountPoint n) ps e in
@@ -45,7 +45,7 @@ count-point-found n ps e =
     (p, r .1, eqb-true (p .number) n (u .0), eqb-true (p .typeCode) uint16 (u .1), eqb-true (p .access) readOnly (t .1))
 
 -- The scale references of sound points resolve among the points in their reach.
-points-resolve : (reach ps : List Point) → Each (SoundPoint reach) ps → Each (ScaleResolves reach) ps
+pub points-resolve : (reach ps : List Point) → Each (SoundPoint reach) ps → Each (ScaleResolves reach) ps
 points-resolve reach [] s = tt
 points-resolve reach (p ∷ ps) s = (λ k. scale-factor-found (p .scale) reach (s .0 .resolved k), points-resolve reach ps (s .1))
 

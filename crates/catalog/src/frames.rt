@@ -1,8 +1,8 @@
 // The frames of a catalog: eight words each, of which word 0 is the kind.
 ghost use mathlib.Core.Path.{_≡_};
 ghost use Prim.Native.Nat.{_/_, _-_, _<_, _≤_};
-ghost use lib.ListN.{length};
-ghost use Rattle.catalog.specs.Frames.{word, frameAt};
+ghost use lib.ListN.{length, getD};
+ghost use Rattle.catalog.specs.Frames.{malformed, word, frameAt, frames};
 ghost use Rattle.catalog.specs.Answers.{frameForm, headForm, pointForm};
 ghost use Rattle.catalog.specs.IdSets.{IdFits};
 ghost use Rattle.catalog.specs.Scans.{headWords, pointWords, zeroWords};
@@ -22,46 +22,46 @@ pub(crate) const END: u16 = 4;
 // The scale kinds of a point: none, fixed, a point's value.
 pub(crate) const NO_SCALE: u16 = 0;
 
-pub(crate) const FIXED_SCALE: u16 = 1;
+pub const FIXED_SCALE: u16 = 1;
 
-pub(crate) const SCALE_BY_POINT: u16 = 2;
+pub const SCALE_BY_POINT: u16 = 2;
 
 // The count kinds of a group: a constant, a point's value, as many as fill the model.
-pub(crate) const CONSTANT_COUNT: u16 = 0;
+pub const CONSTANT_COUNT: u16 = 0;
 
-pub(crate) const COUNT_BY_POINT: u16 = 1;
+pub const COUNT_BY_POINT: u16 = 1;
 
-pub(crate) const FILL: u16 = 2;
+pub const FILL: u16 = 2;
 
 // The type codes that a reference asks for, and the access that a count point has.
 pub(crate) const UINT16: u16 = 2;
 
-pub(crate) const SUNSSF: u16 = 8;
+pub const SUNSSF: u16 = 8;
 
 pub(crate) const READ_ONLY: u16 = 0;
 
 // The named words of a point frame. Scale is the fixed scale factor or the number of the point that gives it.
-pub(crate) struct Point {
-    pub(crate) number: u16,
-    pub(crate) type_code: u16,
-    pub(crate) size: u16,
-    pub(crate) scale_kind: u16,
-    pub(crate) scale: u16,
-    pub(crate) mandatory: u16,
-    pub(crate) access: u16,
+pub struct Point {
+    pub number: u16,
+    pub type_code: u16,
+    pub size: u16,
+    pub scale_kind: u16,
+    pub scale: u16,
+    pub mandatory: u16,
+    pub access: u16,
 }
 
 // The named words of a group frame. Count is the constant count or the number of the point that gives it.
-pub(crate) struct Head {
-    pub(crate) number: u16,
-    pub(crate) group_type: u16,
-    pub(crate) count_kind: u16,
-    pub(crate) count: u16,
+pub struct Head {
+    pub number: u16,
+    pub group_type: u16,
+    pub count_kind: u16,
+    pub count: u16,
 }
 
 // A frame by its kind. It is malformed where the kind is none of the four, or a word that the kind does
 // not name is not 0.
-pub(crate) enum Frame {
+pub enum Frame {
     Model(u16),
     Group(Head),
     Point(Point),
@@ -106,6 +106,16 @@ pub(crate) fn frame_at(catalog: &[u16], i: usize) -> Frame
         }
         _ => Frame::Malformed,
     }
+}
+
+// Frame i; malformed where the catalog has no such whole frame.
+pub fn read_frame(catalog: &[u16], i: usize) -> Frame
+    ensures { λ r. ⌜ frameForm r ≡ getD (frames (now (catalog .entry))) i malformed ⌝ }
+{
+    if catalog.len() / WORDS <= i {
+        return Frame::Malformed;
+    }
+    frame_at(catalog, i)
 }
 
 // The words of a group frame.

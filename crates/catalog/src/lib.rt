@@ -5,8 +5,18 @@ mod rules;
 mod scans;
 mod state;
 
+pub use frames::CONSTANT_COUNT;
+pub use frames::COUNT_BY_POINT;
+pub use frames::FILL;
+pub use frames::FIXED_SCALE;
+pub use frames::Frame;
+pub use frames::Head;
+pub use frames::Point;
+pub use frames::SCALE_BY_POINT;
+pub use frames::SUNSSF;
 use frames::WORDS;
 use frames::frame_at;
+pub use frames::read_frame;
 use idset::SET_WORDS;
 use idset::put_frame_in;
 use rules::Fault;

@@ -5,7 +5,7 @@ use crate::output;
 use catalog::Checked;
 
 // How many words a line can give as the catalog: one frame more than a catalog may have.
-const CATALOG_CAPACITY: usize = 32776;
+pub(crate) const CATALOG_CAPACITY: usize = 32776;
 
 // Answers the fields from `at` on. False, with nothing written, where they are bad.
 pub(crate) fn run(line: &[u8], at: usize) -> bool {

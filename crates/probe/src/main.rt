@@ -8,6 +8,7 @@ mod decode;
 mod equal;
 mod events;
 mod fields;
+mod lists;
 mod output;
 mod quantity;
 mod text;
@@ -137,6 +138,9 @@ fn run(line: &[u8]) -> bool {
     }
     if check::same(word, b"check") {
         return checking::run(line, at);
+    }
+    if check::same(word, b"list") {
+        return lists::run(line, at);
     }
     false
 }

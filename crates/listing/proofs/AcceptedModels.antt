@@ -1,0 +1,56 @@
+-- The models of an accepted catalog, looked up by their ids.
+use mathlib.Core.Path.{_≡_, refl}
+use mathlib.Core.Bool.{Bool, true, false}
+use mathlib.Core.List.{List, [], _∷_}
+use mathlib.Core.Option.{Option, none, some}
+use Prim.Native.Nat.{ℕ, _/_, _≤_}
+use native.Mathlib.Omega.{arith}
+use borrow.Author.Tests.{eqb-true}
+use lib.Dec.{eqb}
+use lib.ListN.{length}
+use Rattle.values.specs.Each.{Each}
+use Rattle.catalog.specs.Definitions.{Content, Definition, definitions}
+use Rattle.catalog.specs.Soundness.{SoundDefinition}
+use Rattle.catalog.proofs.AcceptedSteps.{accepted-start}
+use Rattle.catalog.proofs.AcceptedIsSound.{accepted-is-sound}
+use Rattle.register_map.specs.Scan.{Model}
+use Rattle.listing.specs.Reading.{Reading, unknown, readBy, reading}
+use Rattle.listing.specs.Walks.{Accepted, topOf}
+
+-- An accepted catalog has at most 4,096 frames.
+pub accepted-few : (ws : List ℕ) → Accepted ws → length ws / 8 ≤ 4096
+accepted-few ws a = accepted-start ws (a .0) .0 (a .1) .1
+
+-- A model that is found by its id is one of these.
+found : (P : Definition → Type 0) (ds : List Definition) (id : ℕ) (c : Content) → Each P ds → topOf id ds ≡ some c
+    → (d : Definition) × P d × (d .id ≡ id) × (d .top ≡ c)
+unfolding topOf
+found P [] id c s e = let z : _≡_ {A = ℕ} 0 1 = cc in absurd (omega arith)
+found P (d ∷ ds) id c s e = go (eqb (d .id) id) refl (found P ds id c (s .1)) e
+  where
+    go : (b : Bool) → eqb (d .id) id ≡ b → (topOf id ds ≡ some c → (d : Definition) × P d × (d .id ≡ id) × (d .top ≡ c))
+        → elim b [ true ↦ some (d .top) | false ↦ topOf id ds ] ≡ some c
+        → (d : Definition) × P d × (d .id ≡ id) × (d .top ≡ c)
+    go true q rest f = (d, s .0, eqb-true (d .id) id q, cc)
+    go false q rest f = rest f
+
+-- A model of an accepted catalog that is found by its id is sound.
+pub top-sound : (ws : List ℕ) (id : ℕ) (c : Content) → Accepted ws → topOf id (definitions ws) ≡ some c
+    → (d : Definition) × SoundDefinition d × (d .id ≡ id) × (d .top ≡ c)
+top-sound ws id c a e = found SoundDefinition (definitions ws) id c (accepted-is-sound ws (a .0) (a .1) .0 .each) e
+
+-- A model is read by the definition that is found by its id.
+pub reading-top : (ds : List Definition) (m : Model)
+    → reading ds m ≡ elim (topOf (m .id) ds) [ none ↦ unknown | some c ↦ readBy (m .id) c (m .body) ]
+unfolding topOf reading
+reading-top [] m = refl
+reading-top (d ∷ ds) m = go (eqb (d .id) (m .id)) (reading-top ds m)
+  where
+    by : Option Content → Reading
+    by o = elim o [ none ↦ unknown | some c ↦ readBy (m .id) c (m .body) ]
+
+    go : (b : Bool) → reading ds m ≡ by (topOf (m .id) ds)
+        → elim b [ true ↦ readBy (m .id) (d .top) (m .body) | false ↦ reading ds m ]
+        ≡ by (elim b [ true ↦ some (d .top) | false ↦ topOf (m .id) ds ])
+    go true e = refl
+    go false e = e

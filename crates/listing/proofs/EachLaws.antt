@@ -1,0 +1,13 @@
+-- Facts about each element of a list, carried over.
+use mathlib.Core.List.{List, [], _∷_, _++_}
+use Rattle.values.specs.Each.{Each}
+
+-- What follows of each.
+pub each-implied : {A : Type 0} (P Q : A → Type 0) → ((x : A) → P x → Q x) → (xs : List A) → Each P xs → Each Q xs
+each-implied P Q f [] e = tt
+each-implied P Q f (x ∷ xs) e = (f x (e .0), each-implied P Q f xs (e .1))
+
+-- Of each of two lists, one behind the other.
+pub each-append : {A : Type 0} (P : A → Type 0) (xs ys : List A) → Each P xs → Each P ys → Each P (xs ++ ys)
+each-append P [] ys e f = f
+each-append P (x ∷ xs) ys e f = (e .0, each-append P xs ys (e .1) f)

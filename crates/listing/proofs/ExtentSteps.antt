@@ -1,0 +1,155 @@
+-- The extent of groups, met one by one: with one more group in front, the groups met and those from there on are all of them.
+use mathlib.Core.Path.{_≡_, refl, sym, ap, _∙_}
+use mathlib.Core.Bool.{Bool, true, false, _&&_, _||_}
+use mathlib.Core.List.{List}
+use mathlib.Core.Option.{Option, some}
+use Prim.Native.Nat.{ℕ, _+_, _*_, _≤_, min}
+use native.Mathlib.Omega.{arith}
+use borrow.Author.Tests.{eqb-true}
+use lib.Dec.{eqb}
+use lib.ListN.{length}
+use Rattle.catalog.specs.Frames.{Point, Head, countByPoint, fill}
+use Rattle.catalog.specs.Definitions.{Groups, noGroup, group, pointsSize}
+use Rattle.catalog.proofs.TestLaws.{clash}
+use Rattle.listing.specs.Points.{Scope}
+use Rattle.listing.specs.Layout.{countOf, groupsSize, fillSize, countUnimplemented}
+use Rattle.listing.specs.Counts.{groupsPoints, fillPoints, sizeOr0}
+use Rattle.listing.specs.Answers.{ExtentOf, Capped, WithGroup}
+use Rattle.listing.specs.declared.extents.Run.{Run}
+use Rattle.listing.specs.declared.extents.Extent.{Extent}
+use Rattle.listing.proofs.Capping.{capped-factor}
+
+-- Where a group is still to come, none that was met fills the model.
+abbrev pub NoFillYet : Groups → Extent → Type 0
+NoFillYet noGroup sum = Unit {0}
+NoFillYet (group h ps inside behind) sum = (sum .«fill_size» ≡ 0) × (sum .«fill_points» ≡ 0)
+
+-- What is summed up of the groups met, with the rest of them, is the extent of all.
+pub record SummedUp (top : Scope) (all rest : Groups) (sum : Extent) : Type 0 where
+  pub sizes : min (sum .size + groupsSize (countOf top 0) rest) 65536 ≡ min (groupsSize (countOf top 0) all) 65536
+  pub points : min (sum .points + groupsPoints (countOf top 0) rest) 65536 ≡ min (groupsPoints (countOf top 0) all) 65536
+  pub capped : (sum .size ≤ 65536) × (sum .points ≤ 65536)
+  pub fillSizes : sum .«fill_size» + min (sizeOr0 (fillSize (countOf top 0) rest)) 65536
+      ≡ min (sizeOr0 (fillSize (countOf top 0) all)) 65536
+  pub fillPoints : sum .«fill_points» + min (fillPoints (countOf top 0) rest) 65536 ≡ min (fillPoints (countOf top 0) all) 65536
+  pub noFill : NoFillYet rest sum
+  pub unimplemented : (sum .unimplemented || countUnimplemented top rest) ≡ countUnimplemented top all
+
+-- ---- Numbers and tests
+
+-- A sum, with the group in front taken into it.
+total : (sum count own inner behind all run inside new : ℕ) → min (sum + (count * (own + inner) + behind)) 65536 ≡ all
+    → run ≡ own → inside ≡ min inner 65536 → new ≡ min (sum + count * min (run + inside) 65536) 65536
+    → min (new + behind) 65536 ≡ all
+total sum count own inner behind all run inside new a r i n =
+    let s : min (run + inside) 65536 ≡ min (own + inner) 65536 = omega arith in
+    let q : new ≡ min (sum + count * min (own + inner) 65536) 65536 = n ∙ ap (λ x. min (sum + count * x) 65536) s in
+    omega (arith, a, q, capped-factor 65536 sum count (own + inner))
+
+-- The same test of three, in another order.
+reordered : (sum here inside behind all new : Bool) → (sum || (here || (inside || behind))) ≡ all
+    → new ≡ (sum || (inside || here)) → (new || behind) ≡ all
+reordered true here inside behind all new a n = rw n a
+reordered false true true behind all new a n = rw n a
+reordered false true false behind all new a n = rw n a
+reordered false false true behind all new a n = rw n a
+reordered false false false behind all new a n = rw n a
+
+-- The size of an instance of the fill group, with the group in front taken into it; there is but one such group.
+filled : (fills : Bool) (own inner behind all run inside old new : ℕ)
+    → old + min (elim fills [ true ↦ own + inner | false ↦ behind ]) 65536 ≡ all → old ≡ 0 → (fills ≡ true → behind ≡ 0)
+    → run ≡ own → inside ≡ min inner 65536 → new ≡ elim fills [ true ↦ min (run + inside) 65536 | false ↦ old ]
+    → new + min behind 65536 ≡ all
+filled true own inner behind all run inside old new a z last r i n = let b = last refl in omega arith
+filled false own inner behind all run inside old new a z last r i n = omega arith
+
+-- Where the group in front does not fill, what was summed up stays.
+not-filled : (fills : Bool) (size old new : ℕ) → fills ≡ false → new ≡ elim fills [ true ↦ size | false ↦ old ] → old ≡ 0
+    → new ≡ 0
+not-filled true size old new f n z = clash f
+not-filled false size old new f n z = n ∙ z
+
+-- The size that a test picks.
+size-picked : (b : Bool) (size : ℕ) (other : Option ℕ)
+    → sizeOr0 (elim b [ true ↦ some size | false ↦ other ]) ≡ elim b [ true ↦ size | false ↦ sizeOr0 other ]
+size-picked true size other = refl
+size-picked false size other = refl
+
+-- ---- Groups
+
+-- Behind a group that fills there is none.
+none-yet : (behind : Groups) (r : Extent) (fills : Bool) → (fills ≡ true → behind ≡ noGroup)
+    → (fills ≡ false → (r .«fill_size» ≡ 0) × (r .«fill_points» ≡ 0)) → NoFillYet behind r
+none-yet noGroup r fills last z = tt
+none-yet (group h ps inside behind) r true last z =
+    let e = last refl in let n : _≡_ {A = ℕ} 0 1 = cc in absurd (omega arith)
+none-yet (group h ps inside behind) r false last z = z refl
+
+module _ (top : Scope) (all : Groups) where
+  -- Nothing is met.
+  pub none-met : (sum : Extent) → sum .size ≡ 0 → sum .points ≡ 0 → sum .«fill_size» ≡ 0 → sum .«fill_points» ≡ 0
+      → sum .unimplemented ≡ false → SummedUp top all all sum
+  none-met sum s p fs fp u =
+      record {
+        sizes = rw s (omega arith);
+        points = rw p (omega arith);
+        capped = (omega arith, omega arith);
+        fillSizes = rw fs (omega arith);
+        fillPoints = rw fp (omega arith);
+        noFill = not-yet all;
+        unimplemented = rw u refl;
+      }
+    where
+      not-yet : (g : Groups) → NoFillYet g sum
+      not-yet noGroup = tt
+      not-yet (group h ps inside behind) = (fs, fp)
+
+  -- All are met.
+  pub all-met : (sum r : Extent) → SummedUp top all noGroup sum → Capped sum r → ExtentOf top all r
+  unfolding groupsSize groupsPoints fillSize fillPoints countUnimplemented
+  all-met sum r s c =
+      record {
+        size = let e = s .sizes in omega (arith, e, c .size, s .capped .0);
+        points = let e = s .points in omega (arith, e, c .points, s .capped .1);
+        fillSize = let e = s .fillSizes in omega (arith, e, c .fillSize);
+        fillPoints = let e = s .fillPoints in omega (arith, e, c .fillPoints);
+        unimplemented = c .unimplemented ∙ or-false (sum .unimplemented) ∙ s .unimplemented;
+      }
+    where
+      or-false : (b : Bool) → b ≡ (b || false)
+      or-false true = refl
+      or-false false = refl
+
+  module _ (h : Head) (ps : List Point) (inside behind : Groups) (sum : Extent)
+      (s : SummedUp top all (group h ps inside behind) sum) (last : h .countKind ≡ fill → behind ≡ noGroup)
+      (run : Run) (size : run .size ≡ pointsSize ps) (points : run .points ≡ length ps)
+      (lower : Extent) (i : ExtentOf top inside lower)
+      (r : Extent) (w : WithGroup sum top h run lower r) where
+    -- One more is met.
+    pub one-more : SummedUp top all behind r
+    unfolding groupsSize groupsPoints fillSize fillPoints countUnimplemented
+    one-more =
+        let count = countOf top 0 in
+        let fills = eqb (h .countKind) fill in
+        let here = eqb (h .countKind) countByPoint && eqb (top (h .count)) 0xFFFF in
+        let picked = size-picked fills (pointsSize ps + groupsSize count inside) (fillSize count behind) in
+        let last-here : fills ≡ true → behind ≡ noGroup = λ t. last (eqb-true (h .countKind) fill t) in
+        record {
+          sizes = total (sum .size) (count h) (pointsSize ps) (groupsSize count inside) (groupsSize count behind) _ (run .size)
+              (lower .size) (r .size) (s .sizes) size (i .size) (w .size);
+          points = total (sum .points) (count h) (length ps) (groupsPoints count inside) (groupsPoints count behind) _
+              (run .points) (lower .points) (r .points) (s .points) points (i .points) (w .points);
+          capped = (omega (arith, w .size), omega (arith, w .points));
+          fillSizes = filled fills (pointsSize ps) (groupsSize count inside) (sizeOr0 (fillSize count behind)) _ (run .size)
+              (lower .size) (sum .«fill_size») (r .«fill_size»)
+              (ap (λ n. sum .«fill_size» + min n 65536) (sym picked) ∙ s .fillSizes) (s .noFill .0)
+              (λ t. ap (λ g. sizeOr0 (fillSize count g)) (last-here t)) size (i .size) (w .fillSize);
+          fillPoints = filled fills (length ps) (groupsPoints count inside) (fillPoints count behind) _ (run .points)
+              (lower .points) (sum .«fill_points») (r .«fill_points») (s .fillPoints) (s .noFill .1)
+              (λ t. ap (fillPoints count) (last-here t)) points (i .points) (w .fillPoints);
+          noFill = none-yet behind r fills last-here
+              (λ f. (not-filled _ _ _ _ f (w .fillSize) (s .noFill .0), not-filled _ _ _ _ f (w .fillPoints) (s .noFill .1)));
+          unimplemented = reordered (sum .unimplemented) here (countUnimplemented top inside) (countUnimplemented top behind) _
+              (r .unimplemented) (s .unimplemented)
+              (w .unimplemented ∙ ap (λ u. sum .unimplemented || (u || here)) (i .unimplemented));
+        }

@@ -1,0 +1,117 @@
+-- A walk over groups that sums up their extent: a step over a group, and the end.
+use mathlib.Core.Path.{_≡_, refl, sym, ap, subst, _∙_}
+use mathlib.Core.List.{List, [], _∷_, _++_}
+use mathlib.Core.Option.{none, some}
+use Prim.Native.Nat.{ℕ, _+_, _≤_, _<_}
+use native.Mathlib.Omega.{arith}
+use lib.ListN.{length, length-append}
+use Rattle.catalog.specs.Frames.{Point, Head, endFrame, fill}
+use Rattle.catalog.specs.Definitions.{Groups, noGroup, group, pointsSize, pointFrames, groupFrames}
+use Rattle.listing.specs.Points.{Scope}
+use Rattle.listing.specs.Walks.{heldAt, pastEnd, headOf, frameIn, AtGroups}
+use Rattle.listing.specs.Answers.{RunOf, ExtentOf, Capped, WithGroup}
+use Rattle.listing.specs.declared.extents.Run.{Run}
+use Rattle.listing.specs.declared.extents.Extent.{Extent}
+use Rattle.listing.proofs.Standing as standing
+use Rattle.listing.proofs.IntoGroups as groups
+use Rattle.listing.proofs.RunSteps.{points-small}
+use Rattle.listing.proofs.ExtentSteps.{SummedUp, all-met, one-more}
+
+-- How many frames a group and those behind it take.
+frames-taken : (h : Head) (ps : List Point) (inside behind : Groups)
+    → length (groupFrames (group h ps inside behind))
+    ≡ length ps + length (groupFrames inside) + length (groupFrames behind) + 2
+frames-taken h ps inside behind =
+    let p = standing.length-points ps in
+    let a = length-append (pointFrames ps) (groupFrames inside ++ (endFrame ∷ groupFrames behind)) in
+    let b = length-append (groupFrames inside) (endFrame ∷ groupFrames behind) in
+    omega (arith, p, a, b)
+
+-- The end behind groups that stand here.
+pub end-here : (ws : List ℕ) (i : ℕ) (g : Groups) → heldAt ws i .points ≡ [] → heldAt ws i .groups ≡ g
+    → pastEnd ws i ≡ i + length (groupFrames g) + 1
+end-here ws i g n e =
+    let p : length (heldAt ws i .points) ≡ 0 = ap length n in
+    let q : length (groupFrames (heldAt ws i .groups)) ≡ length (groupFrames g) = ap (λ x. length (groupFrames x)) e in
+    omega (arith, p, q)
+
+-- ---- A step over a group
+
+module _ (ws : List ℕ) (i levels : ℕ) (at : AtGroups ws i levels) (few : levels ≤ 3) (h : Head)
+    (e : headOf (frameIn ws i) ≡ some h) where
+  -- Past the group is in front of the same end.
+  pub same-end : pastEnd ws (pastEnd ws (i + 1)) ≡ pastEnd ws i
+  same-end =
+      let n = standing.group-next ws i (at .stands) (at .noPoint) h e in
+      let c = heldAt ws (i + 1) in
+      let behind = heldAt ws (pastEnd ws (i + 1)) .groups in
+      let here = end-here ws i (group h (c .points) (c .groups) behind) (at .noPoint) (n .0) in
+      let there = end-here ws (pastEnd ws (i + 1)) behind (n .3) refl in
+      let f = frames-taken h (c .points) (c .groups) behind in
+      omega (arith, here, there, f)
+
+  -- Behind its points is in front of its own end.
+  pub own-end : pastEnd ws (i + 1 + length (heldAt ws (i + 1) .points)) ≡ pastEnd ws (i + 1)
+  own-end =
+      let n = standing.group-next ws i (at .stands) (at .noPoint) h e in
+      let r = standing.behind-run ws (i + 1) (n .1) in
+      end-here ws (i + 1 + length (heldAt ws (i + 1) .points)) (heldAt ws (i + 1) .groups) (r .0) (r .1)
+
+  -- Its points are no more than frames, and take 64 registers each at most.
+  pub own-few : (length (heldAt ws (i + 1) .points) ≤ 4096) × (pointsSize (heldAt ws (i + 1) .points) ≤ 262144)
+  own-few =
+      let n = standing.group-next ws i (at .stands) (at .noPoint) h e in
+      let own = heldAt ws (i + 1) .points in
+      let w = standing.past-end-within ws (i + 1) (n .1) in
+      let s = groups.sound-here ws i levels at few h e .sound .2 in
+      let b = points-small (own ++ at .sound .enclosing) own s in
+      (omega (arith, w, at .few), omega (arith, w, at .few, b))
+
+-- ---- The sum
+
+-- The walk stands at groups of the group in which it began, and has summed up those in front of them.
+pub record Walked (ws : List ℕ) (top : Scope) (levels first : ℕ) (sum : Extent) : Type 0 where
+  pub standing : AtGroups ws (sum .next) levels
+  pub few : levels ≤ 3
+  pub end : pastEnd ws (sum .next) ≡ pastEnd ws first
+  pub summed : SummedUp top (heldAt ws first .groups) (heldAt ws (sum .next) .groups) sum
+
+module _ (ws : List ℕ) (top : Scope) (levels first : ℕ) (sum : Extent) (walked : Walked ws top levels first sum) where
+  -- A step.
+  pub walks-on : (h : Head) → headOf (frameIn ws (sum .next)) ≡ some h → (run : Run) → RunOf ws (sum .next + 1) run
+      → (lower : Extent) → ExtentOf top (heldAt ws (run .next) .groups) lower → lower .next ≡ pastEnd ws (run .next)
+      → (r : Extent) → WithGroup sum top h run lower r → Walked ws top levels first r × (sum .next < r .next)
+  walks-on h e run o lower i l r w =
+      let at = walked .standing in
+      let all = heldAt ws first .groups in
+      let n = standing.group-next ws (sum .next) (at .stands) (at .noPoint) h e in
+      let c = heldAt ws (sum .next + 1) in
+      let behind = heldAt ws (pastEnd ws (sum .next + 1)) .groups in
+      let same : heldAt ws (run .next) .groups ≡ c .groups =
+      ap (λ j. heldAt ws j .groups) (o .next) ∙ standing.behind-run ws (sum .next + 1) (n .1) .1 in
+      let next : r .next ≡ pastEnd ws (sum .next + 1) =
+      w .next ∙ l ∙ ap (λ j. pastEnd ws j) (o .next) ∙ own-end ws (sum .next) levels at (walked .few) h e in
+      let last : h .countKind ≡ fill → behind ≡ noGroup = λ k.
+      groups.sound-here ws (sum .next) levels at (walked .few) h e .sound .0 .filling k .1 in
+      let s : SummedUp top all (group h (c .points) (c .groups) behind) sum =
+      subst (λ g. SummedUp top all g sum) (n .0) (walked .summed) in
+      let m : SummedUp top all behind r =
+      one-more top all h (c .points) (c .groups) behind sum s last run (o .size) (o .points) lower
+      (subst (λ g. ExtentOf top g lower) same i) r w in
+      let there : Walked ws top levels first r =
+      record {
+        standing = subst (λ j. AtGroups ws j levels) (sym next) (groups.past ws (sum .next) levels at (walked .few) h e);
+        few = walked .few;
+        end = ap (λ j. pastEnd ws j) next ∙ same-end ws (sum .next) levels at (walked .few) h e ∙ walked .end;
+        summed = subst (λ j. SummedUp top all (heldAt ws j .groups) r) (sym next) m;
+      } in
+      (there, omega (arith, next))
+
+  -- The end.
+  pub walk-ends : headOf (frameIn ws (sum .next)) ≡ none → (r : Extent) → Capped sum r → r .next ≡ sum .next + 1
+      → ExtentOf top (heldAt ws first .groups) r × (r .next ≡ pastEnd ws first)
+  walk-ends e r c n =
+      let g = standing.no-group ws (sum .next) (walked .standing .stands) (walked .standing .noPoint) e in
+      let s = subst (λ x. SummedUp top (heldAt ws first .groups) x sum) g (walked .summed) in
+      let here = end-here ws (sum .next) noGroup (walked .standing .noPoint) g in
+      (all-met top (heldAt ws first .groups) sum r s c, omega (arith, n, here, walked .end))

@@ -1,0 +1,107 @@
+-- The numbers of groups: those of a group's head, its points, the groups in it and the groups behind it, all different.
+use mathlib.Core.Path.{_≡_, refl, sym, ap, subst, _∙_}
+use mathlib.Core.Bool.{Bool, true, false, _||_}
+use mathlib.Core.List.{List, [], _∷_, _++_}
+use Prim.Native.Nat.{ℕ}
+use borrow.Author.Tests.{eqb-true, eq-eqb}
+use lib.Dec.{eqb}
+use Rattle.catalog.specs.Frames.{Point, Head, Frame, modelFrame, groupFrame, pointFrame, endFrame, malformed}
+use Rattle.catalog.specs.Rules.{among}
+use Rattle.catalog.specs.Definitions.{Groups, noGroup, group, pointFrames, groupFrames}
+use Rattle.catalog.specs.Soundness.{Distinct, numbersOf, In, first, later}
+use Rattle.catalog.proofs.TestLaws.{clash, neither}
+
+-- ---- Lists of numbers
+
+-- A number among one of two lists.
+pub among-either : (n : ℕ) (ms ns : List ℕ) → among n (ms ++ ns) ≡ among n ms || among n ns
+among-either n [] ns = refl
+among-either n (m ∷ ms) ns = go (eqb n m) (among n (ms ++ ns)) (among n ms) (among n ns) (among-either n ms ns)
+  where
+    go : (b x y z : Bool) → x ≡ y || z → b || x ≡ (b || y) || z
+    go true x y z e = refl
+    go false x y z e = e
+
+-- A number among neither.
+pub among-neither : (n : ℕ) (ms ns : List ℕ) → among n (ms ++ ns) ≡ false → (among n ms ≡ false) × (among n ns ≡ false)
+among-neither n ms ns e = neither (among n ms) (among n ns) .0 (sym (among-either n ms ns) ∙ e)
+
+-- The numbers of two lists that are all different.
+pub distinct-parts : (ms ns : List ℕ) → Distinct (ms ++ ns)
+    → Distinct ms × Distinct ns × ((n : ℕ) → among n ms ≡ true → among n ns ≡ false)
+distinct-parts [] ns d = (tt, d, λ n e. clash (sym e))
+distinct-parts (m ∷ ms) ns d =
+    let r = distinct-parts ms ns (d .1) in
+    let a = among-neither m ms ns (d .0) in
+    ((a .0, r .0), r .1, λ n e. apart n (eqb n m) refl (a .1) (r .2 n) e)
+  where
+    apart : (n : ℕ) (b : Bool) → eqb n m ≡ b → among m ns ≡ false → (among n ms ≡ true → among n ns ≡ false)
+        → b || among n ms ≡ true → among n ns ≡ false
+    apart n true t q f e = let z = eqb-true n m t in rw z q
+    apart n false t q f e = f e
+
+-- ---- Frames
+
+-- The numbers of frames one behind the other.
+pub numbers-append : (fs gs : List Frame) → numbersOf (fs ++ gs) ≡ numbersOf fs ++ numbersOf gs
+numbers-append [] gs = refl
+numbers-append (modelFrame id ∷ fs) gs = numbers-append fs gs
+numbers-append (groupFrame h ∷ fs) gs = ap (λ ns. h .number ∷ ns) (numbers-append fs gs)
+numbers-append (pointFrame p ∷ fs) gs = ap (λ ns. p .number ∷ ns) (numbers-append fs gs)
+numbers-append (endFrame ∷ fs) gs = numbers-append fs gs
+numbers-append (malformed ∷ fs) gs = numbers-append fs gs
+
+-- The numbers of a group and of those behind it.
+pub group-numbers : (h : Head) (ps : List Point) (inside behind : Groups)
+    → numbersOf (groupFrames (group h ps inside behind))
+    ≡ h .number ∷ (numbersOf (pointFrames ps) ++ (numbersOf (groupFrames inside) ++ numbersOf (groupFrames behind)))
+group-numbers h ps inside behind =
+    ap (λ ns. h .number ∷ ns) (numbers-append (pointFrames ps) (groupFrames inside ++ (endFrame ∷ groupFrames behind))
+    ∙ ap (λ ns. numbersOf (pointFrames ps) ++ ns) (numbers-append (groupFrames inside) (endFrame ∷ groupFrames behind)))
+
+-- A point's number is among those of the points.
+pub point-among : (p : Point) (ps : List Point) → In p ps → among (p .number) (numbersOf (pointFrames ps)) ≡ true
+point-among p (q ∷ ps) first = rw (eq-eqb (p .number) (p .number) refl)
+point-among p (q ∷ ps) (later i) = go (eqb (p .number) (q .number)) (point-among p ps i)
+  where
+    go : (b : Bool) {x : Bool} → x ≡ true → b || x ≡ true
+    go true e = refl
+    go false e = e
+
+-- What is known of a group's numbers where all are different.
+pub record Apart (ps : List Point) (inside behind : Groups) : Type 0 where
+  pub insideDistinct : Distinct (numbersOf (groupFrames inside))
+  pub behindDistinct : Distinct (numbersOf (groupFrames behind))
+  pub pointsInside : (n : ℕ) → among n (numbersOf (pointFrames ps)) ≡ true → among n (numbersOf (groupFrames inside)) ≡ false
+
+pub apart : (h : Head) (ps : List Point) (inside behind : Groups)
+    → Distinct (numbersOf (groupFrames (group h ps inside behind))) → Apart ps inside behind
+apart h ps inside behind d =
+    let A = numbersOf (pointFrames ps) in
+    let I = numbersOf (groupFrames inside) in
+    let B = numbersOf (groupFrames behind) in
+    let r = distinct-parts A (I ++ B) (subst (λ ns. Distinct ns) (group-numbers h ps inside behind) d .1) in
+    let s = distinct-parts I B (r .1) in
+    record {
+      insideDistinct = s .0;
+      behindDistinct = s .1;
+      pointsInside = λ n e. among-neither n I B (r .2 n e) .0;
+    }
+
+-- A number that is none of a group's and of those behind it is none of each part's.
+pub record NoneOf (n : ℕ) (ps : List Point) (inside behind : Groups) : Type 0 where
+  pub ofPoints : among n (numbersOf (pointFrames ps)) ≡ false
+  pub ofInside : among n (numbersOf (groupFrames inside)) ≡ false
+  pub ofBehind : among n (numbersOf (groupFrames behind)) ≡ false
+
+pub none-of-parts : (n : ℕ) (h : Head) (ps : List Point) (inside behind : Groups)
+    → among n (numbersOf (groupFrames (group h ps inside behind))) ≡ false → NoneOf n ps inside behind
+none-of-parts n h ps inside behind e =
+    let A = numbersOf (pointFrames ps) in
+    let I = numbersOf (groupFrames inside) in
+    let B = numbersOf (groupFrames behind) in
+    let f = neither (eqb n (h .number)) (among n (A ++ (I ++ B))) .0
+    (subst (λ ns. among n ns ≡ false) (group-numbers h ps inside behind) e) .1 in
+    let r = among-neither n A (I ++ B) f in
+    let s = among-neither n I B (r .1) in
+    record { ofPoints = r .0; ofInside = s .0; ofBehind = s .1 }

@@ -1,0 +1,68 @@
+-- The headers that listing answers (document 01, "Listing"): on acceptance and on 30 models + 1, at most (registers − 1) / 3; on
+-- any other refusal those before the header at its place.
+use mathlib.Core.Path.{_≡_, ap, _∙_}
+use mathlib.Core.List.{List}
+use mathlib.Core.Logic.{_⊎_, ⊎-elim}
+use Prim.Native.Nat.{ℕ, _+_, _-_, _/_, _≤_, _<_}
+use native.Mathlib.Nat.{eq-or-lt-of-le}
+use native.Mathlib.Omega.{arith}
+use lib.ListN.{length, take}
+use Rattle.register_map.specs.Scan.{totalSize, scan}
+use Rattle.register_map.proofs.MadeOfModels.{marked-count}
+use Rattle.listing.specs.Listing.{Record, refused, listed, listing}
+use Rattle.listing.proofs.RefusalNumbers.{ending-number}
+use Rattle.listing.proofs.ListingCases.{Walks}
+use Rattle.listing.proofs.WalksBehind.{headers-walked, listed-walks, short-walks, refused-walks, refused-early}
+
+-- 1 to 11, 20 and 21: none.
+pub no-headers : (catalog map : List ℕ) (room n place headers : ℕ) → listing catalog map room ≡ refused n place headers → n ≤ 21
+    → headers ≡ 0
+no-headers catalog map room n place headers e low = refused-early catalog map room n place headers (omega arith) e
+
+-- 22 to 29: the headers are the models in front of the header whose address is the place.
+pub headers-before : (catalog map : List ℕ) (room n place headers : ℕ) → listing catalog map room ≡ refused n place headers
+    → 22 ≤ n → n ≤ 29
+    → (headers ≤ length (scan map .models)) × (place ≡ 2 + totalSize (take headers (scan map .models)))
+headers-before catalog map room n place headers e low high =
+    let r = headers-walked catalog map (refused-walks catalog map room n place headers (low, high) e) in
+    let counted = r .counted in
+    let within = r .within in
+    let same : r .before ≡ headers = omega arith in
+    (omega arith, r .placed ∙ ap (λ k. 2 + totalSize (take k (scan map .models))) same)
+
+-- 22 to 26: it is the header behind the last model.
+pub headers-at-end : (catalog map : List ℕ) (room n place headers : ℕ) → listing catalog map room ≡ refused n place headers
+    → 22 ≤ n → n ≤ 26 → headers ≡ length (scan map .models)
+headers-at-end catalog map room n place headers e low high =
+    let r = headers-walked catalog map (refused-walks catalog map room n place headers (low, omega arith) e) in
+    let counted = r .counted in
+    ⊎-elim (λ q. omega arith) (λ l. let b = r .atModel l in absurd (omega arith)) (eq-or-lt-of-le (r .within))
+
+-- 27 to 29: it is a model's.
+pub headers-at-model : (catalog map : List ℕ) (room n place headers : ℕ) → listing catalog map room ≡ refused n place headers
+    → 27 ≤ n → n ≤ 29 → headers < length (scan map .models)
+headers-at-model catalog map room n place headers e low high =
+    let r = headers-walked catalog map (refused-walks catalog map room n place headers (omega arith, high) e) in
+    let counted = r .counted in
+    ⊎-elim (λ q. let b = ending-number map n (r .atEnd q) in absurd (omega arith)) (λ l. omega arith)
+    (eq-or-lt-of-le (r .within))
+
+-- A walk to the end marker.
+whole-walk : (catalog map : List ℕ) (rs : List Record) (headers : ℕ) → Walks catalog map (listed rs headers)
+    → (headers ≡ length (scan map .models) + 1) × (headers ≤ (length map - 1) / 3)
+whole-walk catalog map rs headers w =
+    let r = headers-walked catalog map w in
+    let counted = r .0 in
+    let bound = marked-count map (r .1) in
+    (omega arith, omega arith)
+
+-- 30: models + 1, as on acceptance.
+pub headers-without-room : (catalog map : List ℕ) (room n headers : ℕ) → listing catalog map room ≡ refused 30 n headers
+    → (headers ≡ length (scan map .models) + 1) × (headers ≤ (length map - 1) / 3)
+headers-without-room catalog map room n headers e =
+    let s = short-walks catalog map room n headers e in whole-walk catalog map (s .0) headers (s .1)
+
+-- On acceptance the headers are models + 1 and at most (registers − 1) / 3.
+pub headers : (catalog map : List ℕ) (room : ℕ) (rs : List Record) (headers : ℕ) → listing catalog map room ≡ listed rs headers
+    → (headers ≡ length (scan map .models) + 1) × (headers ≤ (length map - 1) / 3)
+headers catalog map room rs h e = whole-walk catalog map rs h (listed-walks catalog map room rs h e .0)

@@ -1,0 +1,153 @@
+-- The first walk over the headers of a map: refusals are found and points counted, from each header on.
+use mathlib.Core.Path.{_≡_, refl, sym, ap, _∙_, subst}
+use mathlib.Core.List.{List, []}
+use mathlib.Core.List as Lists
+use Prim.Native.Nat.{ℕ, _+_, _≤_, _<_}
+use native.Mathlib.Omega.{arith}
+use lib.Dec.{eqb}
+use lib.ListN.{length, drop, length-append, length-map}
+use Rattle.register_map.specs.Headers.{model, endMarker, refused, headerAt}
+use Rattle.register_map.specs.Scan.{Model}
+use Rattle.register_map.proofs.HeaderCases.{model-ends}
+use Rattle.listing.specs.Points.{ModelPoint}
+use Rattle.listing.specs.Reading.{Reading, unknown, faulty, points, Fault, faultNumber}
+use Rattle.listing.specs.Listing as Listing
+use Rattle.listing.specs.Listing.{Record, recordOf, Answer, listed, inFront, walked, Told, refusedTold, listedTold, told}
+use Rattle.listing.specs.Walks.{surveyedUnknown, surveyedRefused, surveyedPoints, surveyed, pointsOf, HasPoints}
+use Rattle.listing.proofs.MapSteps.{walkAt, modelAt, body-length, walk-starts, walk-at-end, walk-at-refused, walk-at-late, walk-at-unknown, walk-at-faulty, walk-at-points}
+
+-- ---- A reading by what surveying it answers
+
+unknown-surveyed : (r : Reading) → surveyedUnknown ≡ surveyed r → r ≡ unknown
+unknown-surveyed unknown e = refl
+unknown-surveyed (faulty fault) e = cc
+unknown-surveyed (points ps) e = cc
+
+refused-surveyed : (r : Reading) {n : ℕ} → surveyedRefused n ≡ surveyed r
+    → (fault : Fault) × (r ≡ faulty fault) × (faultNumber fault ≡ n)
+refused-surveyed unknown e = let z : _≡_ {A = ℕ} 0 1 = cc in absurd (omega arith)
+refused-surveyed (faulty fault) e = (fault, refl, cc)
+refused-surveyed (points ps) e = let z : _≡_ {A = ℕ} 0 1 = cc in absurd (omega arith)
+
+points-surveyed : (r : Reading) {n : ℕ} → surveyedPoints n ≡ surveyed r
+    → (ps : List ModelPoint) × (r ≡ points ps) × (length ps ≡ n)
+points-surveyed unknown e = let z : _≡_ {A = ℕ} 0 1 = cc in absurd (omega arith)
+points-surveyed (faulty fault) e = let z : _≡_ {A = ℕ} 0 1 = cc in absurd (omega arith)
+points-surveyed (points ps) e = (ps, refl, cc)
+
+-- A model that is unknown or refused has no points.
+pub no-points-unknown : (r : Reading) → surveyedUnknown ≡ surveyed r → pointsOf r ≡ []
+no-points-unknown r e = ap pointsOf (unknown-surveyed r e)
+
+pub no-points-refused : (r : Reading) {number : ℕ} → surveyedRefused number ≡ surveyed r → pointsOf r ≡ []
+no-points-refused r e = ap pointsOf (refused-surveyed r e .1)
+
+-- One that is surveyed with points has points.
+pub has-points : (r : Reading) {n : ℕ} → surveyedPoints n ≡ surveyed r → HasPoints r
+has-points r e = subst HasPoints (sym (points-surveyed r e .1)) tt
+
+-- ---- The walk
+
+-- Points in front of those of an answer.
+abbrev pub withPoints : ℕ → Told → Told
+withPoints n (refusedTold number place headers) = refusedTold number place headers
+withPoints n (listedTold k headers) = listedTold (n + k) headers
+
+with-no-points : (t : Told) → withPoints 0 t ≡ t
+with-no-points (refusedTold number place headers) = refl
+with-no-points (listedTold k headers) = ap (λ n. listedTold n headers) (omega arith)
+
+with-more-points : (n : ℕ) (rs : List Record) (a : Answer)
+    → withPoints n (told (inFront rs a)) ≡ withPoints (n + length rs) (told a)
+with-more-points n rs (Listing.refused number place headers) = refl
+with-more-points n rs (listed ss headers) = ap (λ k. listedTold k headers) (omega (arith, length-append rs ss))
+
+-- The walk stands at a header with so many headers and points before it: what is left decides as the whole does.
+pub record Surveying (read : Model → Reading) (map : List ℕ) (at headers points : ℕ) : Type 0 where
+  pub rest : withPoints points (told (walkAt read map headers at)) ≡ told (walked read map)
+  pub low : 2 ≤ at
+  pub high : at ≤ 65538
+  pub fewHeaders : headers ≤ at
+  pub fewPoints : points ≤ at
+
+pub survey-starts : (read : Model → Reading) (map : List ℕ) → Surveying read map 2 0 0
+survey-starts read map =
+    record {
+      rest = with-no-points (told (walkAt read map 0 2)) ∙ ap told (walk-starts read map);
+      low = omega arith;
+      high = omega arith;
+      fewHeaders = omega arith;
+      fewPoints = omega arith;
+    }
+
+module _ {read : Model → Reading} {map : List ℕ} {at headers count : ℕ} (here : Surveying read map at headers count) where
+  -- An answer from here on is that of the whole.
+  answers : {a : Answer} → walkAt read map headers at ≡ a → withPoints count (told a) ≡ told (walked read map)
+  answers e = ap (λ a. withPoints count (told a)) (sym e) ∙ here .rest
+
+  -- At the end marker the points so far are all.
+  pub survey-ends : at < length map → headerAt (eqb at 2) (drop at map) ≡ endMarker
+      → listedTold count (headers + 1) ≡ told (walked read map)
+  survey-ends inside h =
+      let all : count ≡ count + 0 = omega arith in
+      ap (λ n. listedTold n (headers + 1)) all ∙ answers (walk-at-end read map headers at inside h)
+
+  -- A header is refused.
+  pub survey-refused : {number : ℕ} → at < length map → headerAt (eqb at 2) (drop at map) ≡ refused number
+      → refusedTold number at headers ≡ told (walked read map)
+  survey-refused inside h = answers (walk-at-refused read map headers at inside h)
+
+  -- No register is left.
+  pub survey-late : length map ≤ at → refusedTold 22 at headers ≡ told (walked read map)
+  survey-late past = answers (walk-at-late read map headers at past)
+
+  module _ (short : length map ≤ 65536) {id len : ℕ} (h : headerAt (eqb at 2) (drop at map) ≡ model id len) where
+    -- A model that is unknown is stepped over.
+    pub survey-unknown : surveyedUnknown ≡ surveyed (read (modelAt map at id len))
+        → Surveying read map (at + (2 + len)) (headers + 1) count
+    survey-unknown e =
+        let r = unknown-surveyed (read (modelAt map at id len)) e in
+        let ends = model-ends (eqb at 2) map at h in
+        record {
+          rest = answers (walk-at-unknown read map headers at id len (here .low) h r);
+          low = omega (arith, here .low);
+          high = omega (arith, ends, short);
+          fewHeaders = omega (arith, here .fewHeaders);
+          fewPoints = omega (arith, here .fewPoints);
+        }
+
+    -- A model is refused.
+    pub survey-faulty : {number : ℕ} → surveyedRefused number ≡ surveyed (read (modelAt map at id len))
+        → refusedTold number at headers ≡ told (walked read map)
+    survey-faulty e =
+        let r = refused-surveyed (read (modelAt map at id len)) e in
+        ap (λ n. refusedTold n at headers) (sym (r .2))
+        ∙ answers (walk-at-faulty read map headers at id len (here .low) h (r .1))
+
+    module _ (few : (m : Model) (ps : List ModelPoint) → read m ≡ points ps → length ps ≤ length (m .body)) {more : ℕ}
+        (e : surveyedPoints more ≡ surveyed (read (modelAt map at id len))) where
+      -- The points of a model are no more than its registers.
+      pub more-fit : more ≤ len
+      more-fit =
+          let r = points-surveyed (read (modelAt map at id len)) e in
+          let f = few (modelAt map at id len) (r .0) (r .1) in
+          omega (arith, f, r .2, body-length map at id len h)
+
+      -- They are added.
+      pub survey-points : Surveying read map (at + (2 + len)) (headers + 1) (count + more)
+      survey-points =
+          let r = points-surveyed (read (modelAt map at id len)) e in
+          let ends = model-ends (eqb at 2) map at h in
+          let f = recordOf headers at (modelAt map at id len) in
+          let rs = Lists.map f (r .0) in
+          let next = walkAt read map (headers + 1) (at + (2 + len)) in
+          let total : count + more ≡ count + length rs = omega (arith, length-map (r .0) f, r .2) in
+          record {
+            rest = ap (λ n. withPoints n (told next)) total
+                ∙ sym (with-more-points count rs next)
+                ∙ answers (walk-at-points read map headers at id len (here .low) h (r .1));
+            low = omega (arith, here .low);
+            high = omega (arith, ends, short);
+            fewHeaders = omega (arith, here .fewHeaders);
+            fewPoints = omega (arith, here .fewPoints, more-fit);
+          }

@@ -1,0 +1,180 @@
+-- The records of one model among those of a map that is listed.
+use mathlib.Core.Path.{_≡_, refl, sym, ap, subst, _∙_}
+use mathlib.Core.Bool.{Bool, true, false}
+use mathlib.Core.List.{List, [], _∷_, _++_, map, append-nil}
+use Prim.Native.Nat.{ℕ, _+_, _<_}
+use native.Mathlib.Omega.{arith}
+use borrow.Author.Tests.{eq-eqb, ne-eqb}
+use lib.Dec.{eqb}
+use lib.ListN.{length}
+use Rattle.values.specs.Each.{Each}
+use Rattle.register_map.specs.Scan.{Model, sizeOf, totalSize, Ending, marked, broken}
+use Rattle.listing.specs.Points.{ModelPoint}
+use Rattle.listing.specs.Reading.{Reading, unknown, faulty, points, faultNumber}
+use Rattle.listing.specs.Listing.{Record, recordOf, Answer, refused, listed, inFront, walk}
+use Rattle.listing.specs.Tiling.{recordsWith}
+use Rattle.listing.proofs.EachLaws.{each-append}
+
+-- ---- Records with an index
+
+-- Records one behind the other.
+with-append : (i : ℕ) (rs ss : List Record) → recordsWith i (rs ++ ss) ≡ recordsWith i rs ++ recordsWith i ss
+unfolding recordsWith
+with-append i [] ss = refl
+with-append i (r ∷ rs) ss = go (eqb (r .index) i) (with-append i rs ss)
+  where
+    go : (b : Bool) → recordsWith i (rs ++ ss) ≡ recordsWith i rs ++ recordsWith i ss
+        → elim b [ true ↦ r ∷ recordsWith i (rs ++ ss) | false ↦ recordsWith i (rs ++ ss) ]
+        ≡ elim b [ true ↦ r ∷ recordsWith i rs | false ↦ recordsWith i rs ] ++ recordsWith i ss
+    go true e = ap (λ rest. r ∷ rest) e
+    go false e = e
+
+-- Those of another index are none of them.
+with-other : (i : ℕ) (rs : List Record) → Each (λ r. r .index ≡ i → ⊥) rs → recordsWith i rs ≡ []
+unfolding recordsWith
+with-other i [] e = refl
+with-other i (r ∷ rs) e = rw (ne-eqb (r .index) i (e .0), recordsWith) (with-other i rs (e .1))
+
+-- The records of the model with an index are all with it.
+with-own : (i at : ℕ) (m : Model) (ps : List ModelPoint)
+    → recordsWith i (map (recordOf i at m) ps) ≡ map (recordOf i at m) ps
+unfolding recordsWith
+with-own i at m [] = refl
+with-own i at m (p ∷ ps) = rw (eq-eqb i i refl, recordsWith) (ap (λ rest. recordOf i at m p ∷ rest) (with-own i at m ps))
+
+-- Those of another model are not.
+others-own : (i j at : ℕ) (m : Model) (ps : List ModelPoint) → (j ≡ i → ⊥)
+    → Each (λ r. r .index ≡ i → ⊥) (map (recordOf j at m) ps)
+others-own i j at m [] n = tt
+others-own i j at m (p ∷ ps) n = (n, others-own i j at m ps n)
+
+-- ---- Walking
+
+-- The records with a model's index, by how it is read.
+abbrev pub RecordsOf : ℕ → ℕ → Model → List Record → Reading → Type 0
+RecordsOf i at m rs unknown = recordsWith i rs ≡ []
+RecordsOf i at m rs (faulty fault) = ⊥
+RecordsOf i at m rs (points ps) = recordsWith i rs ≡ map (recordOf i at m) ps
+
+module _ (read : Model → Reading) (ending : Ending) where
+  -- From a model on, by how it is read: what is listed is its records and what is listed behind it.
+  abbrev Listed : ℕ → ℕ → Model → List Model → List Record → ℕ → Reading → Type 0
+  Listed i at m ms rs headers unknown = walk read ending (i + 1) (at + sizeOf m) ms ≡ listed rs headers
+  Listed i at m ms rs headers (faulty fault) = ⊥
+  Listed i at m ms rs headers (points ps) =
+      (ss : List Record)
+      × (walk read ending (i + 1) (at + sizeOf m) ms ≡ listed ss headers)
+      × (rs ≡ map (recordOf i at m) ps ++ ss)
+
+  -- Records in front of what is listed.
+  in-front-listed : (front : List Record) (answer : Answer) (rs : List Record) (headers : ℕ)
+      → inFront front answer ≡ listed rs headers
+      → (ss : List Record) × (answer ≡ listed ss headers) × (rs ≡ front ++ ss)
+  in-front-listed front (refused number place before) rs headers e = let z : _≡_ {A = ℕ} 0 1 = cc in absurd (omega arith)
+  in-front-listed front (listed ss n) rs headers e =
+      let same : front ++ ss ≡ rs = cc in
+      let count : n ≡ headers = cc in
+      (ss, ap (listed ss) count, sym same)
+
+  walk-listed : (i at : ℕ) (m : Model) (ms : List Model) (rs : List Record) (headers : ℕ)
+      → walk read ending i at (m ∷ ms) ≡ listed rs headers → Listed i at m ms rs headers (read m)
+  unfolding walk
+  walk-listed i at m ms rs headers = go (read m)
+    where
+      go : (r : Reading)
+          → elim r [
+            | unknown ↦ walk read ending (i + 1) (at + sizeOf m) ms
+            | faulty fault ↦ refused (faultNumber fault) at i
+            | points ps ↦ inFront (map (recordOf i at m) ps) (walk read ending (i + 1) (at + sizeOf m) ms)
+          ]
+          ≡ listed rs headers
+          → Listed i at m ms rs headers r
+      go unknown e = e
+      go (faulty fault) e = let z : _≡_ {A = ℕ} 0 1 = cc in absurd (omega arith)
+      go (points ps) e =
+          in-front-listed (map (recordOf i at m) ps) (walk read ending (i + 1) (at + sizeOf m) ms) rs headers e
+
+  -- At the end nothing is listed.
+  end-listed : (i at : ℕ) (rs : List Record) (headers : ℕ) → walk read ending i at [] ≡ listed rs headers → rs ≡ []
+  unfolding walk
+  end-listed i at rs headers = go ending
+    where
+      go : (x : Ending) → walk read x i at [] ≡ listed rs headers → rs ≡ []
+      go marked e = let same : [] ≡ rs = cc in sym same
+      go (broken number) e = let z : _≡_ {A = ℕ} 0 1 = cc in absurd (omega arith)
+
+  -- From an index on, no record has a lower one.
+  records-above : (ms : List Model) (i at : ℕ) (rs : List Record) (headers : ℕ)
+      → walk read ending i at ms ≡ listed rs headers → (j : ℕ) → j < i → Each (λ r. r .index ≡ j → ⊥) rs
+  records-above [] i at rs headers e j below =
+      subst (Each (λ r. r .index ≡ j → ⊥)) (sym (end-listed i at rs headers e)) tt
+  records-above (m ∷ ms) i at rs headers e j below =
+      go (read m) (walk-listed i at m ms rs headers e)
+      (λ ss q. records-above ms (i + 1) (at + sizeOf m) ss headers q j (omega arith))
+    where
+      go : (r : Reading) → Listed i at m ms rs headers r
+          → ((ss : List Record) → walk read ending (i + 1) (at + sizeOf m) ms ≡ listed ss headers
+          → Each (λ r. r .index ≡ j → ⊥) ss)
+          → Each (λ r. r .index ≡ j → ⊥) rs
+      go unknown l behind = behind rs l
+      go (faulty fault) l behind = absurd l
+      go (points ps) l behind =
+          let own = others-own j i at m ps (λ q. absurd (omega arith)) in
+          let P : Record → Type 0 = λ r. r .index ≡ j → ⊥ in
+          subst (Each P) (sym (l .2)) (each-append P (map (recordOf i at m) ps) (l .0) own (behind (l .0) (l .1)))
+
+  -- Of a model without any in front of it.
+  first-records : (m : Model) (behind : List Model) (i at : ℕ) (rs : List Record) (headers : ℕ)
+      → walk read ending i at (m ∷ behind) ≡ listed rs headers → RecordsOf i at m rs (read m)
+  first-records m behind i at rs headers e = go (read m) (walk-listed i at m behind rs headers e)
+    where
+      none-behind : (ss : List Record) → walk read ending (i + 1) (at + sizeOf m) behind ≡ listed ss headers
+          → recordsWith i ss ≡ []
+      none-behind ss q = with-other i ss (records-above behind (i + 1) (at + sizeOf m) ss headers q i (omega arith))
+
+      go : (r : Reading) → Listed i at m behind rs headers r → RecordsOf i at m rs r
+      go unknown l = none-behind rs l
+      go (faulty fault) l = l
+      go (points ps) l =
+          let own = map (recordOf i at m) ps in
+          ap (recordsWith i) (l .2)
+          ∙ with-append i own (l .0)
+          ∙ ap (λ ss. recordsWith i own ++ ss) (none-behind (l .0) (l .1))
+          ∙ append-nil (recordsWith i own)
+          ∙ with-own i at m ps
+
+  -- Records in front, of another index, change nothing.
+  behind-others : (j a : ℕ) (m : Model) (own ss rs : List Record) → Each (λ r. r .index ≡ j → ⊥) own → rs ≡ own ++ ss
+      → (r : Reading) → RecordsOf j a m ss r → RecordsOf j a m rs r
+  behind-others j a m own ss rs others e r =
+      let same : recordsWith j rs ≡ recordsWith j ss =
+      ap (recordsWith j) e ∙ with-append j own ss ∙ ap (λ os. os ++ recordsWith j ss) (with-other j own others) in
+      go r same
+    where
+      go : (r : Reading) → recordsWith j rs ≡ recordsWith j ss → RecordsOf j a m ss r → RecordsOf j a m rs r
+      go unknown same t = same ∙ t
+      go (faulty fault) same t = t
+      go (points ps) same t = same ∙ t
+
+  -- The records with the index of any model of the map.
+  pub model-records : (front : List Model) (m : Model) (behind : List Model) (i at : ℕ) (rs : List Record) (headers : ℕ)
+      → walk read ending i at (front ++ m ∷ behind) ≡ listed rs headers
+      → (j a : ℕ) → j ≡ i + length front → a ≡ at + totalSize front → RecordsOf j a m rs (read m)
+  model-records [] m behind i at rs headers e j a p q =
+      let p′ : i ≡ j = omega (arith, p) in
+      let q′ : at ≡ a = omega (arith, q) in
+      subst (λ x. RecordsOf j x m rs (read m)) q′
+      (subst (λ x. RecordsOf x at m rs (read m)) p′ (first-records m behind i at rs headers e))
+  model-records (f ∷ front) m behind i at rs headers e j a p q =
+      go (read f) (walk-listed i at f (front ++ m ∷ behind) rs headers e)
+      (λ ss l. model-records front m behind (i + 1) (at + sizeOf f) ss headers l j a (omega arith) (omega arith))
+    where
+      go : (r : Reading) → Listed i at f (front ++ m ∷ behind) rs headers r
+          → ((ss : List Record) → walk read ending (i + 1) (at + sizeOf f) (front ++ m ∷ behind) ≡ listed ss headers
+          → RecordsOf j a m ss (read m))
+          → RecordsOf j a m rs (read m)
+      go unknown l rest = rest rs l
+      go (faulty fault) l rest = absurd l
+      go (points ps) l rest =
+          behind-others j a m (map (recordOf i at f) ps) (l .0) rs (others-own j i at f ps (λ same. absurd (omega arith))) (l .2)
+          (read m) (rest (l .0) (l .1))

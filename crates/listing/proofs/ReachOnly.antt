@@ -1,0 +1,151 @@
+-- The points of sound groups depend on a scope only as far as it reaches: no point outside reach is asked for a scale factor or a
+-- count. So what else a scope holds makes no difference.
+use mathlib.Core.Path.{_≡_, refl, sym, ap, _∙_, subst}
+use mathlib.Core.Bool.{Bool, true, false, _||_}
+use mathlib.Core.List.{List, [], _∷_, _++_}
+use Prim.Native.Nat.{ℕ, zero, suc, _+_, _*_, _-_}
+use borrow.Author.Tests.{eqb-true}
+use lib.Dec.{eqb}
+use lib.ListN.{getD, set}
+use Rattle.values.specs.Each.{Each}
+use Rattle.values.specs.Registers.{join, shownRaw}
+use Rattle.values.specs.Classes.{Class, value, unimplemented, outOfRange, Classified, ofClass, tooWide, unknownType, classified}
+use Rattle.catalog.specs.Frames.{Point, Head, fixedScale, scaleByPoint, sunssf}
+use Rattle.catalog.specs.Rules.{among}
+use Rattle.catalog.specs.Definitions.{Groups, noGroup, group, pointsSize, pointFrames}
+use Rattle.catalog.specs.Soundness.{In, numbersOf, SoundPoint, SoundGroups, ScaleResolves}
+use Rattle.catalog.proofs.TestLaws.{clash}
+use Rattle.catalog.proofs.References.{points-resolve}
+use Rattle.listing.specs.Points.{ModelPoint, Scope, statusOf, scaleOf, scaleStatus, registersAt, statusAt, pointAt}
+use Rattle.listing.specs.Layout.{withPoint, within, countOf, groupsSize, pointsAt, instances, groupsAt}
+use Rattle.listing.proofs.GroupNumbers.{point-among}
+use Rattle.listing.proofs.IntoGroups.{in-either}
+use Rattle.listing.proofs.CountsAgree.{count-agrees, sizes-agree}
+
+-- Two scopes agree on these points.
+abbrev pub Agree : List Point → Scope → Scope → Type 0
+Agree ps s t = (p : Point) → In p ps → s (p .number) ≡ t (p .number)
+
+-- ---- Scopes
+
+-- Within an instance two scopes agree where they did, or where a point of the instance is meant.
+pub within-agrees : (body : List ℕ) (offset : ℕ) (ps : List Point) (s t : Scope) (n : ℕ)
+    → (among n (numbersOf (pointFrames ps)) ≡ false → s n ≡ t n)
+    → within body offset ps s n ≡ within body offset ps t n
+unfolding within
+within-agrees body offset [] s t n h = h refl
+within-agrees body offset (p ∷ ps) s t n h =
+    within-agrees body (offset + p .size) ps (withPoint (p .number) (getD body offset 0) s)
+    (withPoint (p .number) (getD body offset 0) t) n (λ e. go (eqb n (p .number)) (among n (numbersOf (pointFrames ps))) e h)
+  where
+    go : (b a : Bool) → a ≡ false → (b || a ≡ false → s n ≡ t n)
+        → _≡_ {A = ℕ} (elim b [ true ↦ getD body offset 0 | false ↦ s n ]) (elim b [ true ↦ getD body offset 0 | false ↦ t n ])
+    go true a e f = refl
+    go false a e f = f e
+
+-- They agree on the points of the instance and on all that they agreed on.
+pub reach-agrees : (body : List ℕ) (offset : ℕ) (ps enclosing : List Point) (s t : Scope) → Agree enclosing s t
+    → Agree (ps ++ enclosing) (within body offset ps s) (within body offset ps t)
+reach-agrees body offset ps enclosing s t h p i =
+    within-agrees body offset ps s t (p .number) (λ e.
+    in-either p ps enclosing i (λ j. clash (sym (point-among p ps j) ∙ e)) (h p))
+
+-- ---- Points
+
+-- The register of the scale point is not looked at by a point that has none.
+no-scale-status : (p : Point) (c : Classified) (r q : ℕ) → eqb (p .scaleKind) scaleByPoint ≡ false → statusOf p c r ≡ statusOf p c q
+no-scale-status p (ofClass value) r q e =
+    ap (λ b. elim b [ true ↦ scaleStatus (classified sunssf r) | false ↦ 0 ]) e
+    ∙ sym (ap (λ b. elim b [ true ↦ scaleStatus (classified sunssf q) | false ↦ 0 ]) e)
+no-scale-status p (ofClass unimplemented) r q e = refl
+no-scale-status p (ofClass outOfRange) r q e = refl
+no-scale-status p tooWide r q e = refl
+no-scale-status p unknownType r q e = refl
+
+no-scale : (p : Point) (status r q : ℕ) → eqb (p .scaleKind) scaleByPoint ≡ false → scaleOf p status r ≡ scaleOf p status q
+no-scale p status r q e =
+    ap (λ b. elim (eqb status 0) [
+      | false ↦ 0
+      | true ↦ elim (eqb (p .scaleKind) fixedScale) [ true ↦ p .scale | false ↦ elim b [ true ↦ r | false ↦ 0 ] ]
+    ]) e
+    ∙ sym (ap (λ b. elim (eqb status 0) [
+      | false ↦ 0
+      | true ↦ elim (eqb (p .scaleKind) fixedScale) [ true ↦ p .scale | false ↦ elim b [ true ↦ q | false ↦ 0 ] ]
+    ]) e)
+
+-- A point by two registers of its scale point.
+abbrev shownBy : List ℕ → List ℕ → ℕ → Point → ℕ → ℕ → ModelPoint
+shownBy body path offset p status scale =
+    record {
+      offset = offset;
+      number = p .number;
+      level2 = getD path 0 0;
+      level3 = getD path 1 0;
+      level4 = getD path 2 0;
+      status = status;
+      raw = shownRaw (registersAt body offset p);
+      scale = scale;
+    }
+
+-- A point whose scale factor resolves is the same in scopes that agree.
+pub point-agrees : (body path : List ℕ) (offset : ℕ) (reach : List Point) (p : Point) (s t : Scope) → ScaleResolves reach p
+    → Agree reach s t → pointAt body s path offset p ≡ pointAt body t path offset p
+unfolding pointAt
+point-agrees body path offset reach p s t r h = go (eqb (p .scaleKind) scaleByPoint) refl
+  where
+    go : (b : Bool) → eqb (p .scaleKind) scaleByPoint ≡ b
+        → shownBy body path offset p (statusAt body s offset p) (scaleOf p (statusAt body s offset p) (s (p .scale)))
+        ≡ shownBy body path offset p (statusAt body t offset p) (scaleOf p (statusAt body t offset p) (t (p .scale)))
+    go true e =
+        let f = r (eqb-true (p .scaleKind) scaleByPoint e) in
+        let q : s (p .scale) ≡ t (p .scale) = ap s (sym (f .2)) ∙ h (f .0) (f .1) ∙ ap t (f .2) in
+        rw q
+    go false e =
+        let c = classified (p .typeCode) (join (registersAt body offset p)) in
+        let q = no-scale-status p c (s (p .scale)) (t (p .scale)) e in
+        let z = no-scale p (statusAt body t offset p) (s (p .scale)) (t (p .scale)) e in
+        ap (λ x. shownBy body path offset p x (scaleOf p x (s (p .scale)))) q
+        ∙ ap (shownBy body path offset p (statusAt body t offset p)) z
+
+-- Points whose scale factors resolve.
+pub points-agree : (body path : List ℕ) (offset : ℕ) (reach ps : List Point) (s t : Scope) → Each (ScaleResolves reach) ps
+    → Agree reach s t → pointsAt body s path offset ps ≡ pointsAt body t path offset ps
+unfolding pointsAt
+points-agree body path offset reach [] s t r h = refl
+points-agree body path offset reach (p ∷ ps) s t r h =
+    rw (point-agrees body path offset reach p s t (r .0) h, points-agree body path (offset + p .size) reach ps s t (r .1) h)
+
+-- Instances that are the same one by one.
+pub instances-agree : (one other : ℕ → ℕ → List ModelPoint) → ((j at : ℕ) → one j at ≡ other j at)
+    → (n j offset size : ℕ) → instances n j offset size one ≡ instances n j offset size other
+unfolding instances
+instances-agree one other h zero j offset size = refl
+instances-agree one other h (suc n) j offset size =
+    rw (h j offset, instances-agree one other h n (suc j) (offset + size) size)
+
+-- ---- Groups
+
+module _ (body : List ℕ) (fill : ℕ) (top : List Point) (s s′ : Scope) (counts : Agree top s s′) where
+  -- The points of sound groups, in scopes that agree on the points around them, with counts from scopes that agree on the top group.
+  pub groups-agree : (path : List ℕ) (offset : ℕ) (enclosing : List Point) (level : ℕ) (g : Groups)
+      → SoundGroups top enclosing level g → (t t′ : Scope) → Agree enclosing t t′
+      → groupsAt body (countOf s fill) level t path offset g ≡ groupsAt body (countOf s′ fill) level t′ path offset g
+  unfolding groupsAt
+  groups-agree path offset enclosing level noGroup e t t′ h = refl
+  groups-agree path offset enclosing level (group head ps inside behind) e t t′ h =
+      let c = count-agrees s s′ top counts fill level head behind (e .0) in
+      let z = sizes-agree s s′ top counts fill (ps ++ enclosing) (suc level) inside (e .3) in
+      let one : (ℕ → ℕ → List ModelPoint) = λ j at.
+      pointsAt body (within body at ps t) (set path (level - 2) j) at ps
+      ++ groupsAt body (countOf s fill) (suc level) (within body at ps t) (set path (level - 2) j) (at + pointsSize ps) inside in
+      let other : (ℕ → ℕ → List ModelPoint) = λ j at.
+      pointsAt body (within body at ps t′) (set path (level - 2) j) at ps
+      ++ groupsAt body (countOf s′ fill) (suc level) (within body at ps t′) (set path (level - 2) j) (at + pointsSize ps) inside in
+      let each : (j at : ℕ) → one j at ≡ other j at = λ j at.
+      let a = reach-agrees body at ps enclosing t t′ h in
+      rw (
+        points-agree body (set path (level - 2) j) at (ps ++ enclosing) ps (within body at ps t) (within body at ps t′) (points-resolve (ps ++ enclosing) ps (e .2)) a,
+        groups-agree (set path (level - 2) j) (at + pointsSize ps) (ps ++ enclosing) (suc level) inside (e .3) (within body at ps t) (within body at ps t′) a,
+      ) in
+      let b = groups-agree path (offset + countOf s′ fill head * (pointsSize ps + groupsSize (countOf s′ fill) inside)) enclosing level behind (e .4) t t′ h in
+      rw (c, z, instances-agree one other each (countOf s′ fill head) 0 offset (pointsSize ps + groupsSize (countOf s′ fill) inside), b)

@@ -1,0 +1,321 @@
+-- A model whose length is not under its top points and whose count points are implemented: the sizes and points that are held at
+-- a bound decide 29, the number of points and the fill as those by the definition do.
+use mathlib.Core.Path.{_≡_, refl, sym, ap, subst, _∙_}
+use mathlib.Core.Bool.{Bool, true, false, _&&_}
+use mathlib.Core.List.{List, [], _∷_, _++_}
+use mathlib.Core.Option.{Option, none, some}
+use Prim.Native.Nat.{ℕ, zero, suc, min, _+_, _*_, _-_, _/_, _%_, _≤_, _<_}
+use native.Mathlib.Decide.{decLe}
+use native.Mathlib.Nat.{zero-mul, div-eq-of-lt}
+use native.Mathlib.Omega.{arith}
+use borrow.Author.Tests.{eqb-true, eqb-false, eq-eqb, ne-eqb, ltb-true, ltb-false, le-ltb, lt-ltb, leb-true, leb-false, le-leb, lt-leb}
+use lib.Dec.{eqb, leb, ltb}
+use lib.ListN.{length}
+use Rattle.catalog.specs.Frames.{Point, Head, fill}
+use Rattle.catalog.specs.Definitions.{Groups, noGroup, group, Content, pointsSize}
+use Rattle.catalog.specs.Soundness.{In, SoundGroups}
+use Rattle.catalog.proofs.TestLaws.{clash, both, by-test}
+use Rattle.listing.specs.Points.{Scope}
+use Rattle.listing.specs.Layout.{topScope, countOf, groupsSize, fillSize, countUnimplemented, fillSizeOf, fits, fillOf, pointsAt, noInstance, contentAt}
+use Rattle.listing.specs.Counts.{groupsPoints, fillPoints, sizeOr0}
+use Rattle.listing.specs.Reading.{Reading, faulty, points, belowTopPoints, countPointUnimplemented, notTheSize, allButLast, padLeftOut, laidOut, readBy}
+use Rattle.listing.specs.Walks.{Surveyed, surveyedRefused, surveyedPoints, surveyed, Ready}
+use Rattle.listing.specs.Answers.{ExtentOf, fittedBy, surveyForm, ReadyBy}
+use Rattle.listing.specs.declared.extents.Run.{Run}
+use Rattle.listing.specs.declared.extents.Extent.{Extent}
+use Rattle.listing.specs.declared.surveys.Survey.{Survey}
+use Rattle.listing.proofs.Sizes.{fill-takes-registers}
+use Rattle.listing.proofs.PointCounts.{points-counted, content-counted, groups-fit, points-fit, fill-adds-points}
+use Rattle.listing.proofs.Capping.{capped-remainder, capped-quotient}
+use Rattle.listing.proofs.LeftOutPad.{but-one, left-out}
+use Rattle.listing.proofs.CountsAgree.{sizes-agree, points-agree, fill-sizes-agree, fill-points-agree, unimplemented-agrees}
+
+-- An instance of the fill group has no more points than registers.
+fill-fits : (count : Head → ℕ) (top enclosing : List Point) (level : ℕ) (g : Groups) → SoundGroups top enclosing level g
+    → fillPoints count g ≤ sizeOr0 (fillSize count g)
+unfolding fillPoints fillSize
+fill-fits count top enclosing level noGroup e = omega arith
+fill-fits count top enclosing level (group h ps inside behind) e =
+    go (eqb (h .countKind) fill) (fill-fits count top enclosing level behind (e .4))
+  where
+    go : (b : Bool) → fillPoints count behind ≤ sizeOr0 (fillSize count behind)
+        → elim b [ true ↦ length ps + groupsPoints count inside | false ↦ fillPoints count behind ]
+        ≤ sizeOr0 (elim b [ true ↦ some (pointsSize ps + groupsSize count inside) | false ↦ fillSize count behind ])
+    go true r =
+        let p = points-fit (ps ++ enclosing) ps (e .2) in
+        let i = groups-fit count top (ps ++ enclosing) (suc level) inside (e .3) in
+        omega arith
+    go false r = r
+
+-- The extent of sound groups is the same with scopes that agree on the points of the top group.
+pub extent-agrees : (s s′ : Scope) (top enclosing : List Point) (level : ℕ) (g : Groups) (r : Extent)
+    → ((p : Point) → In p top → s (p .number) ≡ s′ (p .number)) → SoundGroups top enclosing level g
+    → ExtentOf s g r → ExtentOf s′ g r
+extent-agrees s s′ top enclosing level g r agree e x =
+    record {
+      size = x .size ∙ ap (λ n. min n 65536) (sizes-agree s s′ top agree 0 enclosing level g e);
+      points = x .points ∙ ap (λ n. min n 65536) (points-agree s s′ top agree 0 enclosing level g e);
+      fillSize = x .fillSize ∙ ap (λ o. min (sizeOr0 o) 65536) (fill-sizes-agree s s′ top agree 0 enclosing level g e);
+      fillPoints = x .fillPoints ∙ ap (λ n. min n 65536) (fill-points-agree s s′ top agree 0 enclosing level g e);
+      unimplemented = x .unimplemented ∙ unimplemented-agrees s s′ top agree enclosing level g e;
+    }
+
+-- ---- By numbers: T and N are the registers and points of the top group, G and P those of the groups without a fill group, size
+-- and Q those of an instance of the fill group, L is the length.
+
+-- A model without a fill group.
+fitted-rest : (first L T N G P : ℕ) (run : Run) (groups : Extent) → L ≤ 65535 → P ≤ G
+    → run .size ≡ T → run .points ≡ N → groups .size ≡ min G 65536 → groups .points ≡ min P 65536 → groups .«fill_size» ≡ 0
+    → fittedBy first run groups L ≡ elim (eqb L (T + G)) [ true ↦ Survey.Points first (N + P) 0 | false ↦ Survey.Refused 29 ]
+fitted-rest first L T N G P run groups short few t n g p z =
+    go (ltb L (run .size + groups .size)) (eqb L (T + G)) refl refl
+  where
+    rest : ℕ
+    rest = run .size + groups .size
+
+    all : ℕ
+    all = run .points + groups .points
+
+    go : (a b : Bool) → ltb L rest ≡ a → eqb L (T + G) ≡ b
+        → _≡_ {A = Survey} (elim a [
+          | true ↦ Survey.Refused 29
+          | false ↦ elim (eqb (groups .«fill_size») 0) [
+            | true ↦ elim (eqb L rest) [ true ↦ Survey.Points first all 0 | false ↦ Survey.Refused 29 ]
+            | false ↦ elim (eqb ((L - rest) % groups .«fill_size») 0) [
+              | true ↦ Survey.Points first (all + (L - rest) / groups .«fill_size» * groups .«fill_points»)
+                  ((L - rest) / groups .«fill_size»)
+              | false ↦ Survey.Refused 29
+            ]
+          ]
+        ]) (elim b [ true ↦ Survey.Points first (N + P) 0 | false ↦ Survey.Refused 29 ])
+    go true true x y =
+        let u = ltb-true L rest x in
+        let v = eqb-true L (T + G) y in
+        absurd (omega arith)
+    go true false x y = refl
+    go false true x y =
+        let v = eqb-true L (T + G) y in
+        let r : L ≡ rest = omega arith in
+        let k : all ≡ N + P = omega arith in
+        rw (eq-eqb (groups .«fill_size») 0 z, eq-eqb L rest r) (ap (λ m. Survey.Points first m 0) k)
+    go false false x y =
+        let u = ltb-false L rest x in
+        let v = eqb-false L (T + G) y in
+        let r : L ≡ rest → ⊥ = λ q. v (omega arith) in
+        rw (eq-eqb (groups .«fill_size») 0 z, ne-eqb L rest r)
+
+-- As many points as fill the rest of the model, held at the bound or not.
+filled-points : (l size Q : ℕ) → l ≤ 65535 → Q ≤ size → l / min size 65536 * min Q 65536 ≡ l / size * Q
+filled-points l size Q short few = go (decLe size 65536)
+  where
+    same : l / min size 65536 ≡ l / size
+    same = capped-quotient 65536 l (omega arith) size
+
+    go : Dec (size ≤ 65536) → l / min size 65536 * min Q 65536 ≡ l / size * Q
+    go (yes h) = let e : min Q 65536 ≡ Q = omega arith in rw (same, e)
+    go (no h) =
+        let none-fits : l < size = omega arith in
+        rw (same, div-eq-of-lt none-fits) (omega (arith, zero-mul (min Q 65536), zero-mul Q))
+
+-- What is left behind the rest, held at the bound or not: the remainder, and how often the size goes into it.
+module _ (l size fs : ℕ) (short : l ≤ 65535) (z : fs ≡ min size 65536) where
+  left-over : l % fs ≡ l % size
+  left-over = ap (λ n. l % n) z ∙ capped-remainder 65536 l (omega arith) size
+
+  often : l / fs ≡ l / size
+  often = ap (λ n. l / n) z ∙ capped-quotient 65536 l (omega arith) size
+
+  often-points : (Q fp : ℕ) → fp ≡ min Q 65536 → Q ≤ size → l / fs * fp ≡ l / size * Q
+  often-points Q fp q few =
+      ap (λ n. l / n * fp) z ∙ ap (λ n. l / min size 65536 * n) q ∙ filled-points l size Q short few
+
+-- The points and the fill, if nothing is left over.
+filled : ℕ → ℕ → ℕ → ℕ → Survey
+filled first over number f = elim (eqb over 0) [ true ↦ Survey.Points first number f | false ↦ Survey.Refused 29 ]
+
+filled-same : (first m n p q f g : ℕ) → m ≡ n → p ≡ q → f ≡ g → filled first m p f ≡ filled first n q g
+filled-same first m n p q f g a b c = rw (a, b, c)
+
+-- A model with a fill group.
+fitted-fill : (first L T N G P size Q : ℕ) (run : Run) (groups : Extent) → L ≤ 65535 → P ≤ G → 1 ≤ size → Q ≤ size
+    → run .size ≡ T → run .points ≡ N → groups .size ≡ min G 65536 → groups .points ≡ min P 65536
+    → groups .«fill_size» ≡ min size 65536 → groups .«fill_points» ≡ min Q 65536
+    → fittedBy first run groups L
+    ≡ elim (leb (T + G) L && eqb ((L - (T + G)) % size) 0) [
+      | true ↦ Survey.Points first (N + (P + (L - (T + G)) / size * Q)) ((L - (T + G)) / size)
+      | false ↦ Survey.Refused 29
+    ]
+unfolding filled
+fitted-fill first L T N G P size Q run groups short few one fewer t n g p z q = go (leb (T + G) L) refl
+  where
+    rest : ℕ
+    rest = run .size + groups .size
+
+    all : ℕ
+    all = run .points + groups .points
+
+    left : ℕ
+    left = L - (T + G)
+
+    right : Bool → Survey
+    right b =
+        elim b [ true ↦ Survey.Points first (N + (P + left / size * Q)) (left / size) | false ↦ Survey.Refused 29 ]
+
+    go : (a : Bool) → leb (T + G) L ≡ a
+        → fittedBy first run groups L ≡ right (a && eqb (left % size) 0)
+    go true e =
+        let l = leb-true (T + G) L e in
+        let r : rest ≤ L = omega arith in
+        let nonzero : groups .«fill_size» ≡ 0 → ⊥ = λ y. omega arith in
+        let d : L - rest ≡ left = omega arith in
+        let small : L - rest ≤ 65535 = omega arith in
+        let fs = groups .«fill_size» in
+        let a = left-over (L - rest) size fs small z ∙ ap (λ k. k % size) d in
+        let b = often (L - rest) size fs small z ∙ ap (λ k. k / size) d in
+        let w = often-points (L - rest) size fs small z Q (groups .«fill_points») q fewer ∙ ap (λ k. k / size * Q) d in
+        let x : all + (L - rest) / fs * groups .«fill_points» ≡ N + (P + left / size * Q) = omega arith in
+        rw (le-ltb L rest r, fittedBy) (rw (ne-eqb (groups .«fill_size») 0 nonzero)
+        (filled-same first ((L - rest) % fs) (left % size) (all + (L - rest) / fs * groups .«fill_points»)
+        (N + (P + left / size * Q)) ((L - rest) / fs) (left / size) a x b))
+    go false e =
+        let l = leb-false (T + G) L e in
+        let r : L < rest = omega arith in
+        rw (lt-ltb L rest r, fittedBy)
+
+-- ---- By the definition
+
+module _ (first : ℕ) (run : Run) (groups : Extent) (c : Content) (body : List ℕ) (short : length body ≤ 65535)
+    (sound : SoundGroups (c .points) (c .points) 2 (c .groups))
+    (registers : run .size ≡ pointsSize (c .points)) (number : run .points ≡ length (c .points))
+    (extent : ExtentOf (topScope (c .points) body) (c .groups) groups) where
+  -- 29, or the points and the fill.
+  pub fitted-by-definition : fittedBy first run groups (length body)
+      ≡ elim (fits c body) [
+        | true ↦ Survey.Points first (length (contentAt c body)) (fillOf c body)
+        | false ↦ Survey.Refused 29
+      ]
+  unfolding fits fillOf
+  fitted-by-definition = go (fillSizeOf c body) refl counted
+    where
+      s : Scope
+      s = topScope (c .points) body
+
+      T : ℕ
+      T = pointsSize (c .points)
+
+      N : ℕ
+      N = length (c .points)
+
+      G : ℕ
+      G = groupsSize (countOf s 0) (c .groups)
+
+      P : ℕ
+      P = groupsPoints (countOf s 0) (c .groups)
+
+      Q : ℕ
+      Q = fillPoints (countOf s 0) (c .groups)
+
+      L : ℕ
+      L = length body
+
+      few : P ≤ G
+      few = groups-fit (countOf s 0) (c .points) (c .points) 2 (c .groups) sound
+
+      counted : length (contentAt c body) ≡ N + (P + fillOf c body * Q)
+      counted =
+          content-counted c body
+          ∙ ap (λ k. N + k) (fill-adds-points s (fillOf c body) (c .points) (c .points) (c .groups) sound)
+
+      fitsBy : Option ℕ → Bool
+      fitsBy o = elim o [ none ↦ eqb L (T + G) | some n ↦ leb (T + G) L && eqb ((L - (T + G)) % n) 0 ]
+
+      fillBy : Option ℕ → ℕ
+      fillBy o = elim o [ none ↦ 0 | some n ↦ (L - (T + G)) / n ]
+
+      result : Bool → ℕ → ℕ → Survey
+      result b k f = elim b [ true ↦ Survey.Points first k f | false ↦ Survey.Refused 29 ]
+
+      go : (o : Option ℕ) → fillSizeOf c body ≡ o → length (contentAt c body) ≡ N + (P + fillBy o * Q)
+          → fittedBy first run groups L ≡ result (fitsBy o) (length (contentAt c body)) (fillBy o)
+      go none e k =
+          let z : groups .«fill_size» ≡ 0 = extent .fillSize ∙ ap (λ o. min (sizeOr0 o) 65536) e in
+          let m : N + P ≡ length (contentAt c body) = omega arith in
+          fitted-rest first L T N G P run groups short few registers number (extent .size) (extent .points) z
+          ∙ ap (λ n. result (eqb L (T + G)) n 0) m
+      go (some n) e k =
+          let z : groups .«fill_size» ≡ min n 65536 = extent .fillSize ∙ ap (λ o. min (sizeOr0 o) 65536) e in
+          let one = fill-takes-registers (countOf s 0) (c .points) (c .points) 2 (c .groups) sound n e in
+          let fits-in = fill-fits (countOf s 0) (c .points) (c .points) 2 (c .groups) sound in
+          let same : sizeOr0 (fillSizeOf c body) ≡ n = ap sizeOr0 e in
+          let fewer : Q ≤ n = omega arith in
+          fitted-fill first L T N G P n Q run groups short few one fewer registers number (extent .size) (extent .points) z
+          (extent .fillPoints)
+          ∙ ap (λ x. result (leb (T + G) L && eqb ((L - (T + G)) % n) 0) x ((L - (T + G)) / n)) (sym k)
+
+-- ---- What surveying answers of a model
+
+module _ (id : ℕ) (c : Content) (body : List ℕ) where
+  -- Of a model without its pad: the points but the pad.
+  pub pad-surveyed : padLeftOut id c (length body) ≡ true
+      → surveyedPoints (length (c .points) - 1) ≡ surveyed (readBy id c body)
+  unfolding readBy
+  pad-surveyed e =
+      let l = left-out id c (length body) e in
+      let b = but-one (c .points) (l .1) in
+      let p = points-counted body (topScope (allButLast (c .points)) body) noInstance 0 (allButLast (c .points)) in
+      let k : length (c .points) - 1
+      ≡ length (pointsAt body (topScope (allButLast (c .points)) body) noInstance 0 (allButLast (c .points))) =
+      omega (arith, b, p) in
+      rw (e, readBy) (ap surveyedPoints k)
+
+  module _ (kept : padLeftOut id c (length body) ≡ false) where
+    -- Any other is read by its layout.
+    whole : readBy id c body ≡ laidOut c body
+    unfolding readBy
+    whole = rw (kept, readBy)
+
+    -- 27.
+    pub below-surveyed : length body < pointsSize (c .points) → surveyedRefused 27 ≡ surveyed (readBy id c body)
+    unfolding laidOut
+    below-surveyed l =
+        let e : laidOut c body ≡ faulty belowTopPoints = rw (lt-ltb (length body) (pointsSize (c .points)) l, laidOut) in
+        sym (ap surveyed (whole ∙ e))
+
+    module _ (long : pointsSize (c .points) ≤ length body) where
+      -- 28.
+      pub unimplemented-surveyed : countUnimplemented (topScope (c .points) body) (c .groups) ≡ true
+          → surveyedRefused 28 ≡ surveyed (readBy id c body)
+      unfolding laidOut
+      unimplemented-surveyed u =
+          let e : laidOut c body ≡ faulty countPointUnimplemented =
+          rw (le-ltb (length body) (pointsSize (c .points)) long, laidOut) (rw u) in
+          sym (ap surveyed (whole ∙ e))
+
+      -- 29, or the points.
+      pub fits-surveyed : (r : Survey) (first : ℕ) → countUnimplemented (topScope (c .points) body) (c .groups) ≡ false
+          → r ≡ elim (fits c body) [
+            | true ↦ Survey.Points first (length (contentAt c body)) (fillOf c body)
+            | false ↦ Survey.Refused 29
+          ]
+          → surveyForm r ≡ surveyed (readBy id c body)
+      unfolding laidOut
+      fits-surveyed r first u q =
+          let e : laidOut c body ≡ elim (fits c body) [ false ↦ faulty notTheSize | true ↦ points (contentAt c body) ] =
+          rw (le-ltb (length body) (pointsSize (c .points)) long, laidOut) (rw u) in
+          ap surveyForm q ∙ go (fits c body) ∙ sym (ap surveyed (whole ∙ e))
+        where
+          go : (b : Bool)
+              → surveyForm (elim b [
+                | true ↦ Survey.Points first (length (contentAt c body)) (fillOf c body)
+                | false ↦ Survey.Refused 29
+              ])
+              ≡ surveyed (elim b [ false ↦ faulty notTheSize | true ↦ points (contentAt c body) ])
+          go true = refl
+          go false = refl
+
+-- Where points were found, their definition is ready to be written by.
+pub ready-by : (ws : List ℕ) (id : ℕ) (body table : List ℕ) (first number f : ℕ) (b : Bool) (r : Survey)
+    → r ≡ elim b [ true ↦ Survey.Points first number f | false ↦ Survey.Refused 29 ] → Ready ws id body table first f
+    → ReadyBy ws id body table r
+ready-by ws id body table first number f b r q h =
+    subst (ReadyBy ws id body table) (sym q) (by-test (ReadyBy ws id body table) b (λ t. h) (λ t. tt))

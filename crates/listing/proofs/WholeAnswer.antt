@@ -1,0 +1,83 @@
+-- The answer of listing and the list behind it, by what decides them.
+use mathlib.Core.Path.{_≡_, refl, sym, ap, _∙_}
+use mathlib.Core.List.{List}
+use mathlib.Core.Option.{none, some}
+use Prim.Native.Nat.{ℕ, _*_, _/_, _≤_, _<_}
+use native.Mathlib.Omega.{arith}
+use borrow.Author.Tests.{lt-ltb, le-ltb}
+use lib.ListN.{length}
+use Rattle.catalog.specs.Checking as Checking
+use Rattle.catalog.specs.Definitions.{definitions}
+use Rattle.register_map.specs.Headers.{opening}
+use Rattle.register_map.specs.Scan.{Model}
+use Rattle.listing.specs.Reading.{Reading, reading}
+use Rattle.listing.specs.Listing.{recordWidth, Answer, refused, listed, withRoom, walked, listedBy, listing, stored, Told, refusedTold, listedTold, told}
+use Rattle.listing.specs.Answers.{WalkFits}
+
+-- What is told and what the list is then are those of an answer.
+abbrev pub Answered : Answer → List ℕ → Told → List ℕ → Type 0
+Answered a out t out′ = (t ≡ told a) × (out′ ≡ stored a out)
+
+pub answered-by : {a b : Answer} (out : List ℕ) {t : Told} {out′ : List ℕ} → b ≡ a → Answered a out t out′ → Answered b out t out′
+answered-by out e w = (w .0 ∙ ap told (sym e), w .1 ∙ ap (λ x. stored x out) (sym e))
+
+-- A refusal leaves the list as it was.
+pub refused-answered : (out : List ℕ) (number place headers : ℕ)
+    → Answered (refused number place headers) out (refusedTold number place headers) out
+unfolding stored
+refused-answered out number place headers = (refl, refl)
+
+-- ---- 30
+
+module _ (out : List ℕ) where
+  -- The list has fewer than 10 × points entries.
+  pub no-room : (a : Answer) (points headers : ℕ) → listedTold points headers ≡ told a → length out / recordWidth < points
+      → Answered (withRoom (length out) a) out (refusedTold 30 points headers) out
+  unfolding withRoom
+  no-room (refused number place behind) points headers e f = let z : _≡_ {A = ℕ} 0 1 = cc in absurd (omega arith)
+  no-room (listed rs behind) points headers e f =
+      let n : points ≡ length rs = cc in
+      let k : headers ≡ behind = cc in
+      let over : length out < recordWidth * length rs = omega arith in
+      rw (lt-ltb (length out) (recordWidth * length rs) over, withRoom, n, k) (refused-answered out 30 (length rs) behind)
+
+  -- It has as many: all fits, and nothing else is refused.
+  pub has-room : (a : Answer) (points headers : ℕ) → listedTold points headers ≡ told a → points ≤ length out / recordWidth
+      → WalkFits a out × (withRoom (length out) a ≡ a)
+  unfolding withRoom
+  has-room (refused number place behind) points headers e f = let z : _≡_ {A = ℕ} 0 1 = cc in absurd (omega arith)
+  has-room (listed rs behind) points headers e f =
+      let n : points ≡ length rs = cc in
+      let fits : recordWidth * length rs ≤ length out = omega arith in
+      (fits, rw (le-ltb (length out) (recordWidth * length rs) fits, withRoom))
+
+  -- A refusal at a header comes first.
+  pub before-room : (a : Answer) (number place headers : ℕ) → refusedTold number place headers ≡ told a
+      → Answered (withRoom (length out) a) out (refusedTold number place headers) out
+  unfolding withRoom stored
+  before-room (refused n at behind) number place headers e = (e, refl)
+  before-room (listed rs behind) number place headers e = let z : _≡_ {A = ℕ} 0 1 = cc in absurd (omega arith)
+
+-- ---- 20 and 21
+
+module _ (read : Model → Reading) (map : List ℕ) (room : ℕ) where
+  pub opens : opening map ≡ none → listedBy read map room ≡ withRoom room (walked read map)
+  unfolding listedBy
+  opens o = rw (o, listedBy)
+
+  pub unopened : {n : ℕ} → opening map ≡ some n → listedBy read map room ≡ refused n 0 0
+  unfolding listedBy
+  unopened o = rw (o, listedBy)
+
+-- ---- 1 to 11
+
+module _ (catalog map : List ℕ) (room : ℕ) where
+  pub accepted-listed : {n : ℕ} → Checking.checked catalog ≡ Checking.accepted n
+      → listing catalog map room ≡ listedBy (reading (definitions catalog)) map room
+  unfolding listing
+  accepted-listed e = rw (e, listing)
+
+  pub catalog-refused : {number place : ℕ} → Checking.checked catalog ≡ Checking.refused number place
+      → listing catalog map room ≡ refused number place 0
+  unfolding listing
+  catalog-refused e = rw (e, listing)

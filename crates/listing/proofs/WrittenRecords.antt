@@ -1,0 +1,78 @@
+-- Records written into a list: one behind the other, and ten numbers each.
+use mathlib.Core.Path.{_≡_, refl, ap, _∙_}
+use mathlib.Core.List.{List, [], _∷_, _++_, map, append-assoc}
+use Prim.Native.Nat.{ℕ, suc, _+_, _*_, _<_}
+use native.Mathlib.Nat.{add-zero}
+use native.Mathlib.Numerals.{add-one}
+use native.Mathlib.Omega.{arith}
+use lib.ListN.{length, getD, drop, set, length-append, length-map}
+use lib.Seq.{sets, drop-cons, length-sets}
+use Rattle.listing.specs.Points.{ModelPoint}
+use Rattle.listing.specs.Listing.{Record, numbersOf, recordWidth, entries}
+use Rattle.listing.specs.Answers.{recordAt, written}
+use Rattle.listing.specs.declared.records.Place.{Place}
+
+-- ---- Runs of stores
+
+-- Storing a ++ b is storing a, and then b behind it.
+pub sets-append : (l : List ℕ) (i : ℕ) (a b : List ℕ) → sets l i (a ++ b) ≡ sets (sets l i a) (i + length a) b
+sets-append l i [] b = rw add-zero
+sets-append l i (x ∷ a) b =
+    let e : suc i + length a ≡ i + suc (length a) = omega arith in
+    rw (← e) (sets-append (set l i x) (suc i) a b)
+
+-- One store of a run.
+pub sets-more : (l : List ℕ) (i k : ℕ) (vs : List ℕ) → k < length vs
+    → sets (set l (i + k) (getD vs k 0)) (i + (k + 1)) (drop (k + 1) vs) ≡ sets l (i + k) (drop k vs)
+sets-more l i k vs h =
+    let e : i + (k + 1) ≡ suc (i + k) = omega arith in
+    rw (e, add-one k, drop-cons vs k 0 h)
+
+-- ---- The numbers of records
+
+pub numbers-length : (r : Record) → length (numbersOf r) ≡ recordWidth
+unfolding numbersOf
+numbers-length r = refl
+
+pub entries-length : (rs : List Record) → length (entries rs) ≡ recordWidth * length rs
+unfolding entries
+entries-length [] = refl
+entries-length (r ∷ rs) =
+    omega (arith, length-append (numbersOf r) (entries rs), numbers-length r, entries-length rs)
+
+pub entries-append : (rs ss : List Record) → entries (rs ++ ss) ≡ entries rs ++ entries ss
+unfolding entries
+entries-append [] ss = refl
+entries-append (r ∷ rs) ss = rw (entries-append rs ss, append-assoc (numbersOf r) (entries rs) (entries ss))
+
+map-append : (f : ModelPoint → Record) (ps qs : List ModelPoint) → map f (ps ++ qs) ≡ map f ps ++ map f qs
+map-append f [] qs = refl
+map-append f (p ∷ ps) qs = ap (λ rs. f p ∷ rs) (map-append f ps qs)
+
+-- ---- Records written
+
+module _ (place : Place) (k : ℕ) where
+  pub written-none : (out : List ℕ) → written place k [] out ≡ out
+  unfolding entries
+  written-none out = refl
+
+  pub written-length : (ps : List ModelPoint) (out : List ℕ) → length (written place k ps out) ≡ length out
+  written-length ps out = length-sets out (recordWidth * k) (entries (map (recordAt place) ps))
+
+  -- The record of one point.
+  pub written-one : (p : ModelPoint) (out : List ℕ)
+      → written place k (p ∷ []) out ≡ sets out (recordWidth * k) (numbersOf (recordAt place p))
+  unfolding entries numbersOf
+  written-one p out = refl
+
+  -- Writing the records of ps ++ qs is writing those of ps, and then those of qs behind them.
+  pub written-append : (ps qs : List ModelPoint) (out : List ℕ)
+      → written place k (ps ++ qs) out ≡ written place (k + length ps) qs (written place k ps out)
+  written-append ps qs out =
+      let f = recordAt place in
+      let a = entries (map f ps) in
+      let b = entries (map f qs) in
+      let e : entries (map f (ps ++ qs)) ≡ a ++ b = ap entries (map-append f ps qs) ∙ entries-append (map f ps) (map f qs) in
+      let n : recordWidth * k + length a ≡ recordWidth * (k + length ps) =
+      omega (arith, entries-length (map f ps), length-map ps f) in
+      rw (e, sets-append out (recordWidth * k) a b, n)

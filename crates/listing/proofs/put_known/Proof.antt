@@ -1,0 +1,129 @@
+-- `listing::put_known` meets its contract: a model's records by its survey, and none where it has none.
+use mathlib.Core.Path.{sym, ap, subst, _∙_}
+use mathlib.Core.List.{List}
+use Prim.Native.Nat.{ℕ, _+_, _*_, _≤_}
+use native.Mathlib.Omega.{arith}
+use lib.ListN.{length, take, drop, length-drop}
+use lib.Seq.{length-take-le}
+use Rattle.catalog.specs.Definitions.{definitions}
+use Rattle.listing.specs.Reading.{Reading, reading}
+use Rattle.listing.specs.Listing.{recordWidth}
+use Rattle.listing.specs.Walks.{pointsOf}
+use Rattle.listing.specs.Answers.{surveyForm, ReadyBy, written}
+use Rattle.listing.proofs.MapSurvey.{no-points-unknown, no-points-refused, has-points}
+use Rattle.listing.proofs.MapRecords.{nothing-written}
+use borrow.Author.Needs.{needs}
+use Rattle.listing.proofs.put_known.Statement.{statement}
+use Rattle.listing.proofs.put_known.Tie as tie
+
+add-part : tie.Need-add-part
+add-part c = search needs
+
+part-requires : tie.Need-part-requires
+part-requires c κs = search needs
+
+survey-model-requires : tie.Need-survey-model-requires
+survey-model-requires c κs =
+    let s = c .before .before .before .before .before .before .before in
+    let v = s .args in
+    let n = v .length in
+    let ws = drop (v .place .address + 2) (v .map .now) in
+    let long = length-take-le n ws (omega (arith, s .pre .1 .1 .0 .0, length-drop (v .place .address + 2) (v .map .now))) in
+    (s .pre .0, (s .pre .1 .0, omega (arith, ap length (c .before .part .ensures), long)))
+
+enum-told : tie.Need-enum-told
+enum-told c = search needs
+
+enum-told-2 : tie.Need-enum-told-2
+enum-told-2 c = search needs
+
+enum-known-survey : tie.Need-enum-known-survey
+enum-known-survey c = search needs
+
+put-model-requires : tie.Need-put-model-requires
+put-model-requires c κs =
+    let m = c .before .before .before .before .before .before .before in
+    let s = m .before .before .before .before .before .before .before .before in
+    let v = s .args in
+    let n = v .length in
+    let ws = drop (v .place .address + 2) (v .map .now) in
+    let read : List ℕ → Reading = λ body. reading (definitions (v .catalog .now)) (record { id = v .place .id; body = body }) in
+    let same = m .before .before .part .ensures in
+    let long = length-take-le n ws (omega (arith, s .pre .1 .1 .0 .0, length-drop (v .place .address + 2) (v .map .now))) in
+    let Ready = ReadyBy (v .catalog .now) (v .place .id) (m .before .before .part .result .now) (m .survey-model .last .1 .0) in
+    let ready = subst Ready (c .before .before .before .survey .given .1) (m .survey-model .ensures .1 .0) in
+    let Room : List ℕ → Type 0 = λ b. recordWidth * (v .records + length (pointsOf (read b))) ≤ length (v .out .now) in
+    let room = subst Room (sym same) (s .pre .1 .1 .1) in
+    let has = has-points (read (m .before .before .part .result .now))
+    (sym (ap surveyForm (c .before .before .before .survey .given .1)) ∙ m .survey-model .ensures .0) in
+    (s .pre .0, (ready, (has, ((omega (arith, ap length same, long), omega arith), room))))
+
+same-length : tie.Need-same-length
+same-length c = search needs
+
+returns : tie.Need-returns
+returns c =
+    let m = c .before .before .before .before in
+    let s = m .before .before .before .before .before .before .before .before in
+    let v = s .args in
+    let n = v .length in
+    let ws = drop (v .place .address + 2) (v .map .now) in
+    let read : List ℕ → Reading = λ body. reading (definitions (v .catalog .now)) (record { id = v .place .id; body = body }) in
+    let same = m .before .before .part .ensures in
+    let seen = sym (ap surveyForm (c .enum-told .given .1)) ∙ m .survey-model .ensures .0 in
+    let none = ap (λ b. pointsOf (read b)) (sym same) ∙ no-points-unknown (read (m .before .before .part .result .now)) seen in
+    let w = nothing-written (v .place) (v .records) (pointsOf (read (take n ws))) (v .out .now) none in
+    (w .0, (w .1, m .survey-model .ensures .1 .1))
+
+same-length-2 : tie.Need-same-length-2
+same-length-2 c = search needs
+
+returns-2 : tie.Need-returns-2
+returns-2 c =
+    let m = c .before .before .before .before in
+    let s = m .before .before .before .before .before .before .before .before in
+    let v = s .args in
+    let n = v .length in
+    let ws = drop (v .place .address + 2) (v .map .now) in
+    let read : List ℕ → Reading = λ body. reading (definitions (v .catalog .now)) (record { id = v .place .id; body = body }) in
+    let same = m .before .before .part .ensures in
+    let seen = sym (ap surveyForm (c .enum-told2 .given .1)) ∙ m .survey-model .ensures .0 in
+    let none = ap (λ b. pointsOf (read b)) (sym same) ∙ no-points-refused (read (m .before .before .part .result .now)) seen in
+    let w = nothing-written (v .place) (v .records) (pointsOf (read (take n ws))) (v .out .now) none in
+    (w .0, (w .1, m .survey-model .ensures .1 .1))
+
+same-length-3 : tie.Need-same-length-3
+same-length-3 c = search needs
+
+same-length-4 : tie.Need-same-length-4
+same-length-4 c = search needs
+
+returns-3 : tie.Need-returns-3
+returns-3 c =
+    let m = c .before .before .before .before .before .before .before .before .before .before .before .before in
+    let v = m .before .before .before .before .before .before .before .before .args in
+    let read : List ℕ → Reading = λ body. reading (definitions (v .catalog .now)) (record { id = v .place .id; body = body }) in
+    let same = m .before .before .part .ensures in
+    let put = c .before .before .before .before .put-model .ensures in (
+      put .0 ∙ ap (λ b. v .records + length (pointsOf (read b))) same,
+      (put .1 .0 ∙ ap (λ b. written (v .place) (v .records) (pointsOf (read b)) (v .out .now)) same, put .1 .1),
+    )
+
+pub put-known-spec : {M : Type 1} → statement M
+put-known-spec =
+    tie.close
+    (tie.spec
+    add-part
+    part-requires
+    survey-model-requires
+    enum-told
+    enum-told-2
+    enum-known-survey
+    put-model-requires
+    same-length
+    returns
+    same-length-2
+    returns-2
+    same-length-3
+    same-length-4
+    returns-3)

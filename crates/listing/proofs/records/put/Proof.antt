@@ -1,0 +1,78 @@
+-- `put` stores ten numbers, one by one. The invariant: storing those that are left gives what storing all gives.
+use mathlib.Core.Path.{_≡_, refl, _∙_}
+use Prim.Native.Nat.{_+_, _-_, _≤_}
+use native.Mathlib.Nat.{add-zero}
+use native.Mathlib.Omega.{arith}
+use borrow.Author.Needs.{needs}
+use lib.ListN.{length, drop, length-set, drop-of-length-le}
+use lib.Seq.{sets}
+use Rattle.listing.proofs.WrittenRecords.{sets-more}
+use Rattle.listing.proofs.records.put.Statement.{statement}
+use Rattle.listing.proofs.records.put.Tie as tie
+
+abbrev Inv-loop : tie.InvT-loop
+Inv-loop out₀ at numbers k₀ out k =
+    (sets out (at + k) (drop k numbers) ≡ sets out₀ at numbers) × (length out ≡ length out₀) × (k ≤ 10)
+
+abbrev μ-loop : tie.MeasureT-loop
+μ-loop out₀ at numbers k₀ out k = 10 - k
+
+loop-holds : tie.Need-loop-holds Inv-loop μ-loop
+loop-holds c = (rw add-zero, refl, search needs)
+
+mul-out : tie.Need-mul-out Inv-loop μ-loop
+mul-out c = search needs
+
+array-read-out : tie.Need-array-read-out Inv-loop μ-loop
+array-read-out c = search needs
+
+add-out : tie.Need-add-out Inv-loop μ-loop
+add-out c = search needs
+
+mul-out-2 : tie.Need-mul-out-2 Inv-loop μ-loop
+mul-out-2 c = search needs
+
+slice-write-out : tie.Need-slice-write-out Inv-loop μ-loop
+slice-write-out c = search needs
+
+add-k : tie.Need-add-k Inv-loop μ-loop
+add-k c = search needs
+
+loop-less : tie.Need-loop-less Inv-loop μ-loop
+loop-less c = search needs
+
+loop-again : tie.Need-loop-again Inv-loop μ-loop
+loop-again c =
+    let a = c .before .before .args in
+    let l = c .before .loop in
+    let ten : length (a .t3) ≡ 10 = search needs in
+    (sets-more (l .out) (a .at) (l .k) (a .t3) (omega arith) ∙ l .inv .0, simp length-set (l .inv .1), omega arith)
+
+same-length : tie.Need-same-length Inv-loop μ-loop
+same-length c = search needs
+
+returns : tie.Need-returns Inv-loop μ-loop
+returns c =
+    let a = c .before .before .args in
+    let l = c .before .loop in
+    let ten : length (a .t3) ≡ 10 = search needs in
+    let past : length (a .t3) ≤ l .k = omega arith in
+    rw (drop-of-length-le (a .t3) past) at (l .inv .0)
+
+pub put-spec : {M : Type 1} → statement M
+put-spec =
+    tie.close
+    (tie.spec
+    Inv-loop
+    μ-loop
+    loop-holds
+    mul-out
+    array-read-out
+    add-out
+    mul-out-2
+    slice-write-out
+    add-k
+    loop-less
+    loop-again
+    same-length
+    returns)

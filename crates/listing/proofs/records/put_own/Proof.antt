@@ -1,0 +1,81 @@
+-- `put_own` notes the points of an instance, and then writes their records by the table.
+use mathlib.Core.Path.{_≡_, sym, ap, subst, _∙_}
+use mathlib.Core.List.{List}
+use Prim.Native.Nat.{ℕ, _+_, _<_}
+use native.Mathlib.Omega.{arith}
+use borrow.Author.Needs.{needs}
+use lib.ListN.{length, getD}
+use Rattle.catalog.specs.Frames.{Point}
+use Rattle.listing.specs.Points.{ModelPoint}
+use Rattle.listing.specs.Walks.{heldAt, noted, begun}
+use Rattle.listing.specs.Answers.{written, RunAsks, BehindRun}
+use Rattle.listing.specs.declared.records.Progress.{Progress}
+use Rattle.listing.proofs.Standing.{stands-within}
+use Rattle.listing.proofs.NotedPoints.{noted-length, numbers-in-table, begun-all, own-points}
+use Rattle.listing.proofs.records.put_own.Statement.{statement}
+use Rattle.listing.proofs.records.put_own.Tie as tie
+
+add-behind : tie.Need-add-behind
+add-behind c =
+    let s = c .before .before .before .before .before in
+    omega (arith, stands-within (s .args .catalog .now) (s .args .at .frame + 1) (s .pre .1 .stands), s .pre .1 .few)
+
+note-run-requires : tie.Need-note-run-requires
+note-run-requires c κs = search needs
+
+-- The progress in front of the points.
+abbrev start : tie.Start → Progress
+start s = record { records = s .args .at .records; offset = s .args .at .offset; frame = s .args .at .frame + 1 }
+
+-- The points, and those that begin before the end of the body: all.
+abbrev own : tie.Start → List Point
+own s = heldAt (s .args .catalog .now) (s .args .at .frame + 1) .points
+
+abbrev ownBegun : tie.Start → List Point
+ownBegun s = begun (length (s .args .body .now)) (s .args .at .offset) (own s)
+
+all-begun : (s : tie.Start) → ownBegun s ≡ own s
+all-begun s = begun-all (length (s .args .body .now)) (s .args .at .offset) (own s) (s .pre .1 .sized) (s .pre .1 .inside)
+
+put-run-requires : tie.Need-put-run-requires
+put-run-requires c κs =
+    let noting = c .before .before .before .before in
+    let s = noting .before .before .before .before .before .before .before in
+    let a = s .args in
+    let isTable = ap length (noting .note-run .ensures)
+    ∙ noted-length (a .body .now) (a .at .offset) (ownBegun s) (a .table .now)
+    ∙ s .pre .0 .0 in (
+      (isTable, s .pre .0 .1),
+      subst (λ (ps : List Point). RunAsks (a .catalog .now) (a .body .now) (a .out .now) (a .place) (start s) ps)
+          (sym (all-begun s)) (s .pre .1),
+    )
+
+same-length : tie.Need-same-length
+same-length c = search needs
+
+same-length-2 : tie.Need-same-length-2
+same-length-2 c = search needs
+
+returns : tie.Need-returns
+returns c =
+    let put = c .before .before .put-run in
+    let noting = c .before .before .before .before .before .before .before in
+    let known = noting .before .before .before .before .before .before in
+    let s = known .before in
+    let a = s .args in
+    let body = a .body .now in
+    let all = all-begun s in
+    let words : (k : ℕ) → getD (a .catalog .now) k 0 < 65536 = λ k. omega (arith, known .shared-slice-known .given k) in
+    let numbers = numbers-in-table (a .catalog .now) words (a .at .frame + 1) (s .pre .1 .stands) in
+    let points = own-points body (a .at .offset) (own s) (a .table .now) (a .path .instances) (noting .note-run .last .1 .1 .1 .1 .0)
+    (s .pre .0 .0) numbers all (noting .note-run .ensures) in (
+      subst (λ (ps : List Point). BehindRun (start s) ps (put .result)) all (put .ensures .0),
+      (
+        put .ensures .1 ∙ ap (λ (ps : List ModelPoint). written (a .place) (a .at .records) ps (a .out .now)) points,
+        noting .note-run .ensures ∙ ap (λ (ps : List Point). noted body (a .at .offset) ps (a .table .now)) all,
+      ),
+    )
+
+pub put-own-spec : {M : Type 1} → statement M
+put-own-spec =
+    tie.close (tie.spec add-behind note-run-requires put-run-requires same-length same-length-2 returns)

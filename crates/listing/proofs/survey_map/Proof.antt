@@ -1,0 +1,212 @@
+-- `listing::survey_map` meets its contract: from each header on, with the points so far, what is left decides as the whole.
+use mathlib.Core.Path.{sym, ap, subst, _∙_}
+use mathlib.Core.Logic.{⊎-elim}
+use Prim.Native.Nat.{ℕ, _+_, _-_}
+use native.Mathlib.Omega.{arith}
+use lib.Dec.{eqb}
+use lib.ListN.{length}
+use Rattle.catalog.specs.Definitions.{definitions}
+use Rattle.register_map.specs.Answers.{headerForm}
+use Rattle.register_map.proofs.HeaderLaws.{opening-none}
+use Rattle.register_map.proofs.HeaderCases.{model-ends}
+use Rattle.listing.specs.Reading.{reading}
+use Rattle.listing.specs.Walks.{IsTable, surveyed}
+use Rattle.listing.specs.Answers.{surveyForm}
+use Rattle.listing.proofs.MapSteps.{body-length}
+use Rattle.listing.proofs.MapSurvey.{Surveying, survey-starts, survey-ends, survey-refused, survey-late, survey-unknown, survey-faulty, more-fit, survey-points}
+use Rattle.listing.proofs.PointsFew.{points-few}
+use borrow.Author.Needs.{needs}
+use Rattle.listing.proofs.survey_map.Statement.{statement}
+use Rattle.listing.proofs.survey_map.Tie as tie
+
+abbrev Inv-loop : tie.InvT-loop
+Inv-loop catalog map table₀ at₀ headers₀ points₀ table at headers points =
+    Surveying (reading (definitions catalog)) map at headers points × IsTable table
+
+abbrev μ-loop : tie.MeasureT-loop
+μ-loop catalog map table₀ at₀ headers₀ points₀ table at headers points = length map - at
+
+loop-holds : tie.Need-loop-holds Inv-loop μ-loop
+loop-holds c =
+    let s = c .before .before .before in
+    (survey-starts (reading (definitions (s .args .catalog .now))) (s .args .map .now), s .pre .1 .1)
+
+header-at-requires : tie.Need-header-at-requires Inv-loop μ-loop
+header-at-requires c κs = search needs
+
+enum-known-header : tie.Need-enum-known-header Inv-loop μ-loop
+enum-known-header c = search needs
+
+add-part : tie.Need-add-part Inv-loop μ-loop
+add-part c = search needs
+
+cast-part : tie.Need-cast-part Inv-loop μ-loop
+cast-part c = search needs
+
+part-requires : tie.Need-part-requires Inv-loop μ-loop
+part-requires c κs =
+    let k = c .before .before in
+    let s = k .before .before .before .before .before .before .before .before in
+    let l = k .before .before .before .before .loop in
+    let g = k .header .given in
+    let h = sym (k .before .before .header-at .ensures) ∙ ap headerForm (g .1) in
+    omega (arith, model-ends (eqb (l .at) 2) (s .args .map .now) (l .at) h)
+
+survey-model-requires : tie.Need-survey-model-requires Inv-loop μ-loop
+survey-model-requires c κs =
+    let k = c .before .before .before in
+    let s = k .before .before .before .before .before .before .before .before in
+    let l = k .before .before .before .before .loop in
+    let g = k .header .given in
+    let h = sym (k .before .before .header-at .ensures) ∙ ap headerForm (g .1) in
+    let short = opening-none (s .args .map .now) (s .pre .1 .0) .0 in
+    let ends = model-ends (eqb (l .at) 2) (s .args .map .now) (l .at) h in
+    let all = ap length (c .part .ensures) ∙ body-length (s .args .map .now) (l .at) (g .0 .0) (g .0 .1 .0) h in
+    (s .pre .0, (l .inv .1, omega (arith, all, short, ends)))
+
+enum-told : tie.Need-enum-told Inv-loop μ-loop
+enum-told c = search needs
+
+enum-known-survey : tie.Need-enum-known-survey Inv-loop μ-loop
+enum-known-survey c = search needs
+
+same-length : tie.Need-same-length Inv-loop μ-loop
+same-length c = search needs
+
+returns : tie.Need-returns Inv-loop μ-loop
+returns c =
+    let m = c .before .before .before .before .before in
+    let k = m .before .before .before .before in
+    let s = k .before .before .before .before .before .before .before .before in
+    let l = k .before .before .before .before .loop in
+    let g = k .header .given in
+    let h = sym (k .before .before .header-at .ensures) ∙ ap headerForm (g .1) in
+    let short = opening-none (s .args .map .now) (s .pre .1 .0) .0 in
+    let read = reading (definitions (s .args .catalog .now)) in
+    let seen = m .survey-model .ensures .0
+    ∙ ap (λ body. surveyed (read (record { id = g .0 .0; body = body }))) (m .before .part .ensures) in
+    let e = sym (ap surveyForm (c .before .survey .given .1)) ∙ seen in
+    (survey-faulty (l .inv .0) short h e, m .survey-model .ensures .1 .1)
+
+enum-known-survey-2 : tie.Need-enum-known-survey-2 Inv-loop μ-loop
+enum-known-survey-2 c = search needs
+
+add-points : tie.Need-add-points Inv-loop μ-loop
+add-points c =
+    let m = c .before .before .before .before .before in
+    let k = m .before .before .before .before in
+    let s = k .before .before .before .before .before .before .before .before in
+    let l = k .before .before .before .before .loop in
+    let g = k .header .given in
+    let h = sym (k .before .before .header-at .ensures) ∙ ap headerForm (g .1) in
+    let short = opening-none (s .args .map .now) (s .pre .1 .0) .0 in
+    let read = reading (definitions (s .args .catalog .now)) in
+    let seen = m .survey-model .ensures .0
+    ∙ ap (λ body. surveyed (read (record { id = g .0 .0; body = body }))) (m .before .part .ensures) in
+    let e = sym (ap surveyForm (c .before .survey2 .given .1)) ∙ seen in
+    let more = more-fit (l .inv .0) short h (points-few (s .args .catalog .now) (s .pre .0)) e in
+    record { fits = omega (arith, more) }
+
+cast-at : tie.Need-cast-at Inv-loop μ-loop
+cast-at c = search needs
+
+add-at : tie.Need-add-at Inv-loop μ-loop
+add-at c = search needs
+
+add-at-2 : tie.Need-add-at-2 Inv-loop μ-loop
+add-at-2 c = search needs
+
+add-headers : tie.Need-add-headers Inv-loop μ-loop
+add-headers c = search needs
+
+loop-less : tie.Need-loop-less Inv-loop μ-loop
+loop-less c = search needs
+
+loop-again : tie.Need-loop-again Inv-loop μ-loop
+loop-again c =
+    let m = c .before .before .before in
+    let k = m .before .before .before .before in
+    let s = k .before .before .before .before .before .before .before .before in
+    let l = k .before .before .before .before .loop in
+    let g = k .header .given in
+    let h = sym (k .before .before .header-at .ensures) ∙ ap headerForm (g .1) in
+    let short = opening-none (s .args .map .now) (s .pre .1 .0) .0 in
+    let read = reading (definitions (s .args .catalog .now)) in
+    let seen = m .survey-model .ensures .0
+    ∙ ap (λ body. surveyed (read (record { id = g .0 .0; body = body }))) (m .before .part .ensures) in
+    let few = points-few (s .args .catalog .now) (s .pre .0) in
+    let Goes : ℕ → Type 0 = λ n. Surveying read (s .args .map .now) (l .at + (2 + g .0 .1 .0)) (l .headers + 1) n in
+    let next : Goes (c .match2 .points) =
+    ⊎-elim
+    (λ w. subst Goes (sym (w .2)) (survey-unknown (l .inv .0) short h (sym (ap surveyForm (w .1 .given .1)) ∙ seen)))
+    (λ w. subst Goes (sym (w .3)) (survey-points (l .inv .0) short h few (sym (ap surveyForm (w .1 .given .1)) ∙ seen)))
+    (c .match2 .came) in
+    (next, m .survey-model .ensures .1 .1)
+
+enum-told-2 : tie.Need-enum-told-2 Inv-loop μ-loop
+enum-told-2 c = search needs
+
+add-t21 : tie.Need-add-t21 Inv-loop μ-loop
+add-t21 c = search needs
+
+same-length-2 : tie.Need-same-length-2 Inv-loop μ-loop
+same-length-2 c = search needs
+
+returns-2 : tie.Need-returns-2 Inv-loop μ-loop
+returns-2 c =
+    let l = c .before .before .before .before .loop in
+    let h = sym (c .before .before .header-at .ensures) ∙ ap headerForm (c .enum-told2 .given .1) in
+    (survey-ends (l .inv .0) (omega arith) h, l .inv .1)
+
+enum-known-header-2 : tie.Need-enum-known-header-2 Inv-loop μ-loop
+enum-known-header-2 c = search needs
+
+same-length-3 : tie.Need-same-length-3 Inv-loop μ-loop
+same-length-3 c = search needs
+
+returns-3 : tie.Need-returns-3 Inv-loop μ-loop
+returns-3 c =
+    let l = c .before .before .before .before .before .loop in
+    let h = sym (c .before .before .before .header-at .ensures) ∙ ap headerForm (c .before .header2 .given .1) in
+    (survey-refused (l .inv .0) (omega arith) h, l .inv .1)
+
+same-length-4 : tie.Need-same-length-4 Inv-loop μ-loop
+same-length-4 c = search needs
+
+returns-4 : tie.Need-returns-4 Inv-loop μ-loop
+returns-4 c = (survey-late (c .before .loop .inv .0) (omega arith), c .before .loop .inv .1)
+
+pub survey-map-spec : {M : Type 1} → statement M
+survey-map-spec =
+    tie.close
+    (tie.spec
+    Inv-loop
+    μ-loop
+    loop-holds
+    header-at-requires
+    enum-known-header
+    add-part
+    cast-part
+    part-requires
+    survey-model-requires
+    enum-told
+    enum-known-survey
+    same-length
+    returns
+    enum-known-survey-2
+    add-points
+    cast-at
+    add-at
+    add-at-2
+    add-headers
+    loop-less
+    loop-again
+    enum-told-2
+    add-t21
+    same-length-2
+    returns-2
+    enum-known-header-2
+    same-length-3
+    returns-3
+    same-length-4
+    returns-4)

@@ -1,0 +1,68 @@
+-- `survey_model` meets its contract: it surveys by the definition that is found.
+use mathlib.Core.Path.{sym, ap, subst, _∙_}
+use Rattle.catalog.specs.Definitions.{definitions}
+use Rattle.listing.specs.Walks.{heldAt, surveyed}
+use Rattle.listing.specs.Answers.{foundForm, FoundStands}
+use Rattle.listing.proofs.SurveyedByFrames.{read-known, read-unknown}
+use borrow.Author.Needs.{needs}
+use Rattle.listing.proofs.surveys.survey_model.Statement.{statement}
+use Rattle.listing.proofs.surveys.survey_model.Tie as tie
+use Rattle.listing.proofs.surveys.survey_model.Reads as reads
+use Rattle.listing.proofs.surveys.survey_model.Lts as lts
+use Rattle.listing.proofs.frames.find_model.Reads as find-model-reads
+use Rattle.listing.proofs.surveys.survey_known.Reads as survey-known-reads
+
+find-model-requires : tie.Need-find-model-requires
+find-model-requires c κs = search needs
+
+enum-known-found : tie.Need-enum-known-found
+enum-known-found c = search needs
+
+survey-known-requires : tie.Need-survey-known-requires
+survey-known-requires c κs =
+    let b = c .before .before .before .before .before .before .before .before in
+    let a = b .args in
+    let ws = a .catalog .now in
+    let f = c .before .before .before .before .find-model in
+    let here = c .before .before .found .given .1 in
+    let stands = subst (FoundStands ws) here (f .ensures .1) in
+    (b .pre .0, ((b .pre .1 .0, b .pre .1 .1), (stands, sym (f .ensures .0) ∙ ap (foundForm ws) here)))
+
+enum-told : tie.Need-enum-told
+enum-told c = search needs
+
+same-length : tie.Need-same-length
+same-length c = search needs
+
+returns : tie.Need-returns
+returns c =
+    let b = c .before .before .before .before .before .before .before .before .before .before .before in
+    let a = b .args in
+    let ws = a .catalog .now in
+    let f = c .before .before .before .before .before .before .before .find-model in
+    let here = c .before .before .before .before .before .found .given .1 in
+    let known = sym (f .ensures .0) ∙ ap (foundForm ws) here in
+    let k = c .before .before .survey-known in
+    let read = read-known (definitions ws) (a .id) (a .body .now) (heldAt ws (c .before .before .before .before .before .found .given .0 .0)) known in
+    (k .ensures .0 ∙ sym (ap surveyed read), k .ensures .1)
+
+returns-2 : tie.Need-returns-2
+returns-2 c =
+    let b = c .before .before .before .before .before .before in
+    let a = b .args in
+    let ws = a .catalog .now in
+    let f = c .before .before .find-model in
+    let none = sym (f .ensures .0) ∙ ap (foundForm ws) (c .enum-told .given .1) in
+    (sym (ap surveyed (read-unknown (definitions ws) (a .id) (a .body .now) none)), (tt, b .pre .1 .0))
+
+pub survey-model-spec : {M : Type 1} → statement M
+survey-model-spec =
+    tie.close
+    (tie.spec
+    find-model-requires
+    enum-known-found
+    survey-known-requires
+    enum-told
+    same-length
+    returns
+    returns-2)

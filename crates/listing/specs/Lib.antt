@@ -1,0 +1,10 @@
+pub mod Points
+pub mod Layout
+pub mod Reading
+pub mod Listing
+pub mod Counts
+pub mod Stability
+pub mod Removed
+pub mod Tiling
+pub mod Walks
+pub mod Answers

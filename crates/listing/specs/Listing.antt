@@ -1,0 +1,114 @@
+-- Listing a map by a catalog (document 01, "Listing"): the answer, the records, and the output list.
+use mathlib.Core.Bool.{Bool, true, false}
+use mathlib.Core.List.{List, [], _∷_, _++_, map}
+use mathlib.Core.Option.{none, some}
+use Prim.Native.Nat.{ℕ, suc, _+_, _*_}
+use lib.Dec.{ltb}
+use lib.ListN.{length, drop}
+use Rattle.catalog.specs.Checking as Checking
+use Rattle.catalog.specs.Definitions.{definitions}
+use Rattle.register_map.specs.Headers.{opening}
+use Rattle.register_map.specs.Scan.{Model, sizeOf, Ending, marked, broken, scan}
+use Rattle.listing.specs.Points.{ModelPoint}
+use Rattle.listing.specs.Reading.{Reading, unknown, faulty, points, faultNumber, reading}
+
+-- A record: the model's index (unknown models counted), its id, the point's address (0 is that of the register 5375), and the point.
+pub record Record : Type 0 where
+  pub index : ℕ
+  pub id : ℕ
+  pub address : ℕ
+  pub point : ModelPoint
+
+-- The numbers of a record.
+abbrev pub recordWidth : ℕ
+recordWidth = 10
+
+-- The ten numbers of a record, in order.
+unfoldable pub numbersOf : Record → List ℕ
+numbersOf r =
+    r .index
+    ∷ r .id
+    ∷ r .point .number
+    ∷ r .point .level2
+    ∷ r .point .level3
+    ∷ r .point .level4
+    ∷ r .address
+    ∷ r .point .status
+    ∷ r .point .raw
+    ∷ r .point .scale
+    ∷ []
+
+-- The record of a point, in the model with an index whose header has an address.
+abbrev pub recordOf : ℕ → ℕ → Model → ModelPoint → Record
+recordOf index at m p = record { index = index; id = m .id; address = at + 2 + p .offset; point = p }
+
+-- What listing finds: a refusal with its number, its place and the headers before it; or the records and the headers.
+pub data Answer : Type 0 where
+  refused : ℕ → ℕ → ℕ → Answer
+  listed : List Record → ℕ → Answer
+
+-- Records in front of those of an answer.
+abbrev pub inFront : List Record → Answer → Answer
+inFront rs (refused number place headers) = refused number place headers
+inFront rs (listed ss headers) = listed (rs ++ ss) headers
+
+-- From the model with an index, at an address, on: header by header, the first fault decides. At the end the headers are the models
+-- and the end marker.
+unfoldable pub walk : (Model → Reading) → Ending → ℕ → ℕ → List Model → Answer
+walk read marked index at [] = listed [] (index + 1)
+walk read (broken number) index at [] = refused number at index
+walk read ending index at (m ∷ ms) =
+    elim (read m) [
+      | unknown ↦ walk read ending (index + 1) (at + sizeOf m) ms
+      | faulty fault ↦ refused (faultNumber fault) at index
+      | points ps ↦ inFront (map (recordOf index at m) ps) (walk read ending (index + 1) (at + sizeOf m) ms)
+    ]
+
+-- 30: the list has fewer than 10 × points entries (place: points needed).
+unfoldable pub withRoom : ℕ → Answer → Answer
+withRoom room (refused number place headers) = refused number place headers
+withRoom room (listed rs headers) =
+    elim (ltb room (recordWidth * length rs)) [ true ↦ refused 30 (length rs) headers | false ↦ listed rs headers ]
+
+-- The map's models by the definitions, whatever the room.
+abbrev pub walked : (Model → Reading) → List ℕ → Answer
+walked read map = walk read (scan map .ending) 0 2 (scan map .models)
+
+-- The map by how its models are read: 20 and 21, header by header, and 30.
+unfoldable pub listedBy : (Model → Reading) → List ℕ → ℕ → Answer
+listedBy read map room =
+    elim (opening map) [ some number ↦ refused number 0 0 | none ↦ withRoom room (walked read map) ]
+
+-- Listing a map by a catalog, into a list of so many entries: 1 to 11 first.
+unfoldable pub listing : List ℕ → List ℕ → ℕ → Answer
+listing catalog map room =
+    elim (Checking.checked catalog) [
+      | Checking.refused number place ↦ refused number place 0
+      | Checking.accepted models ↦ listedBy (reading (definitions catalog)) map room
+    ]
+
+-- ---- The answer and the output list
+
+-- The points counted: 0 on a refusal.
+abbrev pub pointCount : Answer → ℕ
+pointCount (refused number place headers) = 0
+pointCount (listed rs headers) = length rs
+
+-- The numbers of records, one behind the other.
+unfoldable pub entries : List Record → List ℕ
+entries [] = []
+entries (r ∷ rs) = numbersOf r ++ entries rs
+
+-- The output list behind an answer: the records' numbers and the rest as it was; on a refusal all as it was.
+unfoldable pub stored : Answer → List ℕ → List ℕ
+stored (refused number place headers) out = out
+stored (listed rs headers) out = entries rs ++ drop (recordWidth * length rs) out
+
+-- What listing answers of what it finds: the count of points and of headers, or the refusal.
+pub data Told : Type 0 where
+  refusedTold : ℕ → ℕ → ℕ → Told
+  listedTold : ℕ → ℕ → Told
+
+abbrev pub told : Answer → Told
+told (refused number place headers) = refusedTold number place headers
+told (listed rs headers) = listedTold (length rs) headers

@@ -1,0 +1,75 @@
+-- What a definition says of one model's body, alone (document 01, "Listing", 27 to 29): a fault, or its points.
+use mathlib.Core.Bool.{Bool, true, false, not, _&&_}
+use mathlib.Core.List.{List, [], _∷_}
+use Prim.Native.Nat.{ℕ, _+_}
+use lib.Dec.{eqb, ltb}
+use lib.ListN.{length}
+use Rattle.catalog.specs.Frames.{Point}
+use Rattle.catalog.specs.Definitions.{Groups, noGroup, group, Content, Definition, pointsSize}
+use Rattle.register_map.specs.Scan.{Model}
+use Rattle.listing.specs.Points.{ModelPoint}
+use Rattle.listing.specs.Layout.{topScope, countUnimplemented, fits, noInstance, pointsAt, contentAt}
+
+-- 27: the length is under the top points. 28: a count point is unimplemented. 29: the length is not the size.
+pub data Fault : Type 0 where
+  belowTopPoints countPointUnimplemented notTheSize : Fault
+
+abbrev pub faultNumber : Fault → ℕ
+faultNumber belowTopPoints = 27
+faultNumber countPointUnimplemented = 28
+faultNumber notTheSize = 29
+
+-- What a catalog says of a model: nothing where it lacks its id; else a fault or the points.
+pub data Reading : Type 0 where
+  unknown : Reading
+  faulty : Fault → Reading
+  points : List ModelPoint → Reading
+
+-- The type code of a pad.
+abbrev pub pad : ℕ
+pad = 6
+
+-- Is the last of these points a pad?
+unfoldable pub endsWithPad : List Point → Bool
+endsWithPad [] = false
+endsWithPad (p ∷ []) = eqb (p .typeCode) pad
+endsWithPad (p ∷ q ∷ ps) = endsWithPad (q ∷ ps)
+
+-- All but the last.
+unfoldable pub allButLast : List Point → List Point
+allButLast [] = []
+allButLast (p ∷ []) = []
+allButLast (p ∷ q ∷ ps) = p ∷ allButLast (q ∷ ps)
+
+abbrev pub hasNoGroup : Groups → Bool
+hasNoGroup noGroup = true
+hasNoGroup (group h ps inside behind) = false
+
+-- Is the last pad left out? In model 1 without groups whose last point is a pad, the length may be one short of the top size.
+abbrev pub padLeftOut : ℕ → Content → ℕ → Bool
+padLeftOut id c len =
+    eqb id 1 && (hasNoGroup (c .groups) && (endsWithPad (c .points) && eqb (len + 1) (pointsSize (c .points))))
+
+-- 27, 28 and 29 in order, else the points.
+unfoldable pub laidOut : Content → List ℕ → Reading
+laidOut c body =
+    elim (ltb (length body) (pointsSize (c .points))) [
+      | true ↦ faulty belowTopPoints
+      | false ↦ elim (countUnimplemented (topScope (c .points) body) (c .groups)) [
+        | true ↦ faulty countPointUnimplemented
+        | false ↦ elim (fits c body) [ false ↦ faulty notTheSize | true ↦ points (contentAt c body) ]
+      ]
+    ]
+
+-- A model of an id by the top group of its definition. A pad that is left out has no record, and 27 and 29 do not arise.
+unfoldable pub readBy : ℕ → Content → List ℕ → Reading
+readBy id c body =
+    elim (padLeftOut id c (length body)) [
+      | true ↦ points (pointsAt body (topScope (allButLast (c .points)) body) noInstance 0 (allButLast (c .points)))
+      | false ↦ laidOut c body
+    ]
+
+-- A model by the definitions of a catalog: the first of its id, if there is one.
+unfoldable pub reading : List Definition → Model → Reading
+reading [] m = unknown
+reading (d ∷ ds) m = elim (eqb (d .id) (m .id)) [ true ↦ readBy (m .id) (d .top) (m .body) | false ↦ reading ds m ]

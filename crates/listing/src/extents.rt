@@ -1,0 +1,188 @@
+// How many registers and points a model takes by its definition, before anything is written.
+use crate::frames::GroupOr;
+use crate::frames::PointOr;
+use crate::frames::group_at;
+use crate::frames::point_at;
+use catalog::CONSTANT_COUNT;
+use catalog::COUNT_BY_POINT;
+use catalog::FILL;
+use catalog::Head;
+ghost use mathlib.Core.Path.{_≡_};
+ghost use mathlib.Core.Bool.{_&&_};
+ghost use Prim.Native.Nat.{_+_, _*_, _/_, _≤_, min};
+ghost use lib.Dec.{eqb};
+ghost use lib.ListN.{length};
+ghost use Rattle.catalog.specs.Frames.{countByPoint};
+ghost use Rattle.catalog.specs.Answers.{headForm};
+ghost use Rattle.listing.specs.Layout.{countOf};
+ghost use Rattle.listing.specs.Walks.{heldAt, Stands, pastEnd, scopeIn, IsTable, AtGroups};
+ghost use Rattle.listing.specs.Answers.{RunOf, ExtentOf, Capped, WithGroup};
+
+// Nested counts can make a size of more than 64 bits. No map has more registers than this, so sizes and
+// numbers of points are capped at it.
+pub(crate) const CAP: usize = 65536;
+
+// The type code of a pad.
+const PAD: u16 = 6;
+
+// The points of a group: their registers, their number, the frame behind them, and whether the last is a pad.
+pub(crate) struct Run {
+    pub(crate) size: usize,
+    pub(crate) points: usize,
+    pub(crate) next: usize,
+    pub(crate) ends_with_pad: bool,
+}
+
+// Groups side by side: their registers and points, those of a fill group left out; the registers and points of
+// an instance of the fill group, 0 where there is none; whether a count point is unimplemented; and the
+// frame behind the end frame of the group that they stand in.
+pub(crate) struct Extent {
+    pub(crate) size: usize,
+    pub(crate) points: usize,
+    pub(crate) fill_size: usize,
+    pub(crate) fill_points: usize,
+    pub(crate) unimplemented: bool,
+    pub(crate) next: usize,
+}
+
+// The points from frame `first` on.
+pub(crate) fn run_extent(catalog: &[u16], first: usize) -> Run
+    requires { ⌜ Stands (now catalog) first × (length (now catalog) / 8 ≤ 4096) ⌝ }
+    ensures { λ r. ⌜ RunOf (now (catalog .entry)) first r ⌝ }
+{
+    let frames = catalog.len() / 8;
+    let mut size = 0usize;
+    let mut ends_with_pad = false;
+    let mut i = first;
+    while i < frames {
+        let next = point_at(catalog, i);
+        match next {
+            PointOr::Point(point) => {
+                size += point.size as usize;
+                ends_with_pad = point.type_code == PAD;
+                i += 1;
+            }
+            PointOr::Other => {
+                return Run {
+                    size,
+                    points: i - first,
+                    next: i,
+                    ends_with_pad,
+                };
+            }
+        }
+    }
+    Run {
+        size,
+        points: i - first,
+        next: i,
+        ends_with_pad,
+    }
+}
+
+// The groups from frame `first` on, in a group that may hold groups of so many levels. Each frame is met once.
+pub(crate) fn groups_extent(catalog: &[u16], table: &[u16], levels: usize, first: usize) -> Extent
+    requires { ⌜ AtGroups (now catalog) first levels ⌝ }
+    requires { ⌜ IsTable (now table) ⌝ }
+    requires { ⌜ levels ≤ 3 ⌝ }
+    ensures { λ r. ⌜ ExtentOf (scopeIn (now (table .entry))) (heldAt (now (catalog .entry)) first .groups) r ⌝ }
+    ensures { λ r. ⌜ r .next ≡ pastEnd (now (catalog .entry)) first ⌝ }
+{
+    let frames = catalog.len() / 8;
+    let mut sum = Extent {
+        size: 0,
+        points: 0,
+        fill_size: 0,
+        fill_points: 0,
+        unimplemented: false,
+        next: first,
+    };
+    while sum.next < frames {
+        let i = sum.next;
+        let next = group_at(catalog, i);
+        match next {
+            GroupOr::Group(head) => {
+                let run = run_extent(catalog, i + 1);
+                let inside = groups_extent(catalog, table, levels - 1, run.next);
+                sum = with_group(sum, table, head, run, inside);
+            }
+            GroupOr::Other => {
+                return at_end(sum);
+            }
+        }
+    }
+    at_end(sum)
+}
+
+// Past the end frame.
+fn at_end(sum: Extent) -> Extent
+    requires { ⌜ sum .next ≤ 65536 ⌝ }
+    ensures { λ r. ⌜ Capped sum r × (r .next ≡ sum .next + 1) ⌝ }
+{
+    Extent {
+        size: sum.size,
+        points: sum.points,
+        fill_size: sum.fill_size,
+        fill_points: sum.fill_points,
+        unimplemented: sum.unimplemented,
+        next: sum.next + 1,
+    }
+}
+
+// The groups so far and one more, by its head, its points and the groups in it.
+fn with_group(sum: Extent, table: &[u16], head: Head, run: Run, inside: Extent) -> Extent
+    requires { ⌜ IsTable (now table) ⌝ }
+    requires { ⌜ (sum .size ≤ 65536) × (sum .points ≤ 65536) × (inside .size ≤ 65536) × (inside .points ≤ 65536) ⌝ }
+    requires { ⌜ (run .size ≤ 268435456) × (run .points ≤ 4096) ⌝ }
+    ensures { λ r. ⌜ WithGroup sum (scopeIn (now (table .entry))) (headForm head) run inside r ⌝ }
+{
+    let size = grown(run.size, 1, inside.size);
+    let points = grown(run.points, 1, inside.points);
+    let count = count_of(table, head, 0);
+    let fills = head.count_kind == FILL;
+    Extent {
+        size: grown(sum.size, count, size),
+        points: grown(sum.points, count, points),
+        fill_size: if fills { size } else { sum.fill_size },
+        fill_points: if fills { points } else { sum.fill_points },
+        unimplemented: sum.unimplemented || inside.unimplemented || is_unimplemented(table, head),
+        next: inside.next,
+    }
+}
+
+// A sum and count times a size more, capped.
+fn grown(sum: usize, count: usize, size: usize) -> usize
+    requires { ⌜ (sum ≤ 268435456) × (count ≤ 65535) × (size ≤ 65536) ⌝ }
+    ensures { λ r. ⌜ r ≡ min (sum + count * size) 65536 ⌝ }
+{
+    let grown = sum + count * size;
+    if CAP < grown {
+        return CAP;
+    }
+    grown
+}
+
+// How many instances a group has. `fill` is the count of a fill group.
+pub(crate) fn count_of(table: &[u16], head: Head, fill: usize) -> usize
+    requires { ⌜ IsTable (now table) × (fill ≤ 65535) ⌝ }
+    ensures { λ r. ⌜ r ≡ countOf (scopeIn (now (table .entry))) fill (headForm head) ⌝ }
+    ensures { λ r. ⌜ r ≤ 65535 ⌝ }
+{
+    let kind = head.count_kind;
+    match kind {
+        CONSTANT_COUNT => head.count as usize,
+        COUNT_BY_POINT => table[head.count as usize] as usize,
+        _ => fill,
+    }
+}
+
+// Does the group's count point read FFFF?
+fn is_unimplemented(table: &[u16], head: Head) -> bool
+    requires { ⌜ IsTable (now table) ⌝ }
+    ensures { λ r. ⌜ r ≡ (eqb (headForm head .countKind) countByPoint && eqb (scopeIn (now (table .entry)) (headForm head .count)) 0xFFFF) ⌝ }
+{
+    if head.count_kind != COUNT_BY_POINT {
+        return false;
+    }
+    table[head.count as usize] == 0xFFFF
+}

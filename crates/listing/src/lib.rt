@@ -1,0 +1,229 @@
+// Lists the points of a register map by a catalog of model definitions (refusals 1 to 11 and 20 to 30).
+mod extents;
+mod frames;
+mod points;
+mod records;
+mod scopes;
+mod surveys;
+
+use catalog::Checked;
+use catalog::check;
+use points::part;
+pub use records::InstancePath;
+use records::Place;
+pub use records::WIDTH;
+use records::put_model;
+use register_map::Header;
+use register_map::Opening;
+use register_map::header_at;
+use register_map::opened;
+use scopes::NUMBERS;
+use surveys::Survey;
+use surveys::survey_model;
+ghost use mathlib.Core.Path.{_≡_};
+ghost use mathlib.Core.Option.{none};
+ghost use Prim.Native.Nat.{_+_, _*_, _≤_};
+ghost use lib.ListN.{length, take, drop};
+ghost use lib.ListN as Lists;
+ghost use Rattle.catalog.specs.Definitions.{definitions};
+ghost use Rattle.register_map.specs.Headers.{opening};
+ghost use Rattle.listing.specs.Reading.{reading};
+ghost use Rattle.listing.specs.Listing as Listings;
+ghost use Rattle.listing.specs.Walks.{Accepted, IsTable, pointsOf};
+ghost use Rattle.listing.specs.Answers.{answer, written, WalkFits};
+
+// The address of the first header.
+const FIRST: usize = 2;
+
+// What `list` answers: the points and the headers; or the number of a refusal, its place and the headers before it.
+pub enum Listing {
+    Listed {
+        points: usize,
+        headers: usize,
+    },
+    Refused {
+        number: u16,
+        place: usize,
+        headers: usize,
+    },
+}
+
+// Lists the points of a map into `out`, ten numbers a record. All refusals and the count of points are decided
+// before anything is written.
+pub fn list(catalog: &[u16], map: &[u16], out: &mut [u64]) -> Listing
+    ensures { λ r. ⌜ answer r ≡ Listings.told (Listings.listing (now (catalog .entry)) (now (map .entry)) (length (now (out .entry)))) ⌝ }
+    ensures { λ _. ⌜ now (out .exit) ≡ Listings.stored (Listings.listing (now (catalog .entry)) (now (map .entry)) (length (now (out .entry)))) (now (out .entry)) ⌝ }
+{
+    let checked = check(catalog);
+    match checked {
+        Checked::Models(_) => list_checked(catalog, map, out),
+        Checked::Refused { number, place } => Listing::Refused {
+            number,
+            place,
+            headers: 0,
+        },
+    }
+}
+
+// Lists by a catalog that was accepted.
+fn list_checked(catalog: &[u16], map: &[u16], out: &mut [u64]) -> Listing
+    requires { ⌜ Accepted (now catalog) ⌝ }
+    ensures { λ r. ⌜ answer r ≡ Listings.told (Listings.listedBy (reading (definitions (now (catalog .entry)))) (now (map .entry)) (length (now (out .entry)))) ⌝ }
+    ensures { λ _. ⌜ now (out .exit) ≡ Listings.stored (Listings.listedBy (reading (definitions (now (catalog .entry)))) (now (map .entry)) (length (now (out .entry)))) (now (out .entry)) ⌝ }
+{
+    let opening = opened(map);
+    match opening {
+        Opening::Opened => list_opened(catalog, map, out),
+        Opening::Refused(number) => Listing::Refused {
+            number,
+            place: 0,
+            headers: 0,
+        },
+    }
+}
+
+// Lists a map that is marked and not too long: a first walk over its headers decides, a second one writes.
+fn list_opened(catalog: &[u16], map: &[u16], out: &mut [u64]) -> Listing
+    requires { ⌜ Accepted (now catalog) ⌝ }
+    requires { ⌜ opening (now map) ≡ none ⌝ }
+    ensures { λ r. ⌜ answer r ≡ Listings.told (Listings.withRoom (length (now (out .entry))) (Listings.walked (reading (definitions (now (catalog .entry)))) (now (map .entry)))) ⌝ }
+    ensures { λ _. ⌜ now (out .exit) ≡ Listings.stored (Listings.withRoom (length (now (out .entry))) (Listings.walked (reading (definitions (now (catalog .entry)))) (now (map .entry)))) (now (out .entry)) ⌝ }
+{
+    let mut table = [0u16; NUMBERS];
+    let survey = survey_map(catalog, map, &mut table);
+    match survey {
+        Listing::Listed { points, headers } => {
+            if out.len() / WIDTH < points {
+                return Listing::Refused {
+                    number: 30,
+                    place: points,
+                    headers,
+                };
+            }
+            put_map(catalog, map, &mut table, out);
+            Listing::Listed { points, headers }
+        }
+        Listing::Refused {
+            number,
+            place,
+            headers,
+        } => Listing::Refused {
+            number,
+            place,
+            headers,
+        },
+    }
+}
+
+// The refusals at the headers, or the points of all known models and the headers.
+fn survey_map(catalog: &[u16], map: &[u16], table: &mut [u16]) -> Listing
+    requires { ⌜ Accepted (now catalog) ⌝ }
+    requires { ⌜ opening (now map) ≡ none ⌝ }
+    requires { ⌜ IsTable (now table) ⌝ }
+    ensures { λ r. ⌜ answer r ≡ Listings.told (Listings.walked (reading (definitions (now (catalog .entry)))) (now (map .entry))) ⌝ }
+    ensures { λ _. ⌜ IsTable (now (table .exit)) ⌝ }
+{
+    let mut at = FIRST;
+    let mut headers = 0usize;
+    let mut points = 0usize;
+    while at < map.len() {
+        let header = header_at(map, at);
+        match header {
+            Header::Model { id, length } => {
+                let survey = survey_model(catalog, table, id, part(map, at + 2, length as usize));
+                match survey {
+                    Survey::Unknown => {}
+                    Survey::Refused(number) => {
+                        return Listing::Refused {
+                            number,
+                            place: at,
+                            headers,
+                        };
+                    }
+                    Survey::Points { points: more, .. } => points += more,
+                }
+                at += 2 + length as usize;
+                headers += 1;
+            }
+            Header::End => {
+                return Listing::Listed {
+                    points,
+                    headers: headers + 1,
+                };
+            }
+            Header::Refused(number) => {
+                return Listing::Refused {
+                    number,
+                    place: at,
+                    headers,
+                };
+            }
+        }
+    }
+    Listing::Refused {
+        number: 22,
+        place: at,
+        headers,
+    }
+}
+
+// Writes the records of all known models of a map that was surveyed.
+fn put_map(catalog: &[u16], map: &[u16], table: &mut [u16], out: &mut [u64])
+    requires { ⌜ Accepted (now catalog) ⌝ }
+    requires { ⌜ opening (now map) ≡ none ⌝ }
+    requires { ⌜ IsTable (now table) ⌝ }
+    requires { ⌜ WalkFits (Listings.walked (reading (definitions (now catalog))) (now map)) (now out) ⌝ }
+    ensures { λ _. ⌜ now (out .exit) ≡ Listings.stored (Listings.walked (reading (definitions (now (catalog .entry)))) (now (map .entry))) (now (out .entry)) ⌝ }
+{
+    let mut at = FIRST;
+    let mut index = 0usize;
+    let mut records = 0usize;
+    while at < map.len() {
+        let header = header_at(map, at);
+        match header {
+            Header::Model { id, length } => {
+                let place = Place {
+                    index,
+                    id,
+                    address: at,
+                };
+                records = put_known(catalog, map, table, out, place, length as usize, records);
+                at += 2 + length as usize;
+                index += 1;
+            }
+            Header::End => return,
+            Header::Refused(_) => return,
+        }
+    }
+}
+
+// Writes the records of a model that the catalog knows, and none for another; answers how many there are then.
+fn put_known(
+    catalog: &[u16],
+    map: &[u16],
+    table: &mut [u16],
+    out: &mut [u64],
+    place: Place,
+    length: usize,
+    records: usize,
+) -> usize
+    requires { ⌜ Accepted (now catalog) ⌝ }
+    requires { ⌜ IsTable (now table) ⌝ }
+    requires { ⌜ (place .address + 2 + length ≤ Lists.length (now map)) × (length ≤ 65535) × (Lists.length (now map) ≤ 65536) ⌝ }
+    requires { ⌜ Listings.recordWidth * (records + Lists.length (pointsOf (reading (definitions (now catalog)) (record { id = place .id; body = take length (drop (place .address + 2) (now map)) })))) ≤ Lists.length (now out) ⌝ }
+    ensures { λ r. ⌜ r ≡ records + Lists.length (pointsOf (reading (definitions (now (catalog .entry))) (record { id = place .id; body = take length (drop (place .address + 2) (now (map .entry))) }))) ⌝ }
+    ensures { λ _. ⌜ now (out .exit) ≡ written place records (pointsOf (reading (definitions (now (catalog .entry))) (record { id = place .id; body = take length (drop (place .address + 2) (now (map .entry))) }))) (now (out .entry)) ⌝ }
+    ensures { λ _. ⌜ IsTable (now (table .exit)) ⌝ }
+{
+    let body = part(map, place.address + 2, length);
+    let survey = survey_model(catalog, table, place.id, body);
+    match survey {
+        Survey::Unknown => records,
+        Survey::Refused(_) => records,
+        Survey::Points {
+            first,
+            points: _,
+            fill,
+        } => put_model(catalog, table, out, place, body, first, fill, records),
+    }
+}

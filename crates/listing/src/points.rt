@@ -1,0 +1,143 @@
+// What a record shows of a point: its status, raw value and scale.
+use catalog::FIXED_SCALE;
+use catalog::Point;
+use catalog::SCALE_BY_POINT;
+use catalog::SUNSSF;
+use values::Class;
+use values::Classified;
+use values::classify;
+use values::raw_value;
+ghost use mathlib.Core.Path.{_≡_};
+ghost use mathlib.Core.Bool.{true};
+ghost use Prim.Native.Nat.{_+_, _≤_};
+ghost use lib.Dec.{eqb};
+ghost use lib.ListN.{length, take, drop};
+ghost use Rattle.values.specs.Registers.{join, shownRaw};
+ghost use Rattle.values.specs.Classes.{ofClass, classified};
+ghost use Rattle.values.specs.Answers.{classAnswer, classifiedAnswer};
+ghost use Rattle.catalog.specs.Frames.{sunssf};
+ghost use Rattle.catalog.specs.Rules.{isSizeOf};
+ghost use Rattle.catalog.specs.Answers.{pointForm};
+ghost use Rattle.listing.specs.Points.{scaleStatus, statusOf, scaleOf};
+ghost use Rattle.listing.specs.Answers.{ShownOf};
+
+// The registers from an offset on, so many of them.
+pub(crate) fn part<'a>(registers: &'a [u16], start: usize, count: usize) -> &'a [u16]
+    requires { ⌜ start + count ≤ length (now registers) ⌝ }
+    ensures { λ r. ⌜ now r ≡ take count (drop start (now (registers .entry))) ⌝ }
+{
+    &registers[start..start + count]
+}
+
+// The status, raw value and scale of a point.
+pub(crate) struct Shown {
+    pub(crate) status: u64,
+    pub(crate) raw: u64,
+    pub(crate) scale: u64,
+}
+
+// A point by its registers and the register of its scale point.
+pub(crate) fn show(point: Point, registers: &[u16], scale_register: u16) -> Shown
+    requires { ⌜ isSizeOf (pointForm point .typeCode) (length (now registers)) ≡ true ⌝ }
+    ensures { λ r. ⌜ ShownOf (pointForm point) (now (registers .entry)) «scale_register» r ⌝ }
+{
+    let class = class_of(point.type_code, registers);
+    let status = status_of(point, class, scale_register);
+    Shown {
+        status,
+        raw: raw_value(registers),
+        scale: scale_of(point, status, scale_register),
+    }
+}
+
+// The class of a point's registers. Types of more than four registers are unimplemented where all are 0, and
+// else have a value, so that any number but 0 stands for theirs.
+fn class_of(type_code: u16, registers: &[u16]) -> Classified
+    requires { ⌜ isSizeOf «type_code» (length (now registers)) ≡ true ⌝ }
+    ensures { λ r. ⌜ classifiedAnswer r ≡ classified «type_code» (join (now (registers .entry))) ⌝ }
+{
+    if registers.len() <= 4 {
+        return classify(type_code, raw_value(registers));
+    }
+    if all_zero(registers) {
+        return classify(type_code, 0);
+    }
+    classify(type_code, 1)
+}
+
+// Are all registers 0?
+fn all_zero(registers: &[u16]) -> bool
+    ensures { λ r. ⌜ r ≡ eqb (join (now (registers .entry))) 0 ⌝ }
+{
+    let mut i = 0;
+    while i < registers.len() {
+        if registers[i] != 0 {
+            return false;
+        }
+        i += 1;
+    }
+    true
+}
+
+// The first status that applies.
+fn status_of(point: Point, class: Classified, scale_register: u16) -> u64
+    ensures { λ r. ⌜ r ≡ statusOf (pointForm point) (classifiedAnswer class) «scale_register» ⌝ }
+{
+    match class {
+        Classified::Of(class) => status_of_class(point, class, scale_register),
+        Classified::TooWide => 5,
+        Classified::UnknownType => 5,
+    }
+}
+
+// The status by the class of the registers, and for a value by the scale point's.
+fn status_of_class(point: Point, class: Class, scale_register: u16) -> u64
+    ensures { λ r. ⌜ r ≡ statusOf (pointForm point) (ofClass (classAnswer class)) «scale_register» ⌝ }
+{
+    match class {
+        Class::Value => {
+            if point.scale_kind != SCALE_BY_POINT {
+                return 0;
+            }
+            scale_status(scale_register)
+        }
+        Class::Unimplemented => {
+            if point.mandatory == 1 {
+                return 2;
+            }
+            1
+        }
+        Class::OutOfRange => 5,
+    }
+}
+
+// The status of a value by the register of its scale point.
+fn scale_status(register: u16) -> u64
+    ensures { λ r. ⌜ r ≡ scaleStatus (classified sunssf register) ⌝ }
+{
+    let class = classify(SUNSSF, register as u64);
+    match class {
+        Classified::Of(class) => match class {
+            Class::Value => 0,
+            Class::Unimplemented => 3,
+            Class::OutOfRange => 4,
+        },
+        Classified::TooWide => 4,
+        Classified::UnknownType => 4,
+    }
+}
+
+// The scale: 0 unless the status is 0 and the point has one.
+fn scale_of(point: Point, status: u64, scale_register: u16) -> u64
+    ensures { λ r. ⌜ r ≡ scaleOf (pointForm point) status «scale_register» ⌝ }
+{
+    if status != 0 {
+        return 0;
+    }
+    let kind = point.scale_kind;
+    match kind {
+        FIXED_SCALE => point.scale as u64,
+        SCALE_BY_POINT => scale_register as u64,
+        _ => 0,
+    }
+}

@@ -1,0 +1,133 @@
+// What a catalog says of one model, before anything is written: 27 to 29, or how many points it has.
+use crate::extents::Extent;
+use crate::extents::Run;
+use crate::extents::groups_extent;
+use crate::extents::run_extent;
+use crate::frames::Found;
+use crate::frames::GroupOr;
+use crate::frames::find_model;
+use crate::frames::group_at;
+use crate::scopes::note_run;
+ghost use mathlib.Core.Path.{_≡_};
+ghost use mathlib.Core.Option.{some};
+ghost use Prim.Native.Nat.{_+_, _/_, _≤_};
+ghost use lib.ListN.{length};
+ghost use Rattle.catalog.specs.Definitions.{definitions};
+ghost use Rattle.listing.specs.Reading.{reading, readBy, padLeftOut};
+ghost use Rattle.listing.specs.Walks.{heldAt, Stands, Accepted, IsTable, topOf, surveyed};
+ghost use Rattle.listing.specs.Answers.{RunOf, surveyForm, ReadyBy, fittedBy};
+
+// The levels of groups below the top group.
+pub(crate) const LOWER_LEVELS: usize = 3;
+
+// What a catalog says of a model: nothing where it lacks the id; a refusal (27 to 29); or the frame where its
+// definition begins, the number of its points and the count of its fill group.
+pub(crate) enum Survey {
+    Unknown,
+    Refused(u16),
+    Points {
+        first: usize,
+        points: usize,
+        fill: usize,
+    },
+}
+
+// Surveys a model. Where it has points, the table holds those of its top group.
+pub(crate) fn survey_model(catalog: &[u16], table: &mut [u16], id: u16, body: &[u16]) -> Survey
+    requires { ⌜ Accepted (now catalog) ⌝ }
+    requires { ⌜ IsTable (now table) × (length (now body) ≤ 65535) ⌝ }
+    ensures { λ r. ⌜ surveyForm r ≡ surveyed (reading (definitions (now (catalog .entry))) (record { id = id; body = now (body .entry) })) ⌝ }
+    ensures { λ r. ⌜ ReadyBy (now (catalog .entry)) id (now (body .entry)) (now (table .exit)) r ⌝ }
+    ensures { λ _. ⌜ IsTable (now (table .exit)) ⌝ }
+{
+    let found = find_model(catalog, id);
+    match found {
+        Found::At(first) => survey_known(catalog, table, id, body, first),
+        Found::Nothing => Survey::Unknown,
+    }
+}
+
+// Surveys a model by the definition that begins at frame `first`.
+fn survey_known(catalog: &[u16], table: &mut [u16], id: u16, body: &[u16], first: usize) -> Survey
+    requires { ⌜ Accepted (now catalog) ⌝ }
+    requires { ⌜ IsTable (now table) × (length (now body) ≤ 65535) ⌝ }
+    requires { ⌜ Stands (now catalog) first × (topOf id (definitions (now catalog)) ≡ some (heldAt (now catalog) first)) ⌝ }
+    ensures { λ r. ⌜ surveyForm r ≡ surveyed (readBy id (heldAt (now (catalog .entry)) first) (now (body .entry))) ⌝ }
+    ensures { λ r. ⌜ ReadyBy (now (catalog .entry)) id (now (body .entry)) (now (table .exit)) r ⌝ }
+    ensures { λ _. ⌜ IsTable (now (table .exit)) ⌝ }
+{
+    let run = run_extent(catalog, first);
+    if is_pad_left_out(catalog, id, first, run, body.len()) {
+        note_run(catalog, first, body, 0, table);
+        return Survey::Points {
+            first,
+            points: run.points - 1,
+            fill: 0,
+        };
+    }
+    if body.len() < run.size {
+        return Survey::Refused(27);
+    }
+    note_run(catalog, first, body, 0, table);
+    let groups = groups_extent(catalog, table, LOWER_LEVELS, run.next);
+    if groups.unimplemented {
+        return Survey::Refused(28);
+    }
+    fitted(first, run, groups, body.len())
+}
+
+// In model 1 without groups whose last point is a pad, the length may be one short of the top size.
+fn is_pad_left_out(catalog: &[u16], id: u16, first: usize, run: Run, length: usize) -> bool
+    requires { ⌜ Stands (now catalog) first × RunOf (now catalog) first run ⌝ }
+    requires { ⌜ length ≤ 65535 ⌝ }
+    ensures { λ r. ⌜ r ≡ padLeftOut id (heldAt (now (catalog .entry)) first) length ⌝ }
+{
+    if id != 1 {
+        return false;
+    }
+    if !run.ends_with_pad {
+        return false;
+    }
+    if length + 1 != run.size {
+        return false;
+    }
+    let next = group_at(catalog, run.next);
+    match next {
+        GroupOr::Group(_) => false,
+        GroupOr::Other => true,
+    }
+}
+
+// 29 by the sizes, or the points: the length is the size; with a fill group it is not below the rest and leaves
+// no remainder.
+fn fitted(first: usize, run: Run, groups: Extent, length: usize) -> Survey
+    requires { ⌜ (run .size ≤ length) × (length ≤ 65535) × (run .points ≤ 4096) ⌝ }
+    requires { ⌜ (groups .size ≤ 65536) × (groups .points ≤ 65536) × (groups .«fill_points» ≤ 65536) ⌝ }
+    ensures { λ r. ⌜ r ≡ fittedBy first run groups length ⌝ }
+{
+    let rest = run.size + groups.size;
+    if length < rest {
+        return Survey::Refused(29);
+    }
+    let left = length - rest;
+    let points = run.points + groups.points;
+    if groups.fill_size == 0 {
+        if left != 0 {
+            return Survey::Refused(29);
+        }
+        return Survey::Points {
+            first,
+            points,
+            fill: 0,
+        };
+    }
+    if left % groups.fill_size != 0 {
+        return Survey::Refused(29);
+    }
+    let fill = left / groups.fill_size;
+    Survey::Points {
+        first,
+        points: points + fill * groups.fill_points,
+        fill,
+    }
+}

@@ -1,0 +1,78 @@
+-- Headers by their registers: what each test of a header says, and the header at an address.
+use mathlib.Core.Path.{_≡_, refl, sym, ap}
+use mathlib.Core.Bool.{Bool, true, false, not, _&&_, and-false}
+use mathlib.Core.List.{List, [], _∷_}
+use mathlib.Core.Logic.{_↔_}
+use mathlib.Core.Option.{Option, none, some}
+use Prim.Native.Nat.{ℕ, suc, _+_, _-_, _≤_, _<_}
+use native.Mathlib.Numerals.{add-one}
+use native.Mathlib.Omega.{arith}
+use borrow.Author.Tests.{eqb-true, eq-eqb, lt-ltb, le-ltb, ltb-false, not-false}
+use lib.Dec.{eqb, ltb}
+use lib.ListN.{length, drop, getD, length-drop}
+use lib.Seq.{drop-cons}
+use Rattle.register_map.specs.Headers.{isMarked, opening, refused, headerOf, headerAt}
+
+-- No test comes out both ways.
+pub clash : {A : Type 0} → true ≡ false → A
+clash e = let z : _≡_ {A = ℕ} 0 1 = cc in absurd (omega arith)
+
+-- What holds of both outcomes of a test holds of the one that it picks.
+pub by-test : {A : Type 0} (P : A → Type 0) (b : Bool) {x y : A} → (b ≡ true → P x) → (b ≡ false → P y)
+    → P (elim b [ true ↦ x | false ↦ y ])
+by-test P true t f = t refl
+by-test P false t f = f refl
+
+-- 23 does not arise where the first header's id is 1.
+pub first-id : (first : Bool) (id : ℕ) → (first && not (eqb id 1) ≡ false) ↔ (first ≡ true → id ≡ 1)
+first-id true id = (λ e q. eqb-true id 1 (not-false (eqb id 1) e), λ h. ap not (eq-eqb id 1 (h refl)))
+first-id false id = (λ e q. clash (sym q), λ h. refl)
+
+-- The answers for a map as a whole.
+module _ (map : List ℕ) where
+  pub opening-long : 65536 < length map → opening map ≡ some 20
+  unfolding opening
+  opening-long h = simp (opening, lt-ltb _ _ h)
+
+  pub opening-unmarked : length map ≤ 65536 → isMarked map ≡ false → opening map ≡ some 21
+  unfolding opening
+  opening-unmarked h e = simp (opening, le-ltb _ _ h, e)
+
+  pub opening-marked : length map ≤ 65536 → isMarked map ≡ true → opening map ≡ none
+  unfolding opening
+  opening-marked h e = simp (opening, le-ltb _ _ h, e)
+
+  -- Where neither 20 nor 21 arises, the map is short enough and marked.
+  pub opening-none : opening map ≡ none → (length map ≤ 65536) × (isMarked map ≡ true)
+  unfolding opening
+  opening-none e =
+      let Goal : Option ℕ → Type 0 = λ o. o ≡ none → (length map ≤ 65536) × (isMarked map ≡ true) in
+      by-test Goal (ltb 65536 (length map)) (λ t q. let z : _≡_ {A = ℕ} 0 1 = cc in absurd (omega arith)) (λ s.
+      by-test Goal (isMarked map) (λ t q. (ltb-false 65536 (length map) s, t))
+      (λ f q. let z : _≡_ {A = ℕ} 0 1 = cc in absurd (omega arith))) e
+
+-- A map of under two registers does not begin with 5375 6E53.
+pub too-short : (map : List ℕ) → length map < 2 → isMarked map ≡ false
+too-short [] h = refl
+too-short (a ∷ []) h = and-false (eqb a 0x5375)
+too-short (a ∷ b ∷ map) h = absurd (omega arith)
+
+-- The header at an address, by its registers.
+pub header-drop : (first : Bool) (map : List ℕ) (at : ℕ) → at + 2 ≤ length map
+    → headerAt first (drop at map) ≡ headerOf first (getD map at 0) (getD map (at + 1) 0) (length map - at - 2)
+header-drop first map at h =
+    let f : at < length map = omega arith in
+    let g : suc at < length map = omega arith in
+    let e : length (drop (suc (suc at)) map) ≡ length map - at - 2 = simp length-drop (omega arith) in
+    rw (drop-cons map at 0, drop-cons map (suc at) 0, add-one)
+    (ap (headerOf first (getD map at 0) (getD map (suc at) 0)) e)
+
+-- Under two registers are left.
+pub header-none : (first : Bool) (rest : List ℕ) → length rest < 2 → headerAt first rest ≡ refused 22
+header-none first [] h = refl
+header-none first (id ∷ []) h = refl
+header-none first (id ∷ len ∷ behind) h = absurd (omega arith)
+
+-- Under two registers are left from an address on.
+pub header-late : (first : Bool) (map : List ℕ) (at : ℕ) → length map < at + 2 → headerAt first (drop at map) ≡ refused 22
+header-late first map at h = header-none first (drop at map) (simp length-drop (omega arith))

@@ -1,0 +1,10 @@
+-- The claims
+pub mod ScanBack
+pub mod MadeOfModels
+pub mod Lengthened
+pub mod Before
+-- Laws of the definitions
+pub mod HeaderLaws
+pub mod HeaderCases
+pub mod ScanSteps
+pub mod PlacedModels

@@ -1,0 +1,54 @@
+-- Models inserted into a map (document 01, "The map", on models put in): a gap lies right behind a model and may take several.
+use mathlib.Core.Bool.{true, false}
+use mathlib.Core.List.{List, [], _∷_, _++_}
+use Prim.Native.Nat.{ℕ, zero, suc, _+_}
+use lib.Dec.{leb}
+use lib.ListN.{take, drop}
+use Rattle.register_map.specs.Scan.{Model, sizeOf, totalSize, scan, registersOf}
+
+-- A model of the lengthened map: it was there, or it is inserted.
+pub data Placed : Type 0 where
+  kept : Model → Placed
+  inserted : Model → Placed
+
+-- The models of the lengthened map.
+abbrev pub allModels : List Placed → List Model
+allModels [] = []
+allModels (kept m ∷ ps) = m ∷ allModels ps
+allModels (inserted m ∷ ps) = m ∷ allModels ps
+
+-- The models of a gap, in front of the models behind it.
+abbrev pub insertedInFront : List Model → List Placed → List Placed
+insertedInFront [] ps = ps
+insertedInFront (m ∷ ms) ps = inserted m ∷ insertedInFront ms ps
+
+-- Behind each model the models of its gap, in their order. Gaps beyond the last model's are none, and where gaps are fewer, the
+-- last models have nothing behind them.
+unfoldable pub placed : List Model → List (List Model) → List Placed
+placed [] gaps = []
+placed (m ∷ ms) [] = kept m ∷ placed ms []
+placed (m ∷ ms) (gap ∷ gaps) = kept m ∷ insertedInFront gap (placed ms gaps)
+
+-- The map with the models of the gaps inserted: its first two registers, the models, and what stood behind its last model.
+unfoldable pub lengthened : List ℕ → List (List Model) → List ℕ
+lengthened map gaps =
+    take 2 map
+    ++ registersOf (allModels (placed (scan map .models) gaps))
+    ++ drop (totalSize (scan map .models)) (drop 2 map)
+
+-- The inserted models whose addresses in the lengthened map are lower than an address, of those from address `at` on (document
+-- 01: a model put in is before a point or a header).
+unfoldable pub before : ℕ → List Placed → ℕ → List Model
+before at [] address = []
+before at (kept m ∷ ps) address = before (at + sizeOf m) ps address
+before at (inserted m ∷ ps) address =
+    elim (leb (at + sizeOf m) address) [
+      | true ↦ m ∷ before (at + sizeOf m) ps address
+      | false ↦ before (at + sizeOf m) ps address
+    ]
+
+-- The models of the gaps in front of the model with an index: those behind the models with lower indices.
+unfoldable pub gapsBefore : ℕ → List (List Model) → List Model
+gapsBefore zero gaps = []
+gapsBefore (suc n) [] = []
+gapsBefore (suc n) (gap ∷ gaps) = gap ++ gapsBefore n gaps

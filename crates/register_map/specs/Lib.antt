@@ -1,0 +1,4 @@
+pub mod Headers
+pub mod Scan
+pub mod Insertion
+pub mod Answers

@@ -1,0 +1,95 @@
+// The headers of a register map (refusals 20 to 26), without any catalog.
+ghost use mathlib.Core.Path.{_≡_};
+ghost use lib.Dec.{eqb};
+ghost use lib.ListN.{drop};
+ghost use Rattle.register_map.specs.Headers as Headers;
+ghost use Rattle.register_map.specs.Answers.{headerForm, openingForm};
+
+// The most registers of a map.
+const REGISTERS: usize = 65536;
+
+// The registers that a map begins with.
+const FIRST_REGISTER: u16 = 0x5375;
+
+const SECOND_REGISTER: u16 = 0x6E53;
+
+// The address of the first header.
+const FIRST_HEADER: usize = 2;
+
+// The id of the end marker.
+const END_ID: u16 = 0xFFFF;
+
+// What stands at a header: a model with its id and length, the end marker, or a refusal (22 to 26).
+pub enum Header {
+    Model { id: u16, length: u16 },
+    End,
+    Refused(u16),
+}
+
+// Whether a map may be read at all, or a refusal (20 or 21).
+pub enum Opening {
+    Opened,
+    Refused(u16),
+}
+
+// The refusals of a map as a whole.
+pub fn opened(map: &[u16]) -> Opening
+    ensures { λ r. ⌜ openingForm r ≡ Headers.opening (now (map .entry)) ⌝ }
+{
+    if REGISTERS < map.len() {
+        return Opening::Refused(20);
+    }
+    if map.len() < FIRST_HEADER {
+        return Opening::Refused(21);
+    }
+    if map[0] != FIRST_REGISTER {
+        return Opening::Refused(21);
+    }
+    if map[1] != SECOND_REGISTER {
+        return Opening::Refused(21);
+    }
+    Opening::Opened
+}
+
+// The header at an address.
+pub fn header_at(map: &[u16], at: usize) -> Header
+    ensures { λ r. ⌜ headerForm r ≡ Headers.headerAt (eqb at 2) (drop at (now (map .entry))) ⌝ }
+{
+    if map.len() <= at {
+        return Header::Refused(22);
+    }
+    if map.len() - at < 2 {
+        return Header::Refused(22);
+    }
+    let id = map[at];
+    let length = map[at + 1];
+    let behind = map.len() - at - 2;
+    header_of(at == FIRST_HEADER, id, length, behind)
+}
+
+// A header by its id, its length and the number of registers behind them, in the order of the refusals.
+fn header_of(first: bool, id: u16, length: u16, behind: usize) -> Header
+    ensures { λ r. ⌜ headerForm r ≡ Headers.headerOf first id length behind ⌝ }
+{
+    if first {
+        if id != 1 {
+            return Header::Refused(23);
+        }
+    }
+    if id == 0 {
+        return Header::Refused(24);
+    }
+    if id == END_ID {
+        if length == 0 {
+            return Header::End;
+        }
+        return Header::Refused(25);
+    }
+    if length == 0 {
+        return Header::Refused(25);
+    }
+    if behind < length as usize {
+        return Header::Refused(26);
+    }
+    Header::Model { id, length }
+}
