@@ -32,8 +32,8 @@ topScope ps body = within body 0 ps nothing
 
 -- ---- Sizes
 
--- How many instances a group has: the constant; the raw value of the count point, a point of the top group of the same model; or as
--- many as fill the model.
+-- How many instances a group has: the constant; the raw value of the count point, a point of the top group of the same model;
+-- or as many as fill the model.
 abbrev pub countOf : Scope → ℕ → Head → ℕ
 countOf top filling h =
     elim (eqb (h .countKind) constantCount) [
@@ -98,8 +98,8 @@ unfoldable pub instances : ℕ → ℕ → ℕ → ℕ → (ℕ → ℕ → List
 instances zero j offset size one = []
 instances (suc n) j offset size one = one j offset ++ instances n (suc j) (offset + size) size one
 
--- The points of groups side by side at a level, laid from an offset on: each group's instances in full, an instance's own points
--- first. Number j at level 2, 3 or 4 stands at place 0, 1 or 2 of the path.
+-- The points of groups side by side at a level, laid from an offset on: each group's instances in full, an instance's own
+-- points first. Number j at level 2, 3 or 4 stands at place 0, 1 or 2 of the path.
 unfoldable pub groupsAt : List ℕ → (Head → ℕ) → ℕ → Scope → List ℕ → ℕ → Groups → List ModelPoint
 groupsAt body count level scope path offset noGroup = []
 groupsAt body count level scope path offset (group h ps inside behind) =

@@ -12,7 +12,8 @@ use Rattle.register_map.specs.Scan.{Model, sizeOf, Ending, marked, broken, scan
 use Rattle.listing.specs.Points.{ModelPoint}
 use Rattle.listing.specs.Reading.{Reading, unknown, faulty, points, faultNumber, reading}
 
--- A record: the model's index (unknown models counted), its id, the point's address (0 is that of the register 5375), and the point.
+-- A record: the model's index (unknown models counted), its id, the point's address (0 is that of the register 5375), and the
+-- point.
 pub record Record : Type 0 where
   pub index : ℕ
   pub id : ℕ
@@ -52,8 +53,8 @@ abbrev pub inFront : List Record → Answer → Answer
 inFront rs (refused number place headers) = refused number place headers
 inFront rs (listed ss headers) = listed (rs ++ ss) headers
 
--- From the model with an index, at an address, on: header by header, the first fault decides. At the end the headers are the models
--- and the end marker.
+-- From the model with an index, at an address, on: header by header, the first fault decides. At the end the headers are the
+-- models and the end marker.
 unfoldable pub walk : (Model → Reading) → Ending → ℕ → ℕ → List Model → Answer
 walk read marked index at [] = listed [] (index + 1)
 walk read (broken number) index at [] = refused number at index

@@ -20,7 +20,8 @@ pub record ModelPoint : Type 0 where
   pub raw : ℕ
   pub scale : ℕ
 
--- The first register of the point with a number, for the points in reach: those of the same instance and of the instances around it.
+-- The first register of the point with a number, for the points in reach: those of the same instance and of the instances
+-- around it.
 abbrev pub Scope : Type 0
 Scope = ℕ → ℕ
 
@@ -32,9 +33,9 @@ scaleStatus (ofClass outOfRange) = 4
 scaleStatus tooWide = 4
 scaleStatus unknownType = 4
 
--- The status of a point by what its registers are and the register of its scale point, the first that applies: unimplemented 2 where
--- mandatory, else 1; out of range 5; then by the scale point, if it has one. (No point of an accepted catalog is too wide or of an
--- unknown type.)
+-- The status of a point by what its registers are and the register of its scale point, the first that applies: unimplemented 2
+-- where mandatory, else 1; out of range 5; then by the scale point, if it has one. (No point of an accepted catalog is too
+-- wide or of an unknown type.)
 abbrev pub statusOf : Point → Classified → ℕ → ℕ
 statusOf p (ofClass unimplemented) register = elim (eqb (p .mandatory) 1) [ true ↦ 2 | false ↦ 1 ]
 statusOf p (ofClass outOfRange) register = 5
@@ -43,7 +44,8 @@ statusOf p unknownType register = 5
 statusOf p (ofClass value) register =
     elim (eqb (p .scaleKind) scaleByPoint) [ true ↦ scaleStatus (classified sunssf register) | false ↦ 0 ]
 
--- The scale shown: the fixed one or the scale point's register, as 16-bit two's complement; 0 unless the status is 0 and it has one.
+-- The scale shown: the fixed one or the scale point's register, as 16-bit two's complement; 0 unless the status is 0 and it
+-- has one.
 abbrev pub scaleOf : Point → ℕ → ℕ → ℕ
 scaleOf p status register =
     elim (eqb status 0) [

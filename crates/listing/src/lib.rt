@@ -9,7 +9,6 @@ mod surveys;
 use catalog::Checked;
 use catalog::check;
 use points::part;
-pub use records::InstancePath;
 use records::Place;
 pub use records::WIDTH;
 use records::put_model;
@@ -35,7 +34,8 @@ ghost use Rattle.listing.specs.Answers.{answer, written, WalkFits};
 // The address of the first header.
 const FIRST: usize = 2;
 
-// What `list` answers: the points and the headers; or the number of a refusal, its place and the headers before it.
+// What `list` answers: the points and the headers; or the number of a refusal, its place and the headers
+// before it.
 pub enum Listing {
     Listed {
         points: usize,
@@ -49,7 +49,9 @@ pub enum Listing {
 }
 
 // Lists the points of a map into `out`, ten numbers a record. All refusals and the count of points are decided
-// before anything is written.
+// before anything is written. The time is that of two walks over the map's registers, with a search for each
+// model's id in the catalog: no point, group or instance is searched for, so it grows neither with the square
+// of the points nor with that of the instances.
 pub fn list(catalog: &[u16], map: &[u16], out: &mut [u64]) -> Listing
     ensures { λ r. ⌜ answer r ≡ Listings.told (Listings.listing (now (catalog .entry)) (now (map .entry)) (length (now (out .entry)))) ⌝ }
     ensures { λ _. ⌜ now (out .exit) ≡ Listings.stored (Listings.listing (now (catalog .entry)) (now (map .entry)) (length (now (out .entry)))) (now (out .entry)) ⌝ }

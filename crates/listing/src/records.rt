@@ -30,8 +30,8 @@ ghost use Rattle.listing.specs.Answers.{recordAt, written, RunAsks, Behi
 pub const WIDTH: usize = 10;
 
 // The instance numbers at levels 2, 3 and 4, 0 where absent.
-pub struct InstancePath {
-    pub instances: [u16; 3],
+pub(crate) struct InstancePath {
+    pub(crate) instances: [u16; 3],
 }
 
 // A model in a map: its index, its id, and the address of its header.
