@@ -168,7 +168,7 @@ pub record BehindGroups (gs : Groups) (count : Frames.Head → ℕ) (at r : Prog
   pub records : r .records ≡ at .records + groupsPoints count gs
   pub offset : r .offset ≡ at .offset + groupsSize count gs
 
--- The records of an answer, if it has any, have room in a list.
+-- The answer is no refusal, and its records have room in a list.
 abbrev pub WalkFits : Listing.Answer → List ℕ → Type 0
 WalkFits (Listing.refused number place headers) out = ⊥
 WalkFits (Listing.listed rs headers) out = Listing.recordWidth * length rs ≤ length out

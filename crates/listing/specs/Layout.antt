@@ -15,7 +15,8 @@ use Rattle.listing.specs.Points.{ModelPoint, Scope, pointAt}
 abbrev pub withPoint : ℕ → ℕ → Scope → Scope
 withPoint number register scope n = elim (eqb n number) [ true ↦ register | false ↦ scope n ]
 
--- The scope within an instance: its own points, laid from an offset on, are in reach, and what was in reach around it.
+-- The scope within an instance: its own points, laid from an offset on, are in reach, and what was in reach around it. (In an
+-- accepted map every point lies in the body: `proofs/Tiling.antt`.)
 unfoldable pub within : List ℕ → ℕ → List Point → Scope → Scope
 within body offset [] scope = scope
 within body offset (p ∷ ps) scope =
@@ -33,7 +34,7 @@ topScope ps body = within body 0 ps nothing
 -- ---- Sizes
 
 -- How many instances a group has: the constant; the raw value of the count point, a point of the top group of the same model;
--- or as many as fill the model.
+-- or as many as fill the model (an accepted catalog has no other kind).
 abbrev pub countOf : Scope → ℕ → Head → ℕ
 countOf top filling h =
     elim (eqb (h .countKind) constantCount) [
@@ -69,7 +70,8 @@ restSize c body =
 abbrev pub fillSizeOf : Content → List ℕ → Option ℕ
 fillSizeOf c body = fillSize (countOf (topScope (c .points) body) 0) (c .groups)
 
--- 29: the length is the size; with a fill group, it is not below the rest and leaves no remainder.
+-- 29: the length is the size; with a fill group, it is not below the rest and leaves no remainder. (An instance of it takes a
+-- register or more: `proofs/Sizes.antt`.)
 unfoldable pub fits : Content → List ℕ → Bool
 fits c body =
     elim (fillSizeOf c body) [

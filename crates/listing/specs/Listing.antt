@@ -110,6 +110,7 @@ pub data Told : Type 0 where
   refusedTold : ℕ → ℕ → ℕ → Told
   listedTold : ℕ → ℕ → Told
 
+-- The counts, or the refusal, of what it finds.
 abbrev pub told : Answer → Told
 told (refused number place headers) = refusedTold number place headers
 told (listed rs headers) = listedTold (length rs) headers

@@ -34,8 +34,8 @@ scaleStatus tooWide = 4
 scaleStatus unknownType = 4
 
 -- The status of a point by what its registers are and the register of its scale point, the first that applies: unimplemented 2
--- where mandatory, else 1; out of range 5; then by the scale point, if it has one. (No point of an accepted catalog is too
--- wide or of an unknown type.)
+-- where mandatory, else 1; out of range 5; then by the scale point, if it has one. (The registers of
+-- a point of an accepted catalog, 16 bits each, are never too wide or of an unknown type: `proofs/PointClasses.antt`.)
 abbrev pub statusOf : Point → Classified → ℕ → ℕ
 statusOf p (ofClass unimplemented) register = elim (eqb (p .mandatory) 1) [ true ↦ 2 | false ↦ 1 ]
 statusOf p (ofClass outOfRange) register = 5
@@ -56,7 +56,7 @@ scaleOf p status register =
       ]
     ]
 
--- The registers of a point at an offset.
+-- The registers of a point at an offset. (In an accepted map they all lie in the body: `proofs/Tiling.antt`.)
 abbrev pub registersAt : List ℕ → ℕ → Point → List ℕ
 registersAt body offset p = take (p .size) (drop offset body)
 

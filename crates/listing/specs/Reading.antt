@@ -14,6 +14,7 @@ use Rattle.listing.specs.Layout.{topScope, countUnimplemented, fits, noI
 pub data Fault : Type 0 where
   belowTopPoints countPointUnimplemented notTheSize : Fault
 
+-- The number of the refusal.
 abbrev pub faultNumber : Fault → ℕ
 faultNumber belowTopPoints = 27
 faultNumber countPointUnimplemented = 28
@@ -41,6 +42,7 @@ allButLast [] = []
 allButLast (p ∷ []) = []
 allButLast (p ∷ q ∷ ps) = p ∷ allButLast (q ∷ ps)
 
+-- Is there no group?
 abbrev pub hasNoGroup : Groups → Bool
 hasNoGroup noGroup = true
 hasNoGroup (group h ps inside behind) = false

@@ -147,6 +147,7 @@ pub data Surveyed : Type 0 where
   surveyedRefused : ℕ → Surveyed
   surveyedPoints : ℕ → Surveyed
 
+-- What is answered of a reading.
 abbrev pub surveyed : Reading → Surveyed
 surveyed unknown = surveyedUnknown
 surveyed (faulty fault) = surveyedRefused (faultNumber fault)

@@ -49,9 +49,9 @@ pub enum Listing {
 }
 
 // Lists the points of a map into `out`, ten numbers a record. All refusals and the count of points are decided
-// before anything is written. The time is that of two walks over the map's registers, with a search for each
-// model's id in the catalog: no point, group or instance is searched for, so it grows neither with the square
-// of the points nor with that of the instances.
+// before anything is written. The time is at most the registers of the map times the frames of the catalog: each
+// model's id is searched for in the catalog, each instance takes the frames of its group anew, and nothing is
+// searched for each point.
 pub fn list(catalog: &[u16], map: &[u16], out: &mut [u64]) -> Listing
     ensures { λ r. ⌜ answer r ≡ Listings.told (Listings.listing (now (catalog .entry)) (now (map .entry)) (length (now (out .entry)))) ⌝ }
     ensures { λ _. ⌜ now (out .exit) ≡ Listings.stored (Listings.listing (now (catalog .entry)) (now (map .entry)) (length (now (out .entry)))) (now (out .entry)) ⌝ }

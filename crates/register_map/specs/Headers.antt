@@ -10,7 +10,7 @@ use lib.ListN.{length, getD}
 abbrev pub endId : ℕ
 endId = 0xFFFF
 
--- Does the map begin with the registers 5375 6E53 ("SunS")?
+-- Does the map begin with the registers 5375 6E53 ("SunS")? (One of fewer than two registers does not.)
 abbrev pub isMarked : List ℕ → Bool
 isMarked map = eqb (getD map 0 0) 0x5375 && eqb (getD map 1 0) 0x6E53
 

@@ -51,7 +51,7 @@ pub fn opened(map: &[u16]) -> Opening
     Opening::Opened
 }
 
-// The header at an address.
+// The header at an address: whatever stands there is taken for one.
 pub fn header_at(map: &[u16], at: usize) -> Header
     ensures { λ r. ⌜ headerForm r ≡ Headers.headerAt (eqb at 2) (drop at (now (map .entry))) ⌝ }
 {
