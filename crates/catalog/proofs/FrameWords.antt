@@ -9,7 +9,8 @@ use lib.Dec.{eqb}
 use lib.ListN.{length, getD, drop, replicate, length-append, length-drop}
 use lib.Seq.{drop-append-seam, drop-cons, getD-drop}
 use Rattle.values.specs.Each.{Each}
-use Rattle.catalog.specs.Frames.{Frame, modelFrame, groupFrame, pointFrame, endFrame, malformed, allZero, ifZero, frameOf, word, frameAt, framesFrom, frames, wordsOf, wordsOfAll}
+use Rattle.values.specs.Registers.{allZero}
+use Rattle.catalog.specs.Frames.{Frame, modelFrame, groupFrame, pointFrame, endFrame, malformed, ifZero, frameOf, word, frameAt, framesFrom, frames, wordsOf, wordsOfAll}
 use Rattle.catalog.specs.Rules.{isMalformed}
 use Rattle.catalog.proofs.TestLaws.{by-test, both}
 

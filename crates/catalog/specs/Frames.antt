@@ -1,9 +1,10 @@
 -- The frames of a catalog (document 01, "The book"): eight words each, and what the words are called.
-use mathlib.Core.Bool.{Bool, true, false, _&&_}
+use mathlib.Core.Bool.{true, false}
 use mathlib.Core.List.{List, [], _∷_, _++_}
 use Prim.Native.Nat.{ℕ, zero, suc, _+_, _*_, _/_}
 use lib.Dec.{eqb}
 use lib.ListN.{length, getD}
+use Rattle.values.specs.Registers.{allZero}
 
 -- Words 1 to 7 of a point frame. `scale` is the fixed scale factor, as a register holds it, or the number of the point that
 -- gives it.
@@ -61,11 +62,6 @@ sunssf = 8
 
 abbrev pub readOnly : ℕ
 readOnly = 0
-
--- Are these words all 0?
-abbrev pub allZero : List ℕ → Bool
-allZero [] = true
-allZero (w ∷ ws) = eqb w 0 && allZero ws
 
 -- The frame, if these words, which its kind does not name, are 0.
 abbrev pub ifZero : List ℕ → Frame → Frame

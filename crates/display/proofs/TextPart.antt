@@ -10,7 +10,8 @@ use borrow.Author.Tests.{eq-eqb, ne-eqb, le-leb, lt-leb, leb-true}
 use lib.Dec.{eqb, leb}
 use lib.ListN.{length, getD, take, drop, length-take, drop-of-length-le}
 use lib.Seq.{drop-cons}
-use Rattle.display.specs.Text.{untilZeroByte, allZero, hasString, stringAt, textAt}
+use Rattle.values.specs.Registers.{allZero}
+use Rattle.display.specs.Text.{untilZeroByte, hasString, stringAt, textAt}
 
 -- The text is the first registers, so many as it has.
 pub text-prefix : (rs : List ℕ) → untilZeroByte rs ≡ take (length (untilZeroByte rs)) rs
@@ -30,14 +31,6 @@ text-shorter rs = omega (arith, ap length (text-prefix rs), length-take (length 
 
 -- From the register at i on.
 module _ (rs : List ℕ) (i : ℕ) (h : i < length rs) where
-  pub zero-on : getD rs i 0 ≡ 0 → allZero (drop i rs) ≡ allZero (drop (i + 1) rs)
-  unfolding allZero
-  zero-on e = rw (drop-cons rs i 0 h, add-one i) (simp (allZero, eq-eqb _ _ e))
-
-  pub zero-not : (getD rs i 0 ≡ 0 → ⊥) → allZero (drop i rs) ≡ false
-  unfolding allZero
-  zero-not e = rw (drop-cons rs i 0 h) (simp (allZero, ne-eqb _ _ e))
-
   pub text-stops : getD rs i 0 < 256 → length (untilZeroByte (drop i rs)) ≡ 0
   unfolding untilZeroByte
   text-stops e =
@@ -57,10 +50,6 @@ module _ (rs : List ℕ) (i : ℕ) (h : i < length rs) where
       rw (drop-cons rs i 0 h, add-one i) (simp (untilZeroByte, ne-eqb _ _ z, ne-eqb _ _ f))
 
 -- At the end of the registers.
-pub zero-end : (rs : List ℕ) (i : ℕ) → length rs ≤ i → allZero (drop i rs) ≡ true
-unfolding allZero
-zero-end rs i h = rw (drop-of-length-le rs h)
-
 pub text-end : (rs : List ℕ) (i : ℕ) → length rs ≤ i → length (untilZeroByte (drop i rs)) ≡ 0
 unfolding untilZeroByte
 text-end rs i h = rw (drop-of-length-le rs h)

@@ -4,6 +4,7 @@ use mathlib.Core.List.{List, [], _∷_}
 use Prim.Native.Nat.{ℕ, _+_, _/_, _%_}
 use lib.Dec.{eqb, leb}
 use lib.ListN.{length, take, drop}
+use Rattle.values.specs.Registers.{allZero}
 
 -- The registers before the first with a zero byte, and that one too if only its low byte is zero; all if none has a zero byte.
 unfoldable pub untilZeroByte : List ℕ → List ℕ
@@ -13,11 +14,6 @@ untilZeroByte (r ∷ rs) =
       | true ↦ []
       | false ↦ elim (eqb (r % 256) 0) [ true ↦ r ∷ [] | false ↦ r ∷ untilZeroByte rs ]
     ]
-
--- Are all registers 0?
-unfoldable pub allZero : List ℕ → Bool
-allZero [] = true
-allZero (r ∷ rs) = eqb r 0 && allZero rs
 
 -- Has a map of so many registers a string at the address? Its size is 1–64, and it does not run past the map.
 abbrev pub hasString : ℕ → ℕ → ℕ → Bool

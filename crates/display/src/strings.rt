@@ -1,8 +1,9 @@
 // The text in a string's registers.
+use values::all_zero;
+use values::part;
 ghost use mathlib.Core.Path.{_≡_};
-ghost use Prim.Native.Nat.{_+_, _≤_};
-ghost use lib.ListN.{length, take, drop};
-ghost use Rattle.display.specs.Text.{hasString, allZero, untilZeroByte, textAt};
+ghost use lib.ListN.{length};
+ghost use Rattle.display.specs.Text.{hasString, untilZeroByte, textAt};
 
 // The text of the `size` registers from `address` on, a part of the map; or the fallback where there is
 // no such string.
@@ -34,28 +35,6 @@ fn has_string(registers: usize, address: usize, size: usize) -> bool
         return false;
     }
     address <= registers - size
-}
-
-// `count` registers from `start` on.
-fn part<'a>(s: &'a [u16], start: usize, count: usize) -> &'a [u16]
-    requires { ⌜ start + count ≤ length (now s) ⌝ }
-    ensures { λ r. ⌜ now r ≡ take count (drop start (now (s .entry))) ⌝ }
-{
-    &s[start..start + count]
-}
-
-// Are all registers 0?
-fn all_zero(string: &[u16]) -> bool
-    ensures { λ r. ⌜ r ≡ allZero (now (string .entry)) ⌝ }
-{
-    let mut i = 0;
-    while i < string.len() {
-        if string[i] != 0 {
-            return false;
-        }
-        i += 1;
-    }
-    true
 }
 
 // How many registers the text takes: up to the first with a zero byte, and that one if only its low byte

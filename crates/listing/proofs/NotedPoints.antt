@@ -9,7 +9,8 @@ use lib.Dec.{eqb}
 use lib.ListN.{length, getD, drop, set, length-set}
 use lib.Seq.{getD-set-same, getD-set-other}
 use Rattle.values.specs.Each.{Each}
-use Rattle.catalog.specs.Frames.{Point, Frame, modelFrame, groupFrame, pointFrame, endFrame, malformed, allZero, frameOf, word, frameAt, framesFrom, frames}
+use Rattle.values.specs.Registers.{allZero}
+use Rattle.catalog.specs.Frames.{Point, Frame, modelFrame, groupFrame, pointFrame, endFrame, malformed, frameOf, word, frameAt, framesFrom, frames}
 use Rattle.catalog.specs.Rules.{isSizeOf}
 use Rattle.catalog.specs.Definitions.{pointsSize, pointFrames, groupFrames}
 use Rattle.catalog.proofs.TestLaws.{by-test}

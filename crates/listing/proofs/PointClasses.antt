@@ -3,50 +3,22 @@ use mathlib.Core.Path.{_≡_, refl, sym, ap, _∙_}
 use mathlib.Core.Bool.{Bool, true, false, _&&_}
 use mathlib.Core.List.{List, [], _∷_}
 use mathlib.Core.Option.{Option, none, some}
-use Prim.Native.Nat.{ℕ, suc, _+_, _*_, _^_, _≤_, _<_}
-use native.Mathlib.Nat.{mul-le-mul-right, pow-le-pow-right}
-use native.Mathlib.Numerals.{add-one}
+use Prim.Native.Nat.{ℕ, suc, _*_, _^_, _≤_, _<_}
+use native.Mathlib.Nat.{pow-le-pow-right}
 use native.Mathlib.Decide.{decLe}
 use native.Mathlib.Omega.{arith}
 use borrow.Author.Tests.{ne-eqb, lt-leb, leb-true}
 use lib.Dec.{leb}
-use lib.ListN.{length, getD, drop, drop-of-length-le}
-use lib.Seq.{drop-cons}
+use lib.ListN.{length, getD}
 use Rattle.values.specs.Registers.{AreRegisters, join, tooWide}
 use Rattle.values.specs.Rows.{TypeRow, pattern, whole, rows, rowAmong, rowOf, registersOf}
 use Rattle.values.specs.Classes.{value, isUnimplemented, inRange, ofClass, classified}
-use Rattle.values.proofs.Joining.{join-cons, positive, sixteen-each}
+use Rattle.values.proofs.Joining.{sixteen-each}
 use Rattle.values.proofs.Splitting.{join-bound}
 use Rattle.values.proofs.Table.{no-row-outside, four-registers}
 use Rattle.values.proofs.ClassCases.{in-range, of-class}
 use Rattle.catalog.specs.Rules.{isSizeOf}
 use Rattle.catalog.proofs.TestLaws.{clash, both}
-
--- ---- Are all registers 0?
-
--- A register of 0 adds nothing to those below it.
-pub zero-register : (rs : List ℕ) (i : ℕ) → i < length rs → getD rs i 0 ≡ 0 → join (drop i rs) ≡ join (drop (i + 1) rs)
-zero-register rs i h z =
-    let p = 65536 ^ length (drop (suc i) rs) in
-    let nothing : 0 * p ≡ 0 = omega arith in
-    rw (add-one i, drop-cons rs i 0 h, join-cons (getD rs i 0) (drop (suc i) rs), z, nothing) (omega arith)
-
--- Registers of which one is not 0 do not join to 0.
-pub nonzero-register : (rs : List ℕ) (i : ℕ) → i < length rs → (getD rs i 0 ≡ 0 → ⊥) → join (drop i rs) ≡ 0 → ⊥
-nonzero-register rs i h n e =
-    let r = getD rs i 0 in
-    let rest = drop (suc i) rs in
-    let p = 65536 ^ length rest in
-    let one : 1 ≤ r = omega arith in
-    let q : join (drop i rs) ≡ r * p + join rest = rw (drop-cons rs i 0 h) (join-cons r rest) in
-    omega (arith, q, mul-le-mul-right p one, positive (length rest))
-
--- Behind the last register nothing is left.
-pub no-register : (rs : List ℕ) (i : ℕ) → length rs ≤ i → join (drop i rs) ≡ 0
-unfolding join
-no-register rs i h = rw (drop-of-length-le rs h)
-
--- ---- Types of more than four registers
 
 -- The row of a type and its size by it.
 row-of-size : (code size : ℕ) → isSizeOf code size ≡ true → (r : TypeRow) × (rowOf code ≡ some r) × (size ≤ r .most)

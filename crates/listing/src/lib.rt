@@ -8,7 +8,6 @@ mod surveys;
 
 use catalog::Checked;
 use catalog::check;
-use points::part;
 use records::Place;
 pub use records::WIDTH;
 use records::put_model;
@@ -19,6 +18,7 @@ use register_map::opened;
 use scopes::NUMBERS;
 use surveys::Survey;
 use surveys::survey_model;
+use values::part;
 ghost use mathlib.Core.Path.{_≡_};
 ghost use mathlib.Core.Option.{none};
 ghost use Prim.Native.Nat.{_+_, _*_, _≤_};

@@ -5,14 +5,13 @@ use catalog::SCALE_BY_POINT;
 use catalog::SUNSSF;
 use values::Class;
 use values::Classified;
+use values::all_zero;
 use values::classify;
 use values::raw_value;
 ghost use mathlib.Core.Path.{_≡_};
 ghost use mathlib.Core.Bool.{true};
-ghost use Prim.Native.Nat.{_+_, _≤_};
-ghost use lib.Dec.{eqb};
-ghost use lib.ListN.{length, take, drop};
-ghost use Rattle.values.specs.Registers.{join, shownRaw};
+ghost use lib.ListN.{length};
+ghost use Rattle.values.specs.Registers.{join};
 ghost use Rattle.values.specs.Classes.{ofClass, classified};
 ghost use Rattle.values.specs.Answers.{classAnswer, classifiedAnswer};
 ghost use Rattle.catalog.specs.Frames.{sunssf};
@@ -20,14 +19,6 @@ ghost use Rattle.catalog.specs.Rules.{isSizeOf};
 ghost use Rattle.catalog.specs.Answers.{pointForm};
 ghost use Rattle.listing.specs.Points.{scaleStatus, statusOf, scaleOf};
 ghost use Rattle.listing.specs.Answers.{ShownOf};
-
-// The registers from an offset on, so many of them.
-pub(crate) fn part<'a>(registers: &'a [u16], start: usize, count: usize) -> &'a [u16]
-    requires { ⌜ start + count ≤ length (now registers) ⌝ }
-    ensures { λ r. ⌜ now r ≡ take count (drop start (now (registers .entry))) ⌝ }
-{
-    &registers[start..start + count]
-}
 
 // The status, raw value and scale of a point.
 pub(crate) struct Shown {
@@ -63,20 +54,6 @@ fn class_of(type_code: u16, registers: &[u16]) -> Classified
         return classify(type_code, 0);
     }
     classify(type_code, 1)
-}
-
-// Are all registers 0?
-fn all_zero(registers: &[u16]) -> bool
-    ensures { λ r. ⌜ r ≡ eqb (join (now (registers .entry))) 0 ⌝ }
-{
-    let mut i = 0;
-    while i < registers.len() {
-        if registers[i] != 0 {
-            return false;
-        }
-        i += 1;
-    }
-    true
 }
 
 // The first status that applies.

@@ -11,6 +11,7 @@ pub mod Table
 pub mod CodeTable
 pub mod Joining
 pub mod Splitting
+pub mod RegisterParts
 pub mod TwosComplement
 pub mod MachineIntegers
 pub mod IntegerOrder

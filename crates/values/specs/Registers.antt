@@ -1,8 +1,8 @@
 -- Registers and the raw number that they hold (document 01, "The value rows": registers join high first).
-use mathlib.Core.Bool.{Bool, true, false}
+use mathlib.Core.Bool.{Bool, true, false, _&&_}
 use mathlib.Core.List.{List, [], _∷_}
 use Prim.Native.Nat.{ℕ, zero, suc, _+_, _*_, _/_, _%_, _^_, _<_}
-use lib.Dec.{leb}
+use lib.Dec.{eqb, leb}
 use lib.ListN.{length}
 use Rattle.values.specs.Each.{Each}
 
@@ -14,6 +14,11 @@ AreRegisters rs = Each (λ r. r < 65536) rs
 unfoldable pub join : List ℕ → ℕ
 join [] = 0
 join (r ∷ rs) = r * 65536 ^ length rs + join rs
+
+-- Are all these registers 0?
+abbrev pub allZero : List ℕ → Bool
+allZero [] = true
+allZero (r ∷ rs) = eqb r 0 && allZero rs
 
 -- The n registers of a raw number, the highest first: what is written for it.
 unfoldable pub split : ℕ → ℕ → List ℕ

@@ -11,6 +11,8 @@ pub use classes::classify;
 pub use classes::is_value;
 pub use classes::scale_factor_in_range;
 use registers::all_ones;
+pub use registers::all_zero;
+pub use registers::part;
 pub use registers::raw_value;
 pub use registers::too_wide;
 use rows::Found;

@@ -1,8 +1,8 @@
 // Registers and the raw number that they hold.
 ghost use mathlib.Core.Path.{_≡_};
 ghost use Prim.Native.Nat.{_-_, _*_, _^_, _<_, min};
-ghost use lib.ListN.{length};
-ghost use Rattle.values.specs.Registers.{shownRaw, tooWide};
+ghost use lib.ListN.{length, take, drop};
+ghost use Rattle.values.specs.Registers.{shownRaw, allZero, tooWide};
 
 // The raw value that a record shows: the registers joined, high first, and 0 for more than four.
 pub fn raw_value(registers: &[u16]) -> u64
@@ -26,6 +26,34 @@ fn wide(register: u16) -> u64
     ensures { λ r. ⌜ (r ≡ register) × (r < 65536) ⌝ }
 {
     register as u64
+}
+
+// Are all registers 0?
+pub fn all_zero(registers: &[u16]) -> bool
+    ensures { λ r. ⌜ r ≡ allZero (now (registers .entry)) ⌝ }
+{
+    let mut i = 0;
+    while i < registers.len() {
+        if registers[i] != 0 {
+            return false;
+        }
+        i += 1;
+    }
+    true
+}
+
+// `count` registers from `start` on, or as many as there are. What is left is compared with the count:
+// start + count could be more than a usize holds.
+pub fn part<'a>(registers: &'a [u16], start: usize, count: usize) -> &'a [u16]
+    ensures { λ r. ⌜ now r ≡ take count (drop start (now (registers .entry))) ⌝ }
+{
+    if registers.len() < start {
+        return &registers[..0];
+    }
+    if registers.len() - start <= count {
+        return &registers[start..];
+    }
+    &registers[start..start + count]
 }
 
 // Is the raw number too wide for so many registers?

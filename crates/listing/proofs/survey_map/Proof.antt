@@ -44,13 +44,7 @@ cast-part : tie.Need-cast-part Inv-loop μ-loop
 cast-part c = search needs
 
 part-requires : tie.Need-part-requires Inv-loop μ-loop
-part-requires c κs =
-    let k = c .before .before in
-    let s = k .before .before .before .before .before .before .before .before in
-    let l = k .before .before .before .before .loop in
-    let g = k .header .given in
-    let h = sym (k .before .before .header-at .ensures) ∙ ap headerForm (g .1) in
-    omega (arith, model-ends (eqb (l .at) 2) (s .args .map .now) (l .at) h)
+part-requires c κs = search needs
 
 survey-model-requires : tie.Need-survey-model-requires Inv-loop μ-loop
 survey-model-requires c κs =

@@ -1,11 +1,10 @@
 -- `text` hands out the fallback or the first registers of the string.
 use mathlib.Core.Path.{sym, ap, _∙_}
 use Prim.Native.Nat.{ℕ}
-use native.Mathlib.Omega.{arith}
 use borrow.Author.Needs.{needs}
 use borrow.Author.Tests.{not-true, not-false}
-use lib.ListN.{length, take}
-use Rattle.display.proofs.TextPart.{no-string, string-of-zeros, string-shown, string-lies, text-prefix, text-shorter}
+use lib.ListN.{take}
+use Rattle.display.proofs.TextPart.{no-string, string-of-zeros, string-shown, text-prefix}
 use Rattle.display.proofs.strings.text.Statement.{statement}
 use Rattle.display.proofs.strings.text.Tie as tie
 
@@ -18,9 +17,7 @@ returns c =
     sym (no-string (a .map .now) (a .address) (a .size) (a .fallback .now) (sym (c .before .has-string .ensures) ∙ not-true _ (c .if1 .taken)))
 
 part-requires : tie.Need-part-requires
-part-requires c κs =
-    let a = c .before .before .before .before .args in
-    string-lies (length (a .map .now)) (a .address) (a .size) (sym (c .before .has-string .ensures) ∙ not-false _ (c .if1 .left))
+part-requires c κs = search needs
 
 all-zero-requires : tie.Need-all-zero-requires
 all-zero-requires c κs = search needs
@@ -38,9 +35,7 @@ text-length-requires : tie.Need-text-length-requires
 text-length-requires c κs = search needs
 
 part-requires-2 : tie.Need-part-requires-2
-part-requires-2 c κs =
-    let s = c .before .before .before .part .result .now in
-    omega (arith, c .text-length .ensures, text-shorter s)
+part-requires-2 c κs = search needs
 
 returns-3 : tie.Need-returns-3
 returns-3 c =

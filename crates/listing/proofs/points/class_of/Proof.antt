@@ -7,6 +7,7 @@ use borrow.Author.Tests.{eqb-true, eqb-false}
 use Rattle.values.specs.Registers.{join}
 use Rattle.values.specs.Classes.{classified}
 use Rattle.values.proofs.Joining.{shown}
+use Rattle.values.proofs.RegisterParts.{zero-joined}
 use Rattle.listing.proofs.PointClasses.{each-register, wide-value}
 use Rattle.listing.proofs.points.class_of.Statement.{statement}
 use Rattle.listing.proofs.points.class_of.Tie as tie
@@ -33,7 +34,9 @@ classify-requires-2 c κs = search needs
 returns-2 : tie.Need-returns-2
 returns-2 c =
     let a = c .before .before .before .before .before .args in
-    let zero = eqb-true (join (a .registers .now)) 0 (sym (c .before .before .all-zero .ensures) ∙ c .before .if2 .taken) in
+    let rs = a .registers .now in
+    let told = sym (zero-joined rs) ∙ sym (c .before .before .all-zero .ensures) in
+    let zero = eqb-true (join rs) 0 (told ∙ c .before .if2 .taken) in
     c .classify2 .ensures ∙ ap (λ (n : ℕ). classified (a .type-code) n) (sym zero)
 
 classify-requires-3 : tie.Need-classify-requires-3
@@ -45,7 +48,8 @@ returns-3 c =
     let a = s .args in
     let rs = a .registers .now in
     let registers = each-register rs (λ k. omega (arith, c .before .before .before .before .shared-slice-known .given k)) in
-    let nonzero = eqb-false (join rs) 0 (sym (c .before .before .all-zero .ensures) ∙ c .before .if2 .left) in
+    let told = sym (zero-joined rs) ∙ sym (c .before .before .all-zero .ensures) in
+    let nonzero = eqb-false (join rs) 0 (told ∙ c .before .if2 .left) in
     c .classify3 .ensures ∙ wide-value (a .type-code) rs (s .pre) (c .before .before .before .if1 .left) registers nonzero
 
 pub class-of-spec : {M : Type 1} → statement M

@@ -1,19 +1,19 @@
--- `all_zero`: what is left of the string decides.
+-- `all_zero`: what is left of the registers decides.
 use mathlib.Core.Path.{_≡_, sym, _∙_}
 use Prim.Native.Nat.{_-_}
 use native.Mathlib.Omega.{arith}
 use borrow.Author.Needs.{needs}
 use lib.ListN.{length, drop}
-use Rattle.display.specs.Text.{allZero}
-use Rattle.display.proofs.TextPart.{zero-on, zero-not, zero-end}
-use Rattle.display.proofs.strings.all_zero.Statement.{statement}
-use Rattle.display.proofs.strings.all_zero.Tie as tie
+use Rattle.values.specs.Registers.{allZero}
+use Rattle.values.proofs.RegisterParts.{zero-on, zero-not, zero-end}
+use Rattle.values.proofs.registers.all_zero.Statement.{statement}
+use Rattle.values.proofs.registers.all_zero.Tie as tie
 
 abbrev Inv-loop : tie.InvT-loop
-Inv-loop string i₀ i = allZero (drop i string) ≡ allZero string
+Inv-loop registers i₀ i = allZero (drop i registers) ≡ allZero registers
 
 abbrev μ-loop : tie.MeasureT-loop
-μ-loop string i₀ i = length string - i
+μ-loop registers i₀ i = length registers - i
 
 loop-holds : tie.Need-loop-holds Inv-loop μ-loop
 loop-holds c = search needs
@@ -27,7 +27,8 @@ shared-slice-read-if1 c = search needs
 returns : tie.Need-returns Inv-loop μ-loop
 returns c =
     let l = c .before .before .before in
-    sym (zero-not (l .before .args .string .now) (l .loop .i) (c .before .before .loop-test .taken) (λ q. omega (arith, q, c .if1 .taken))) ∙ l .loop .inv
+    let rs = l .before .args .registers .now in
+    sym (zero-not rs (l .loop .i) (c .before .before .loop-test .taken) (λ q. omega (arith, q, c .if1 .taken))) ∙ l .loop .inv
 
 add-i : tie.Need-add-i Inv-loop μ-loop
 add-i c = search needs
@@ -38,12 +39,13 @@ loop-less c = search needs
 loop-again : tie.Need-loop-again Inv-loop μ-loop
 loop-again c =
     let l = c .before .before .before in
-    sym (zero-on (l .before .args .string .now) (l .loop .i) (c .before .before .loop-test .taken) (omega (arith, c .if1 .left))) ∙ l .loop .inv
+    let rs = l .before .args .registers .now in
+    sym (zero-on rs (l .loop .i) (c .before .before .loop-test .taken) (omega (arith, c .if1 .left))) ∙ l .loop .inv
 
 returns-2 : tie.Need-returns-2 Inv-loop μ-loop
 returns-2 c =
     let l = c .before in
-    sym (zero-end (l .before .args .string .now) (l .loop .i) (c .loop-test .left)) ∙ l .loop .inv
+    sym (zero-end (l .before .args .registers .now) (l .loop .i) (c .loop-test .left)) ∙ l .loop .inv
 
 pub all-zero-spec : {M : Type 1} → statement M
 all-zero-spec =
