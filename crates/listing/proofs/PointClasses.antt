@@ -12,7 +12,7 @@ use lib.Dec.{leb}
 use lib.ListN.{length, getD}
 use Rattle.values.specs.Registers.{AreRegisters, join, tooWide}
 use Rattle.values.specs.Rows.{TypeRow, pattern, whole, rows, rowAmong, rowOf, registersOf}
-use Rattle.values.specs.Classes.{value, isUnimplemented, inRange, ofClass, classified}
+use Rattle.values.specs.Classes.{Class, value, isUnimplemented, inRange, classOf, ofClass, classified}
 use Rattle.values.proofs.Joining.{sixteen-each}
 use Rattle.values.proofs.Splitting.{join-bound}
 use Rattle.values.proofs.Table.{no-row-outside, four-registers}
@@ -77,6 +77,21 @@ pub each-register : (rs : List ℕ) → ((k : ℕ) → getD rs k 0 < 65536) → 
 each-register [] h = tt
 each-register (r ∷ rs) h = (h 0, each-register rs (λ k. h (suc k)))
 
+-- Registers of a size that their type may have are a pattern of the type.
+fits-type : (rs : List ℕ) (r : TypeRow) → AreRegisters rs → length rs ≤ r .most → join rs < 2 ^ (16 * r .most)
+fits-type rs r a most =
+    rw (← sixteen-each (r .most))
+    (omega (arith, join-bound rs a, pow-le-pow-right {n = 65536} (omega arith) {i = length rs} {j = r .most} most))
+
+-- So they have a class: they are never too wide, and the type is known.
+pub always-classed : (code : ℕ) (rs : List ℕ) → isSizeOf code (length rs) ≡ true → AreRegisters rs
+    → (c : Class) × (classified code (join rs) ≡ ofClass c)
+unfolding tooWide
+always-classed code rs s a =
+    let row = row-of-size code (length rs) s in
+    let r = row .0 in
+    (classOf r (join rs), of-class code (join rs) r (row .1) (lt-leb (2 ^ (16 * r .most)) (join rs) (fits-type rs r a (row .2))))
+
 -- Of more than four registers that are not all 0, the class is that of 1.
 pub wide-value : (code : ℕ) (rs : List ℕ) → isSizeOf code (length rs) ≡ true → 4 < length rs → AreRegisters rs → (join rs ≡ 0 → ⊥)
     → classified code 1 ≡ classified code (join rs)
@@ -85,8 +100,6 @@ wide-value code rs s w a n =
     let r = row .0 in
     let most = row .2 in
     let e = row .1 in
-    let bound : join rs < 2 ^ (16 * r .most) =
-    rw (← sixteen-each (r .most))
-    (omega (arith, join-bound rs a, pow-le-pow-right {n = 65536} (omega arith) {i = length rs} {j = r .most} most)) in
+    let bound = fits-type rs r a most in
     let one : 1 < 2 ^ (16 * r .most) = omega (arith, bound) in
     wide-class code 1 r e (omega arith) one (λ q. omega arith) ∙ sym (wide-class code (join rs) r e (omega arith) bound n)
