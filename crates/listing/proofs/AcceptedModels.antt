@@ -1,5 +1,5 @@
 -- The models of an accepted catalog, looked up by their ids.
-use mathlib.Core.Path.{_≡_, refl}
+use mathlib.Core.Path.{_≡_, refl, ap, subst, _∙_}
 use mathlib.Core.Bool.{Bool, true, false}
 use mathlib.Core.List.{List, [], _∷_}
 use mathlib.Core.Option.{Option, none, some}
@@ -10,7 +10,7 @@ use lib.Dec.{eqb}
 use lib.ListN.{length}
 use Rattle.values.specs.Each.{Each}
 use Rattle.catalog.specs.Definitions.{Content, Definition, definitions}
-use Rattle.catalog.specs.Soundness.{SoundDefinition}
+use Rattle.catalog.specs.Soundness.{SoundPoint, SoundGroups, SoundDefinition}
 use Rattle.catalog.proofs.AcceptedSteps.{accepted-start}
 use Rattle.catalog.proofs.AcceptedIsSound.{accepted-is-sound}
 use Rattle.register_map.specs.Scan.{Model}
@@ -39,8 +39,19 @@ pub top-sound : (ws : List ℕ) (id : ℕ) (c : Content) → Accepted ws → top
     → (d : Definition) × SoundDefinition d × (d .id ≡ id) × (d .top ≡ c)
 top-sound ws id c a e = found SoundDefinition (definitions ws) id c (accepted-is-sound ws (a .0) (a .1) .0 .each) e
 
--- A model is read by the definition that is found by its id.
-pub reading-top : (ds : List Definition) (m : Model)
+-- So are its points and its groups.
+pub top-points-sound : (ws : List ℕ) (id : ℕ) (c : Content) → Accepted ws → topOf id (definitions ws) ≡ some c
+    → Each (SoundPoint (c .points)) (c .points)
+top-points-sound ws id c a e =
+    let d = top-sound ws id c a e in subst (λ t. Each (SoundPoint (t .points)) (t .points)) (d .3) (d .1 .points)
+
+pub top-groups-sound : (ws : List ℕ) (id : ℕ) (c : Content) → Accepted ws → topOf id (definitions ws) ≡ some c
+    → SoundGroups (c .points) (c .points) 2 (c .groups)
+top-groups-sound ws id c a e =
+    let d = top-sound ws id c a e in subst (λ t. SoundGroups (t .points) (t .points) 2 (t .groups)) (d .3) (d .1 .groups)
+
+-- How a model is read, by what is found by its id.
+reading-top : (ds : List Definition) (m : Model)
     → reading ds m ≡ elim (topOf (m .id) ds) [ none ↦ unknown | some c ↦ readBy (m .id) c (m .body) ]
 unfolding topOf reading
 reading-top [] m = refl
@@ -54,3 +65,15 @@ reading-top (d ∷ ds) m = go (eqb (d .id) (m .id)) (reading-top ds m)
         ≡ by (elim b [ true ↦ some (d .top) | false ↦ topOf (m .id) ds ])
     go true e = refl
     go false e = e
+
+-- A model is read by the definition that is found by its id,
+pub read-known : (ds : List Definition) (id : ℕ) (body : List ℕ) (c : Content) → topOf id ds ≡ some c
+    → reading ds (record { id = id; body = body }) ≡ readBy id c body
+read-known ds id body c e =
+    reading-top ds (record { id = id; body = body }) ∙ ap (λ o. elim o [ none ↦ unknown | some t ↦ readBy id t body ]) e
+
+-- and is unknown where none is.
+pub read-unknown : (ds : List Definition) (id : ℕ) (body : List ℕ) → topOf id ds ≡ none
+    → reading ds (record { id = id; body = body }) ≡ unknown
+read-unknown ds id body e =
+    reading-top ds (record { id = id; body = body }) ∙ ap (λ o. elim o [ none ↦ unknown | some t ↦ readBy id t body ]) e

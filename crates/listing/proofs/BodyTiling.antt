@@ -1,27 +1,26 @@
 -- The points of one model, as its definition lays them out, fill its body, one behind the other.
-use mathlib.Core.Path.{_≡_, refl, sym, subst}
+use mathlib.Core.Path.{_≡_, refl, subst}
 use mathlib.Core.Bool.{true}
 use mathlib.Core.List.{List, [], _∷_, _++_}
 use Prim.Native.Nat.{ℕ, zero, suc, _+_, _*_, _-_}
 use native.Mathlib.Nat.{suc-mul, zero-add}
 use native.Mathlib.Omega.{arith}
-use borrow.Author.Tests.{eqb-true, leb-true}
-use lib.Dec.{eqb, leb, ltb}
+use lib.Dec.{ltb}
 use lib.ListN.{length, set}
 use Rattle.values.specs.Each.{Each}
-use Rattle.values.specs.Rows.{registersOf, rowAmong, rows}
 use Rattle.catalog.specs.Frames.{Point, Head}
-use Rattle.catalog.specs.Rules.{isSizeOf}
 use Rattle.catalog.specs.Definitions.{Groups, noGroup, group, Definition, pointsSize}
-use Rattle.catalog.specs.Soundness.{SoundPoint, SoundGroups, SoundDefinition, In, first, later}
-use Rattle.catalog.proofs.TestLaws.{clash, both, by-test}
+use Rattle.catalog.specs.Soundness.{SoundPoint, SoundGroups, SoundDefinition, In, first}
+use Rattle.catalog.proofs.TestLaws.{by-test}
 use Rattle.catalog.proofs.GroupSizes.{point-size}
 use Rattle.listing.specs.Points.{ModelPoint, Scope, pointAt}
 use Rattle.listing.specs.Layout.{within, topScope, groupsSize, countUnimplemented, fits, countsOf, noInstance, pointsAt, instances, groupsAt, contentAt}
-use Rattle.listing.specs.Reading.{Reading, faulty, points, Fault, pad, endsWithPad, allButLast, hasNoGroup, padLeftOut, laidOut, readBy}
+use Rattle.listing.specs.Reading.{Reading, faulty, points, Fault, endsWithPad, allButLast, padLeftOut, laidOut, readBy}
 use Rattle.listing.specs.Tiling.{lowerPoints, definedPoints, Tiles, BodyTiled}
 use Rattle.listing.proofs.Sizes.{laid-size}
 use Rattle.listing.proofs.EachLaws.{each-implied, each-append}
+use Rattle.listing.proofs.InLaws.{in-front, in-behind, all-in}
+use Rattle.listing.proofs.LeftOutPad.{without-pad, each-but-last, left-out}
 
 -- One tiling behind another.
 tiles-append : {A : Type 0} (at number : A → ℕ) (from mid to : ℕ) (xs ys : List A) (qs rs : List Point)
@@ -110,18 +109,6 @@ each-repeated : (P : Point → Type 0) (n : ℕ) (qs : List Point) → Each P qs
 each-repeated P zero qs e = tt
 each-repeated P (suc n) qs e = each-append P qs (repeated n qs) e (each-repeated P n qs e)
 
-in-front : (q : Point) (ps rs : List Point) → In q ps → In q (ps ++ rs)
-in-front q (p ∷ ps) rs first = first
-in-front q (p ∷ ps) rs (later i) = later (in-front q ps rs i)
-
-in-back : (q : Point) (ps rs : List Point) → In q rs → In q (ps ++ rs)
-in-back q [] rs i = i
-in-back q (p ∷ ps) rs i = later (in-back q ps rs i)
-
-all-in : (ps : List Point) → Each (λ q. In q ps) ps
-all-in [] = tt
-all-in (p ∷ ps) = (first, each-implied (λ q. In q ps) (λ q. In q (p ∷ ps)) (λ q i. later i) ps (all-in ps))
-
 -- The points of the instances of groups are points of the groups.
 laid-defined : (count : Head → ℕ) (g : Groups) → Each (λ q. In q (lowerPoints g)) (laidPoints count g)
 laid-defined count noGroup = tt
@@ -132,10 +119,10 @@ laid-defined count (group h ps inside behind) =
     let b = laid-defined count behind in
     let own = each-implied (λ q. In q ps) P (λ q. in-front q ps (lowerPoints inside ++ lowerPoints behind)) ps (all-in ps) in
     let lower = each-implied (λ q. In q (lowerPoints inside)) P
-    (λ q k. in-back q ps (lowerPoints inside ++ lowerPoints behind) (in-front q (lowerPoints inside) (lowerPoints behind) k))
+    (λ q k. in-behind q ps (lowerPoints inside ++ lowerPoints behind) (in-front q (lowerPoints inside) (lowerPoints behind) k))
     (laidPoints count inside) i in
     let rest = each-implied (λ q. In q (lowerPoints behind)) P
-    (λ q k. in-back q ps (lowerPoints inside ++ lowerPoints behind) (in-back q (lowerPoints inside) (lowerPoints behind) k))
+    (λ q k. in-behind q ps (lowerPoints inside ++ lowerPoints behind) (in-behind q (lowerPoints inside) (lowerPoints behind) k))
     (laidPoints count behind) b in
     each-append P (repeated (count h) (ps ++ laidPoints count inside)) (laidPoints count behind)
     (each-repeated P (count h) (ps ++ laidPoints count inside) (each-append P ps (laidPoints count inside) own lower)) rest
@@ -167,7 +154,7 @@ content-tiled d s body f =
     let ownDefined = each-implied (λ q. In q (c .points)) P (λ q. in-front q (c .points) (lowerPoints (c .groups))) (c .points)
     (all-in (c .points)) in
     let lowerDefined = each-implied (λ q. In q (lowerPoints (c .groups))) P
-    (λ q. in-back q (c .points) (lowerPoints (c .groups))) qs (laid-defined count (c .groups)) in
+    (λ q. in-behind q (c .points) (lowerPoints (c .groups))) qs (laid-defined count (c .groups)) in
     record {
       by = c .points ++ qs;
       defined = each-append P (c .points) qs ownDefined lowerDefined;
@@ -175,34 +162,6 @@ content-tiled d s body f =
           (tiles-append (λ p. p .offset) (λ p. p .number) 0 (pointsSize (c .points))
           (pointsSize (c .points) + groupsSize count (c .groups)) own lower (c .points) qs p g);
     }
-
--- A pad takes one register.
-pad-size : (size : ℕ) → isSizeOf pad size ≡ true → size ≡ 1
-unfolding isSizeOf registersOf rowAmong rows
-pad-size size e =
-    let t = both (leb 1 size) (leb size 1) e in
-    let a = leb-true 1 size (t .0) in
-    let b = leb-true size 1 (t .1) in
-    omega arith
-
--- Without a pad at their end, points take one register less.
-without-pad : (reach ps : List Point) → Each (SoundPoint reach) ps → endsWithPad ps ≡ true
-    → pointsSize (allButLast ps) + 1 ≡ pointsSize ps
-unfolding endsWithPad allButLast
-without-pad reach [] e t = clash (sym t)
-without-pad reach (p ∷ []) e t =
-    let sized : isSizeOf pad (p .size) ≡ true =
-    subst (λ c. isSizeOf c (p .size) ≡ true) (eqb-true (p .typeCode) pad t) (e .0 .sized) in
-    let one = pad-size (p .size) sized in
-    omega arith
-without-pad reach (p ∷ q ∷ ps) e t = let r = without-pad reach (q ∷ ps) (e .1) t in omega (arith, r)
-
--- What holds of each holds of all but the last.
-each-but-last : (P : Point → Type 0) (ps : List Point) → Each P ps → Each P (allButLast ps)
-unfolding allButLast
-each-but-last P [] e = tt
-each-but-last P (p ∷ []) e = tt
-each-but-last P (p ∷ q ∷ ps) e = (e .0, each-but-last P (q ∷ ps) (e .1))
 
 -- A model whose last pad is left out.
 pad-tiled : (d : Definition) → SoundDefinition d → (body : List ℕ) → endsWithPad (d .top .points) ≡ true
@@ -236,12 +195,9 @@ read-tiled d s id body ps =
     let c = d .top in
     let W : Reading → Type 0 = λ r. r ≡ points ps → BodyTiled d (length body) ps in
     by-test W (padLeftOut id c (length body)) (λ t e.
-    let a = both (eqb id 1) _ t in
-    let b = both (hasNoGroup (c .groups)) _ (a .1) in
-    let x = both (endsWithPad (c .points)) (eqb (length body + 1) (pointsSize (c .points))) (b .1) in
-    let y = eqb-true (length body + 1) (pointsSize (c .points)) (x .1) in
+    let l = left-out id c (length body) t in
     let q : pointsAt body (topScope (allButLast (c .points)) body) noInstance 0 (allButLast (c .points)) ≡ ps = cc in
-    subst (BodyTiled d (length body)) q (pad-tiled d s body (x .0) y))
+    subst (BodyTiled d (length body)) q (pad-tiled d s body (l .1) (l .2)))
     (λ _.
     by-test W (ltb (length body) (pointsSize (c .points))) (λ t e. not-points _ ps e) (λ _.
     by-test W (countUnimplemented (topScope (c .points) body) (c .groups)) (λ t e. not-points _ ps e) (λ _.

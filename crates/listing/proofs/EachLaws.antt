@@ -1,5 +1,7 @@
 -- Facts about each element of a list, carried over.
 use mathlib.Core.List.{List, [], _∷_, _++_}
+use Prim.Native.Nat.{ℕ, zero, suc}
+use lib.ListN.{drop}
 use Rattle.values.specs.Each.{Each}
 
 -- What follows of each.
@@ -11,3 +13,9 @@ each-implied P Q f (x ∷ xs) e = (f x (e .0), each-implied P Q f xs (e .1))
 pub each-append : {A : Type 0} (P : A → Type 0) (xs ys : List A) → Each P xs → Each P ys → Each P (xs ++ ys)
 each-append P [] ys e f = f
 each-append P (x ∷ xs) ys e f = (e .0, each-append P xs ys (e .1) f)
+
+-- Of each behind the first so many.
+pub each-drop : {A : Type 0} (P : A → Type 0) (i : ℕ) (xs : List A) → Each P xs → Each P (drop i xs)
+each-drop P zero xs e = e
+each-drop P (suc i) [] e = tt
+each-drop P (suc i) (x ∷ xs) e = each-drop P i xs (e .1)

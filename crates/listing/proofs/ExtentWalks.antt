@@ -14,7 +14,7 @@ use Rattle.listing.specs.declared.extents.Run.{Run}
 use Rattle.listing.specs.declared.extents.Extent.{Extent}
 use Rattle.listing.proofs.Standing as standing
 use Rattle.listing.proofs.IntoGroups as groups
-use Rattle.listing.proofs.RunSteps.{points-small}
+use Rattle.listing.proofs.Sizes.{points-small}
 use Rattle.listing.proofs.ExtentSteps.{SummedUp, all-met, one-more}
 
 -- How many frames a group and those behind it take.
@@ -28,7 +28,7 @@ frames-taken h ps inside behind =
     omega (arith, p, a, b)
 
 -- The end behind groups that stand here.
-pub end-here : (ws : List ℕ) (i : ℕ) (g : Groups) → heldAt ws i .points ≡ [] → heldAt ws i .groups ≡ g
+end-here : (ws : List ℕ) (i : ℕ) (g : Groups) → heldAt ws i .points ≡ [] → heldAt ws i .groups ≡ g
     → pastEnd ws i ≡ i + length (groupFrames g) + 1
 end-here ws i g n e =
     let p : length (heldAt ws i .points) ≡ 0 = ap length n in
@@ -40,7 +40,7 @@ end-here ws i g n e =
 module _ (ws : List ℕ) (i levels : ℕ) (at : AtGroups ws i levels) (few : levels ≤ 3) (h : Head)
     (e : headOf (frameIn ws i) ≡ some h) where
   -- Past the group is in front of the same end.
-  pub same-end : pastEnd ws (pastEnd ws (i + 1)) ≡ pastEnd ws i
+  same-end : pastEnd ws (pastEnd ws (i + 1)) ≡ pastEnd ws i
   same-end =
       let n = standing.group-next ws i (at .stands) (at .noPoint) h e in
       let c = heldAt ws (i + 1) in
@@ -51,7 +51,7 @@ module _ (ws : List ℕ) (i levels : ℕ) (at : AtGroups ws i levels) (few : lev
       omega (arith, here, there, f)
 
   -- Behind its points is in front of its own end.
-  pub own-end : pastEnd ws (i + 1 + length (heldAt ws (i + 1) .points)) ≡ pastEnd ws (i + 1)
+  own-end : pastEnd ws (i + 1 + length (heldAt ws (i + 1) .points)) ≡ pastEnd ws (i + 1)
   own-end =
       let n = standing.group-next ws i (at .stands) (at .noPoint) h e in
       let r = standing.behind-run ws (i + 1) (n .1) in

@@ -1,20 +1,24 @@
 -- The numbers of groups: those of a group's head, its points, the groups in it and the groups behind it, all different.
 use mathlib.Core.Path.{_≡_, refl, sym, ap, subst, _∙_}
-use mathlib.Core.Bool.{Bool, true, false, _||_}
+use mathlib.Core.Bool.{Bool, true, false, _||_, or-true}
 use mathlib.Core.List.{List, [], _∷_, _++_}
 use Prim.Native.Nat.{ℕ}
 use borrow.Author.Tests.{eqb-true, eq-eqb}
 use lib.Dec.{eqb}
 use Rattle.catalog.specs.Frames.{Point, Head, Frame, modelFrame, groupFrame, pointFrame, endFrame, malformed}
 use Rattle.catalog.specs.Rules.{among}
-use Rattle.catalog.specs.Definitions.{Groups, noGroup, group, pointFrames, groupFrames}
+use Rattle.catalog.specs.Definitions.{Groups, group, pointFrames, groupFrames}
 use Rattle.catalog.specs.Soundness.{Distinct, numbersOf, In, first, later}
 use Rattle.catalog.proofs.TestLaws.{clash, neither}
 
 -- ---- Lists of numbers
 
+-- A number that is among others is among them with one more in front.
+pub among-later : (n m : ℕ) (ns : List ℕ) → among n ns ≡ true → among n (m ∷ ns) ≡ true
+among-later n m ns e = rw e (or-true (eqb n m))
+
 -- A number among one of two lists.
-pub among-either : (n : ℕ) (ms ns : List ℕ) → among n (ms ++ ns) ≡ among n ms || among n ns
+among-either : (n : ℕ) (ms ns : List ℕ) → among n (ms ++ ns) ≡ among n ms || among n ns
 among-either n [] ns = refl
 among-either n (m ∷ ms) ns = go (eqb n m) (among n (ms ++ ns)) (among n ms) (among n ns) (among-either n ms ns)
   where
@@ -52,7 +56,7 @@ numbers-append (endFrame ∷ fs) gs = numbers-append fs gs
 numbers-append (malformed ∷ fs) gs = numbers-append fs gs
 
 -- The numbers of a group and of those behind it.
-pub group-numbers : (h : Head) (ps : List Point) (inside behind : Groups)
+group-numbers : (h : Head) (ps : List Point) (inside behind : Groups)
     → numbersOf (groupFrames (group h ps inside behind))
     ≡ h .number ∷ (numbersOf (pointFrames ps) ++ (numbersOf (groupFrames inside) ++ numbersOf (groupFrames behind)))
 group-numbers h ps inside behind =
@@ -62,11 +66,7 @@ group-numbers h ps inside behind =
 -- A point's number is among those of the points.
 pub point-among : (p : Point) (ps : List Point) → In p ps → among (p .number) (numbersOf (pointFrames ps)) ≡ true
 point-among p (q ∷ ps) first = rw (eq-eqb (p .number) (p .number) refl)
-point-among p (q ∷ ps) (later i) = go (eqb (p .number) (q .number)) (point-among p ps i)
-  where
-    go : (b : Bool) {x : Bool} → x ≡ true → b || x ≡ true
-    go true e = refl
-    go false e = e
+point-among p (q ∷ ps) (later i) = among-later (p .number) (q .number) (numbersOf (pointFrames ps)) (point-among p ps i)
 
 -- What is known of a group's numbers where all are different.
 pub record Apart (ps : List Point) (inside behind : Groups) : Type 0 where

@@ -1,8 +1,8 @@
 -- Writing the records of groups, instance by instance: what is still to be written, from an instance of the first group on.
 use mathlib.Core.Path.{_≡_, refl, sym, ap, subst, _∙_}
-use mathlib.Core.Bool.{Bool, true, false}
+use mathlib.Core.Bool.{true, false}
 use mathlib.Core.List.{List, [], _∷_, _++_, append-assoc}
-use Prim.Native.Nat.{ℕ, zero, suc, _+_, _*_, _-_, _≤_, _<_}
+use Prim.Native.Nat.{ℕ, suc, _+_, _*_, _-_, _≤_, _<_}
 use native.Mathlib.Omega.{arith}
 use native.Mathlib.Numerals.{add-one}
 use lib.Dec.{eqb}
@@ -43,15 +43,16 @@ module _ (body : List ℕ) (count : Head → ℕ) (level : ℕ) (scope : Scope) 
       ++ groupsAt body count level scope path (offset + (count h - j) * (pointsSize ps + groupsSize count inside)) behind
 
   -- All of them, from instance 0 on.
-  pub from-first : (offset : ℕ) (g : Groups) → fromInstance 0 offset g ≡ groupsAt body count level scope path offset g
+  from-first : (offset : ℕ) (g : Groups) → fromInstance 0 offset g ≡ groupsAt body count level scope path offset g
   unfolding groupsAt
   from-first offset noGroup = refl
   from-first offset (group h ps inside behind) = let e : count h - 0 ≡ count h = omega arith in rw e
 
   -- One instance and those behind it.
-  pub from-next : (j offset : ℕ) (h : Head) (ps : List Point) (inside behind : Groups) → j < count h
+  from-next : (j offset : ℕ) (h : Head) (ps : List Point) (inside behind : Groups) → j < count h
       → fromInstance j offset (group h ps inside behind)
-      ≡ instancePoints ps inside j offset ++ fromInstance (j + 1) (offset + (pointsSize ps + groupsSize count inside)) (group h ps inside behind)
+      ≡ instancePoints ps inside j offset
+      ++ fromInstance (j + 1) (offset + (pointsSize ps + groupsSize count inside)) (group h ps inside behind)
   unfolding instances
   from-next j offset h ps inside behind l =
       let s = pointsSize ps + groupsSize count inside in
@@ -65,7 +66,7 @@ module _ (body : List ℕ) (count : Head → ℕ) (level : ℕ) (scope : Scope) 
       (groupsAt body count level scope path (offset + s + m * s) behind)))
 
   -- Behind the last instance come the groups behind.
-  pub from-last : (j offset : ℕ) (h : Head) (ps : List Point) (inside behind : Groups) → count h ≤ j
+  from-last : (j offset : ℕ) (h : Head) (ps : List Point) (inside behind : Groups) → count h ≤ j
       → fromInstance j offset (group h ps inside behind) ≡ fromInstance 0 offset behind
   unfolding instances
   from-last j offset h ps inside behind l =
@@ -81,15 +82,16 @@ sizeFrom count j (group h ps inside behind) = (count h - j) * (pointsSize ps + g
 
 abbrev pub pointsFrom : (Head → ℕ) → ℕ → Groups → ℕ
 pointsFrom count j noGroup = 0
-pointsFrom count j (group h ps inside behind) = (count h - j) * (length ps + groupsPoints count inside) + groupsPoints count behind
+pointsFrom count j (group h ps inside behind) =
+    (count h - j) * (length ps + groupsPoints count inside) + groupsPoints count behind
 
 module _ (count : Head → ℕ) where
-  pub size-first : (g : Groups) → sizeFrom count 0 g ≡ groupsSize count g
+  size-first : (g : Groups) → sizeFrom count 0 g ≡ groupsSize count g
   unfolding groupsSize
   size-first noGroup = refl
   size-first (group h ps inside behind) = let e : count h - 0 ≡ count h = omega arith in rw e
 
-  pub points-first : (g : Groups) → pointsFrom count 0 g ≡ groupsPoints count g
+  points-first : (g : Groups) → pointsFrom count 0 g ≡ groupsPoints count g
   unfolding groupsPoints
   points-first noGroup = refl
   points-first (group h ps inside behind) = let e : count h - 0 ≡ count h = omega arith in rw e
@@ -109,16 +111,16 @@ module _ (count : Head → ℕ) where
         let e : count h - j ≡ suc m = omega arith in
         rw e (omega arith)
 
-    pub size-last : count h ≤ j → sizeFrom count j (group h ps inside behind) ≡ sizeFrom count 0 behind
+    size-last : count h ≤ j → sizeFrom count j (group h ps inside behind) ≡ sizeFrom count 0 behind
     size-last l = let e : count h - j ≡ 0 = omega arith in rw e (omega (arith, size-first behind))
 
-    pub points-last : count h ≤ j → pointsFrom count j (group h ps inside behind) ≡ pointsFrom count 0 behind
+    points-last : count h ≤ j → pointsFrom count j (group h ps inside behind) ≡ pointsFrom count 0 behind
     points-last l = let e : count h - j ≡ 0 = omega arith in rw e (omega (arith, points-first behind))
 
 -- ---- Scopes
 
 -- A scope within an instance is the one around it but for the instance's points.
-pub within-elsewhere : (body : List ℕ) (offset : ℕ) (ps : List Point) (s : Scope) (n : ℕ)
+within-elsewhere : (body : List ℕ) (offset : ℕ) (ps : List Point) (s : Scope) (n : ℕ)
     → among n (numbersOf (pointFrames ps)) ≡ false → within body offset ps s n ≡ s n
 unfolding within
 within-elsewhere body offset [] s n e = refl
@@ -129,23 +131,27 @@ within-elsewhere body offset (p ∷ ps) s n e =
 
 -- ---- The state of the walk
 
--- How far writing has come: the walk stands at instance j of the first of the groups `g`, in a table and a list; it began at the
--- groups `g₀` with table₀ and out₀. What is still to be written gives the list that is asked for.
-module _ (body : List ℕ) (place : Place) (fill level : ℕ) (path : List ℕ) (table₀ out₀ : List ℕ) (records₀ offset₀ : ℕ) (g₀ : Groups) where
+-- The first group has as many instances as have been passed, or more.
+abbrev pub Passed : (Head → ℕ) → ℕ → Groups → Type 0
+Passed count j noGroup = Unit {0}
+Passed count j (group h ps inside behind) = j ≤ count h
+
+none-passed : (count : Head → ℕ) (g : Groups) → Passed count 0 g
+none-passed count noGroup = tt
+none-passed count (group h ps inside behind) = omega arith
+
+module _ (body : List ℕ) (place : Place) (fill level : ℕ) (path table₀ out₀ : List ℕ) (records₀ offset₀ : ℕ) (g₀ : Groups) where
   abbrev counting : Head → ℕ
   counting = countOf (scopeIn table₀) fill
 
-  -- The first group has as many instances as have been passed, or more.
-  abbrev pub Passed : ℕ → Groups → Type 0
-  Passed j noGroup = Unit {0}
-  Passed j (group h ps inside behind) = j ≤ counting h
-
+  -- How far writing has come: the walk stands at instance j of the first of the groups `g`, in a table and a list; it began at
+  -- the groups `g₀` with table₀ and out₀. What is still to be written gives the list that is asked for.
   pub record Writing (table out : List ℕ) (records offset j : ℕ) (g : Groups) : Type 0 where
     pub top : List Point
     pub enclosing : List Point
     pub sound : SoundBelow top enclosing level g
     pub agree : Agree enclosing (scopeIn table) (scopeIn table₀)
-    pub passed : Passed j g
+    pub passed : Passed counting j g
     pub left : written place records (fromInstance body counting level (scopeIn table₀) path j offset g) out
         ≡ written place records₀ (groupsAt body counting level (scopeIn table₀) path offset₀ g₀) out₀
     pub points : records + pointsFrom counting j g ≡ records₀ + groupsPoints counting g₀
@@ -154,6 +160,22 @@ module _ (body : List ℕ) (place : Place) (fill level : ℕ) (path : List ℕ) 
     pub among₀ : (n : ℕ) → among n (numbersOf (groupFrames g₀)) ≡ false → among n (numbersOf (groupFrames g)) ≡ false
     pub isTable : IsTable table
     pub sameLength : length out ≡ length out₀
+
+  -- What writing the own points and the groups of an instance gives.
+  pub record Instance (table out : List ℕ) (records offset j : ℕ) (ps : List Point) (inside : Groups)
+      (table₁ out₁ table₂ out₂ : List ℕ) (records₂ offset₂ : ℕ) : Type 0 where
+    pub noted : (n : ℕ) → scopeIn table₁ n ≡ within body offset ps (scopeIn table) n
+    pub own : out₁
+        ≡ written place records (pointsAt body (within body offset ps (scopeIn table)) (set path (level - 2) j) offset ps) out
+    pub lower : out₂
+        ≡ written place (records + length ps)
+        (groupsAt body (countOf (scopeIn table₁) fill) (suc level) (scopeIn table₁) (set path (level - 2) j)
+        (offset + pointsSize ps) inside)
+        out₁
+    pub counted : records₂ ≡ records + length ps + groupsPoints (countOf (scopeIn table₁) fill) inside
+    pub passedOn : offset₂ ≡ offset + pointsSize ps + groupsSize (countOf (scopeIn table₁) fill) inside
+    pub elsewhere : Elsewhere (numbersOf (groupFrames inside)) table₁ table₂
+    pub isTable : IsTable table₂
 
   -- Where it begins.
   pub writing-begins : (top enclosing : List Point) → SoundBelow top enclosing level g₀ → IsTable table₀
@@ -164,7 +186,7 @@ module _ (body : List ℕ) (place : Place) (fill level : ℕ) (path : List ℕ) 
         enclosing = enclosing;
         sound = s;
         agree = λ p i. refl;
-        passed = none-passed g₀;
+        passed = none-passed counting g₀;
         left = ap (λ ps. written place records₀ ps out₀) (from-first body counting level (scopeIn table₀) path offset₀ g₀);
         points = ap (λ n. records₀ + n) (points-first counting g₀);
         size = ap (λ n. offset₀ + n) (size-first counting g₀);
@@ -173,103 +195,107 @@ module _ (body : List ℕ) (place : Place) (fill level : ℕ) (path : List ℕ) 
         isTable = t;
         sameLength = refl;
       }
-    where
-      none-passed : (g : Groups) → Passed 0 g
-      none-passed noGroup = tt
-      none-passed (group h ps inside behind) = omega arith
 
-  -- ---- One instance
+-- No group is left: the list is the one that is asked for.
+pub writing-ends : {body : List ℕ} {place : Place} {fill level : ℕ} {path table₀ out₀ : List ℕ} {records₀ offset₀ : ℕ}
+    {g₀ : Groups} {table out : List ℕ} {records offset j : ℕ}
+    → Writing body place fill level path table₀ out₀ records₀ offset₀ g₀ table out records offset j noGroup
+    → (out ≡ written place records₀ (groupsAt body (countOf (scopeIn table₀) fill) level (scopeIn table₀) path offset₀ g₀) out₀)
+    × (records ≡ records₀ + groupsPoints (countOf (scopeIn table₀) fill) g₀)
+    × (offset ≡ offset₀ + groupsSize (countOf (scopeIn table₀) fill) g₀)
+writing-ends {place = place} {out = out} {records = records} w =
+    (sym (lists.written-none place records out) ∙ w .left, omega (arith, w .points), omega (arith, w .size))
 
-  -- What writing the own points and the groups of an instance gives.
-  pub record Instance (table out : List ℕ) (records offset j : ℕ) (ps : List Point) (inside : Groups)
-      (table₁ out₁ table₂ out₂ : List ℕ) (records₂ offset₂ : ℕ) : Type 0 where
-    pub noted : (n : ℕ) → scopeIn table₁ n ≡ within body offset ps (scopeIn table) n
-    pub own : out₁
-        ≡ written place records (pointsAt body (within body offset ps (scopeIn table)) (set path (level - 2) j) offset ps) out
-    pub lower : out₂
-        ≡ written place (records + length ps)
-        (groupsAt body (countOf (scopeIn table₁) fill) (suc level) (scopeIn table₁) (set path (level - 2) j) (offset + pointsSize ps) inside)
-        out₁
-    pub counted : records₂ ≡ records + length ps + groupsPoints (countOf (scopeIn table₁) fill) inside
-    pub passedOn : offset₂ ≡ offset + pointsSize ps + groupsSize (countOf (scopeIn table₁) fill) inside
-    pub elsewhere : Elsewhere (numbersOf (groupFrames inside)) table₁ table₂
-    pub isTable : IsTable table₂
+-- ---- One step
 
-  module _ (table out : List ℕ) (records offset j : ℕ) (h : Head) (ps : List Point) (inside behind : Groups)
-      (w : Writing table out records offset j (group h ps inside behind)) (l : j < counting h) where
-    -- A number around the instance is not one of its own.
-    pub none-own : (p : Point) → In p (w .enclosing) → NoneOf (p .number) ps inside behind
-    none-own p i = none-of-parts (p .number) h ps inside behind (w .sound .apart p i)
+-- Writing P and then Q, and then the rest.
+write-on : (place : Place) (records : ℕ) (ps qs rs : List ModelPoint) (out out₂ : List ℕ) (n m : ℕ)
+    → length ps ≡ n → length qs ≡ m
+    → out₂ ≡ written place (records + n) qs (written place records ps out)
+    → written place (records + n + m) rs out₂ ≡ written place records ((ps ++ qs) ++ rs) out
+write-on place records ps qs rs out out₂ n m a b e =
+    let k : records + length (ps ++ qs) ≡ records + n + m = omega (arith, length-append ps qs) in
+    let f : written place records (ps ++ qs) out ≡ out₂ =
+    lists.written-append place records ps qs out
+    ∙ ap (λ x. written place (records + x) qs (written place records ps out)) a
+    ∙ sym e in
+    sym (lists.written-append place records (ps ++ qs) rs out
+    ∙ ap (λ x. written place x rs (written place records (ps ++ qs) out)) k
+    ∙ ap (written place (records + n + m) rs) f)
 
-    module _ (table₁ : List ℕ) (noted : (n : ℕ) → scopeIn table₁ n ≡ within body offset ps (scopeIn table) n) where
-      -- The table within the instance agrees with the scope there.
-      pub agree-within : Agree (ps ++ w .enclosing) (scopeIn table₁) (within body offset ps (scopeIn table₀))
-      agree-within p i =
-          noted (p .number) ∙ reach-agrees body offset ps (w .enclosing) (scopeIn table) (scopeIn table₀) (w .agree) p i
+module _ {body : List ℕ} {place : Place} {fill level : ℕ} {path table₀ out₀ : List ℕ} {records₀ offset₀ : ℕ} {g₀ : Groups}
+    {table out : List ℕ} {records offset j : ℕ} {h : Head} {ps : List Point} {inside behind : Groups}
+    (w : Writing body place fill level path table₀ out₀ records₀ offset₀ g₀ table out records offset j
+    (group h ps inside behind)) where
+  abbrev count : Head → ℕ
+  count = countOf (scopeIn table₀) fill
 
-      -- On the top group it agrees with the table at the start.
-      pub agree-top : Agree (w .top) (scopeIn table₁) (scopeIn table₀)
-      agree-top p i =
-          let k = w .sound .topInReach p i in
-          noted (p .number)
-          ∙ within-elsewhere body offset ps (scopeIn table) (p .number) (none-own p k .ofPoints)
-          ∙ w .agree p k
+  abbrev State : List ℕ → List ℕ → ℕ → ℕ → ℕ → Groups → Type 0
+  State = Writing body place fill level path table₀ out₀ records₀ offset₀ g₀
 
-      -- So the groups in the instance have the same size and points.
-      pub lower-size : groupsSize (countOf (scopeIn table₁) fill) inside ≡ groupsSize counting inside
-      lower-size =
-          counts.sizes-agree (scopeIn table₁) (scopeIn table₀) (w .top) agree-top fill (ps ++ w .enclosing) (suc level) inside
-          (w .sound .sound .3)
+  -- A number around the instance is not one of its own.
+  none-own : (p : Point) → In p (w .enclosing) → NoneOf (p .number) ps inside behind
+  none-own p i = none-of-parts (p .number) h ps inside behind (w .sound .apart p i)
 
-      pub lower-points : groupsPoints (countOf (scopeIn table₁) fill) inside ≡ groupsPoints counting inside
-      lower-points =
-          counts.points-agree (scopeIn table₁) (scopeIn table₀) (w .top) agree-top fill (ps ++ w .enclosing) (suc level) inside
-          (w .sound .sound .3)
+  module _ (table₁ : List ℕ) (noted : (n : ℕ) → scopeIn table₁ n ≡ within body offset ps (scopeIn table) n) where
+    -- The table within the instance agrees with the scope there.
+    agree-within : Agree (ps ++ w .enclosing) (scopeIn table₁) (within body offset ps (scopeIn table₀))
+    agree-within p i =
+        noted (p .number) ∙ reach-agrees body offset ps (w .enclosing) (scopeIn table) (scopeIn table₀) (w .agree) p i
 
-  -- Writing P and then Q, and then the rest.
-  write-on : (records : ℕ) (ps qs rs : List ModelPoint) (out out₂ : List ℕ) (n m : ℕ) → length ps ≡ n → length qs ≡ m
-      → out₂ ≡ written place (records + n) qs (written place records ps out)
-      → written place (records + n + m) rs out₂ ≡ written place records ((ps ++ qs) ++ rs) out
-  write-on records ps qs rs out out₂ n m a b e =
-      let k : records + length (ps ++ qs) ≡ records + n + m = omega (arith, length-append ps qs) in
-      let f : written place records (ps ++ qs) out ≡ out₂ =
-      lists.written-append place records ps qs out ∙ ap (λ x. written place (records + x) qs (written place records ps out)) a ∙ sym e in
-      sym (lists.written-append place records (ps ++ qs) rs out
-      ∙ ap (λ x. written place x rs (written place records (ps ++ qs) out)) k
-      ∙ ap (written place (records + n + m) rs) f)
+    -- On the top group it agrees with the table at the start.
+    agree-top : Agree (w .top) (scopeIn table₁) (scopeIn table₀)
+    agree-top p i =
+        let k = w .sound .topInReach p i in
+        noted (p .number)
+        ∙ within-elsewhere body offset ps (scopeIn table) (p .number) (none-own p k .ofPoints)
+        ∙ w .agree p k
+
+    -- So the groups in the instance have the same size and points.
+    pub lower-size : groupsSize (countOf (scopeIn table₁) fill) inside ≡ groupsSize count inside
+    lower-size =
+        counts.sizes-agree (scopeIn table₁) (scopeIn table₀) (w .top) agree-top fill (ps ++ w .enclosing) (suc level) inside
+        (w .sound .sound .3)
+
+    pub lower-points : groupsPoints (countOf (scopeIn table₁) fill) inside ≡ groupsPoints count inside
+    lower-points =
+        counts.points-agree (scopeIn table₁) (scopeIn table₀) (w .top) agree-top fill (ps ++ w .enclosing) (suc level) inside
+        (w .sound .sound .3)
 
   -- An instance has been written.
-  pub writing-instance : (table out : List ℕ) (records offset j : ℕ) (h : Head) (ps : List Point) (inside behind : Groups)
-      → Writing table out records offset j (group h ps inside behind) → j < counting h
+  pub writing-instance : j < count h
       → (table₁ out₁ table₂ out₂ : List ℕ) (records₂ offset₂ : ℕ)
-      → Instance table out records offset j ps inside table₁ out₁ table₂ out₂ records₂ offset₂
-      → Writing table₂ out₂ records₂ offset₂ (j + 1) (group h ps inside behind)
-  writing-instance table out records offset j h ps inside behind w l table₁ out₁ table₂ out₂ records₂ offset₂ x =
+      → Instance body place fill level path table₀ out₀ records₀ offset₀ g₀ table out records offset j ps inside table₁ out₁
+      table₂ out₂ records₂ offset₂
+      → State table₂ out₂ records₂ offset₂ (j + 1) (group h ps inside behind)
+  writing-instance l table₁ out₁ table₂ out₂ records₂ offset₂ x =
       let G = group h ps inside behind in
       let s₀ = scopeIn table₀ in
       let path′ = set path (level - 2) j in
       let reach = ps ++ w .enclosing in
-      let inner = agree-within table out records offset j h ps inside behind w l table₁ (x .noted) in
-      let tops = agree-top table out records offset j h ps inside behind w l table₁ (x .noted) in
-      let zs = lower-size table out records offset j h ps inside behind w l table₁ (x .noted) in
-      let zp = lower-points table out records offset j h ps inside behind w l table₁ (x .noted) in
+      let inner = agree-within table₁ (x .noted) in
+      let tops = agree-top table₁ (x .noted) in
+      let zs = lower-size table₁ (x .noted) in
+      let zp = lower-points table₁ (x .noted) in
       let P = pointsAt body (within body offset ps s₀) path′ offset ps in
-      let Q = groupsAt body counting (suc level) (within body offset ps s₀) path′ (offset + pointsSize ps) inside in
-      let R = fromInstance body counting level s₀ path (j + 1) (offset + (pointsSize ps + groupsSize counting inside)) G in
+      let Q = groupsAt body count (suc level) (within body offset ps s₀) path′ (offset + pointsSize ps) inside in
+      let R = fromInstance body count level s₀ path (j + 1) (offset + (pointsSize ps + groupsSize count inside)) G in
       let p : pointsAt body (within body offset ps (scopeIn table)) path′ offset ps ≡ P =
       points-agree body path′ offset reach ps (within body offset ps (scopeIn table)) (within body offset ps s₀)
       (points-resolve reach ps (w .sound .sound .2)) (reach-agrees body offset ps (w .enclosing) (scopeIn table) s₀ (w .agree)) in
-      let q : groupsAt body (countOf (scopeIn table₁) fill) (suc level) (scopeIn table₁) path′ (offset + pointsSize ps) inside ≡ Q =
+      let q : groupsAt body (countOf (scopeIn table₁) fill) (suc level) (scopeIn table₁) path′ (offset + pointsSize ps) inside
+      ≡ Q =
       groups-agree body fill (w .top) (scopeIn table₁) s₀ tops path′ (offset + pointsSize ps) reach (suc level) inside
       (w .sound .sound .3) (scopeIn table₁) (within body offset ps s₀) inner in
       let e : out₂ ≡ written place (records + length ps) Q (written place records P out) =
       x .lower ∙ ap (λ y. written place (records + length ps) y out₁) q
       ∙ ap (written place (records + length ps) Q) (x .own ∙ ap (λ y. written place records y out) p) in
-      let k : records₂ ≡ records + length ps + groupsPoints counting inside = omega (arith, x .counted, zp) in
-      let o : offset₂ ≡ offset + (pointsSize ps + groupsSize counting inside) = omega (arith, x .passedOn, zs) in
-      let W = write-on records P Q R out out₂ (length ps) (groupsPoints counting inside)
+      let k₂ = records + length ps + groupsPoints count inside in
+      let k : records₂ ≡ k₂ = omega (arith, x .counted, zp) in
+      let o : offset₂ ≡ offset + (pointsSize ps + groupsSize count inside) = omega (arith, x .passedOn, zs) in
+      let W = write-on place records P Q R out out₂ (length ps) (groupsPoints count inside)
       (pointCounts.points-counted body (within body offset ps s₀) path′ offset ps)
-      (pointCounts.groups-counted body counting (suc level) (within body offset ps s₀) path′ (offset + pointsSize ps) inside) e in
+      (pointCounts.groups-counted body count (suc level) (within body offset ps s₀) path′ (offset + pointsSize ps) inside) e in
       record {
         top = w .top;
         enclosing = w .enclosing;
@@ -281,11 +307,13 @@ module _ (body : List ℕ) (place : Place) (fill level : ℕ) (path : List ℕ) 
             ∙ within-elsewhere body offset ps (scopeIn table) (p .number) (n .ofPoints)
             ∙ w .agree p i;
         passed = omega (arith, l);
-        left = subst (λ y. written place y (fromInstance body counting level s₀ path (j + 1) offset₂ G) out₂ ≡ written place records₀ (groupsAt body counting level s₀ path offset₀ g₀) out₀) (sym k)
-            (subst (λ y. written place (records + length ps + groupsPoints counting inside) (fromInstance body counting level s₀ path (j + 1) y G) out₂ ≡ written place records₀ (groupsAt body counting level s₀ path offset₀ g₀) out₀) (sym o)
-            (W ∙ ap (λ y. written place records y out) (sym (from-next body counting level s₀ path j offset h ps inside behind l)) ∙ w .left));
-        points = omega (arith, k, w .points, points-next counting j h ps inside behind l);
-        size = omega (arith, o, w .size, size-next counting j h ps inside behind l);
+        left = ap (λ y. written place y (fromInstance body count level s₀ path (j + 1) offset₂ G) out₂) k
+            ∙ ap (λ y. written place k₂ (fromInstance body count level s₀ path (j + 1) y G) out₂) o
+            ∙ W
+            ∙ ap (λ y. written place records y out) (sym (from-next body count level s₀ path j offset h ps inside behind l))
+            ∙ w .left;
+        points = omega (arith, k, w .points, points-next count j h ps inside behind l);
+        size = omega (arith, o, w .size, size-next count j h ps inside behind l);
         elsewhere = λ n f.
             let m = none-of-parts n h ps inside behind (w .among₀ n f) in
             x .elsewhere n (m .ofInside)
@@ -299,33 +327,21 @@ module _ (body : List ℕ) (place : Place) (fill level : ℕ) (path : List ℕ) 
       }
 
   -- All instances of the first group have been written: on to the group behind it.
-  pub writing-past : (table out : List ℕ) (records offset j : ℕ) (h : Head) (ps : List Point) (inside behind : Groups)
-      → Writing table out records offset j (group h ps inside behind) → counting h ≤ j
-      → Writing table out records offset 0 behind
-  writing-past table out records offset j h ps inside behind w l =
+  pub writing-past : count h ≤ j → State table out records offset 0 behind
+  writing-past l =
       record {
         top = w .top;
         enclosing = w .enclosing;
         sound = beside (w .top) (w .enclosing) level h ps inside behind (w .sound);
         agree = w .agree;
-        passed = nothing-passed behind;
-        left = ap (λ y. written place records y out) (sym (from-last body counting level (scopeIn table₀) path j offset h ps inside behind l)) ∙ w .left;
-        points = omega (arith, w .points, points-last counting j h ps inside behind l);
-        size = omega (arith, w .size, size-last counting j h ps inside behind l);
+        passed = none-passed count behind;
+        left = ap (λ y. written place records y out)
+            (sym (from-last body count level (scopeIn table₀) path j offset h ps inside behind l))
+            ∙ w .left;
+        points = omega (arith, w .points, points-last count j h ps inside behind l);
+        size = omega (arith, w .size, size-last count j h ps inside behind l);
         elsewhere = w .elsewhere;
         among₀ = λ n f. none-of-parts n h ps inside behind (w .among₀ n f) .ofBehind;
         isTable = w .isTable;
         sameLength = w .sameLength;
       }
-    where
-      nothing-passed : (g : Groups) → Passed 0 g
-      nothing-passed noGroup = tt
-      nothing-passed (group h ps inside behind) = omega arith
-
-  -- No group is left: the list is the one that is asked for.
-  pub writing-ends : (table out : List ℕ) (records offset j : ℕ) → Writing table out records offset j noGroup
-      → (out ≡ written place records₀ (groupsAt body counting level (scopeIn table₀) path offset₀ g₀) out₀)
-      × (records ≡ records₀ + groupsPoints counting g₀)
-      × (offset ≡ offset₀ + groupsSize counting g₀)
-  writing-ends table out records offset j w =
-      (sym (lists.written-none place records out) ∙ w .left, omega (arith, w .points), omega (arith, w .size))

@@ -1,4 +1,4 @@
--- Demand 3, models put in.
+-- Models inserted into a map (document 01, "The map", on models put in).
 --
 -- For every catalog, accepted or not, every map made of whole models, every list of well-formed unknown models for each of its
 -- gaps, and every length of the output list: where the lengthened map is within 65,536 registers, its answer is the answer for

@@ -1,37 +1,30 @@
 -- The steps of the walk that writes groups, at the frames where it stands: into an instance, past a group, to the end.
-use mathlib.Core.Path.{_≡_, refl, sym, ap, subst, _∙_}
-use mathlib.Core.Bool.{true}
-use mathlib.Core.List.{List, [], _∷_, _++_}
+use mathlib.Core.Path.{_≡_, sym, ap, subst, _∙_}
+use mathlib.Core.List.{List, [], _++_}
 use mathlib.Core.Option.{none, some}
-use Prim.Native.Nat.{ℕ, suc, _+_, _*_, _-_, _/_, _≤_, _<_}
+use Prim.Native.Nat.{ℕ, suc, _+_, _-_, _≤_, _<_}
 use native.Mathlib.Omega.{arith}
-use lib.ListN.{length, set, length-set}
-use Rattle.values.specs.Each.{Each}
+use lib.ListN.{length, getD, set, length-set}
 use Rattle.catalog.specs.Frames.{Point, Head}
-use Rattle.catalog.specs.Rules.{isSizeOf}
-use Rattle.catalog.specs.Definitions.{Groups, noGroup, group, pointsSize, groupFrames}
-use Rattle.catalog.specs.Soundness.{SoundPoint, numbersOf}
+use Rattle.catalog.specs.Definitions.{Groups, group, pointsSize, groupFrames}
+use Rattle.catalog.specs.Soundness.{numbersOf}
 use Rattle.listing.specs.Points.{Scope}
 use Rattle.listing.specs.Layout.{within, countOf, groupsSize, pointsAt, groupsAt}
 use Rattle.listing.specs.Counts.{groupsPoints}
-use Rattle.listing.specs.Listing.{recordWidth}
-use Rattle.listing.specs.Walks.{heldAt, Stands, pastEnd, headOf, frameIn, levelOf, scopeIn, Elsewhere, IsTable, AtGroups}
+use Rattle.listing.specs.Walks.{heldAt, Stands, pastEnd, headOf, frameIn, levelOf, scopeIn, noted, Elsewhere, IsTable}
 use Rattle.listing.specs.Answers.{written, RunAsks, GroupsAsk, BehindRun, BehindGroups}
 use Rattle.listing.specs.declared.records.Place.{Place}
 use Rattle.listing.specs.declared.records.Progress.{Progress}
 use Rattle.listing.proofs.Standing as standing
-use Rattle.listing.proofs.IntoGroups.{SoundBelow, below}
+use Rattle.listing.proofs.IntoGroups.{SoundBelow, below, sound-below, standing-at}
 use Rattle.listing.proofs.CountsAgree as counts
 use Rattle.listing.proofs.WrittenRecords as lists
 use Rattle.listing.proofs.GroupsWriting as writing
-use Rattle.listing.proofs.GroupsWriting.{Writing, Instance}
+use Rattle.listing.proofs.GroupsWriting.{Writing}
+use Rattle.listing.proofs.Sizes.{points-sized}
+use Rattle.listing.proofs.NotedPoints.{noted-length, noted-scope, numbers-in-table}
 
--- Sound points have a size of their type.
-pub sized : (reach ps : List Point) → Each (SoundPoint reach) ps → Each (λ p. isSizeOf (p .typeCode) (p .size) ≡ true) ps
-sized reach [] e = tt
-sized reach (p ∷ ps) e = (e .0 .sized, sized reach ps (e .1))
-
-module _ (ws body : List ℕ) (place : Place) (fill levels : ℕ) (path table₀ out₀ : List ℕ) (start : Progress)
+module _ {ws body : List ℕ} {place : Place} {fill levels : ℕ} {path table₀ out₀ : List ℕ} {start : Progress}
     (asks : GroupsAsk ws body table₀ out₀ place fill levels path start) where
   abbrev counting : Head → ℕ
   counting = countOf (scopeIn table₀) fill
@@ -39,32 +32,34 @@ module _ (ws body : List ℕ) (place : Place) (fill levels : ℕ) (path table₀
   abbrev g₀ : Groups
   g₀ = heldAt ws (start .frame) .groups
 
+  abbrev State : List ℕ → List ℕ → ℕ → ℕ → ℕ → Groups → Type 0
+  State = Writing body place fill (levelOf levels) path table₀ out₀ (start .records) (start .offset) g₀
+
   -- The walk stands at a frame, at instance j of the group there.
   abbrev At : List ℕ → List ℕ → ℕ → ℕ → ℕ → ℕ → Type 0
-  At table out records offset j frame =
-      Writing body place fill (levelOf levels) path table₀ out₀ (start .records) (start .offset) g₀ table out records offset j
-      (heldAt ws frame .groups)
+  At table out records offset j frame = State table out records offset j (heldAt ws frame .groups)
 
   -- It begins at the first group.
   pub begins : At table₀ out₀ (start .records) (start .offset) 0 (start .frame)
   begins =
       let s = asks .standing .sound in
-      writing.writing-begins body place fill (levelOf levels) path table₀ out₀ (start .records) (start .offset) g₀ (s .top) (s .enclosing)
-      (record { sound = s .sound; topInReach = s .topInReach; distinct = s .distinct; apart = s .apart }) (asks .isTable)
+      writing.writing-begins body place fill (levelOf levels) path table₀ out₀ (start .records) (start .offset) g₀ (s .top)
+      (s .enclosing)
+      (sound-below s) (asks .isTable)
 
-  module _ (table out : List ℕ) (records offset j frame : ℕ) (w : At table out records offset j frame) (s : Stands ws frame)
+  module _ {table out : List ℕ} {records offset j frame : ℕ} (w : At table out records offset j frame) (s : Stands ws frame)
       (n : heldAt ws frame .points ≡ []) where
     -- No group is there: all is written.
     pub ends : headOf (frameIn ws frame) ≡ none
-        → (out ≡ written place (start .records) (groupsAt body counting (levelOf levels) (scopeIn table₀) path (start .offset) g₀) out₀)
+        → (out
+        ≡ written place (start .records) (groupsAt body counting (levelOf levels) (scopeIn table₀) path (start .offset) g₀) out₀)
         × (records ≡ start .records + groupsPoints counting g₀)
         × (offset ≡ start .offset + groupsSize counting g₀)
     ends e =
-        writing.writing-ends body place fill (levelOf levels) path table₀ out₀ (start .records) (start .offset) g₀ table out records offset j
-        (subst (Writing body place fill (levelOf levels) path table₀ out₀ (start .records) (start .offset) g₀ table out records offset j)
+        writing.writing-ends (subst (State table out records offset j)
         (standing.no-group ws frame s n e) w)
 
-    module _ (h : Head) (e : headOf (frameIn ws frame) ≡ some h) where
+    module _ {h : Head} (e : headOf (frameIn ws frame) ≡ some h) where
       abbrev own : List Point
       own = heldAt ws (frame + 1) .points
 
@@ -74,31 +69,30 @@ module _ (ws body : List ℕ) (place : Place) (fill levels : ℕ) (path table₀
       abbrev behind : Groups
       behind = heldAt ws (pastEnd ws (frame + 1)) .groups
 
-      pub there : Writing body place fill (levelOf levels) path table₀ out₀ (start .records) (start .offset) g₀ table out records offset j
+      there : State table out records offset j
           (group h own inside behind)
       there =
-          subst (Writing body place fill (levelOf levels) path table₀ out₀ (start .records) (start .offset) g₀ table out records offset j)
+          subst (State table out records offset j)
           (standing.group-next ws frame s n h e .0) w
 
-      pub back : {table′ out′ : List ℕ} {records′ offset′ k : ℕ}
-          → Writing body place fill (levelOf levels) path table₀ out₀ (start .records) (start .offset) g₀ table′ out′ records′ offset′ k
+      back : {table′ out′ : List ℕ} {records′ offset′ k : ℕ}
+          → State table′ out′ records′ offset′ k
           (group h own inside behind)
           → At table′ out′ records′ offset′ k frame
       back {table′} {out′} {records′} {offset′} {k} v =
-          subst (Writing body place fill (levelOf levels) path table₀ out₀ (start .records) (start .offset) g₀ table′ out′ records′ offset′ k)
+          subst (State table′ out′ records′ offset′ k)
           (sym (standing.group-next ws frame s n h e .0)) v
 
       -- The table gives the group's count.
-      pub count-there : countOf (scopeIn table) fill h ≡ counting h
+      count-there : countOf (scopeIn table) fill h ≡ counting h
       count-there =
-          counts.count-agrees (scopeIn table) (scopeIn table₀) (there .top) (λ p i. there .agree p (there .sound .topInReach p i)) fill
-          (levelOf levels) h behind (there .sound .sound .0)
+          counts.count-agrees (scopeIn table) (scopeIn table₀) (there .top) (λ p i. there .agree p (there .sound .topInReach p i))
+          fill (levelOf levels) h behind (there .sound .sound .0)
 
       -- Past the group.
       pub passes : countOf (scopeIn table) fill h ≤ j → At table out records offset 0 (pastEnd ws (frame + 1))
       passes l =
-          writing.writing-past body place fill (levelOf levels) path table₀ out₀ (start .records) (start .offset) g₀ table out records offset j
-          h own inside behind there (omega (arith, count-there, l))
+          writing.writing-past there (omega (arith, count-there, l))
 
       pub stands-past : Stands ws (pastEnd ws (frame + 1)) × (heldAt ws (pastEnd ws (frame + 1)) .points ≡ [])
       stands-past = let r = standing.group-next ws frame s n h e in (r .2, r .3)
@@ -124,91 +118,110 @@ module _ (ws body : List ℕ) (place : Place) (fill levels : ℕ) (path table₀
               few = asks .standing .few;
               short = asks .short;
               address = asks .address;
-              sized = sized (own ++ there .enclosing) own (there .sound .sound .2);
+              sized = points-sized (own ++ there .enclosing) own (there .sound .sound .2);
               inside = omega (arith, z, there .size, asks .inside);
               room = omega (arith, p, there .points, there .sameLength, asks .room);
             }
 
-        module _ (table₁ out₁ : List ℕ) (noted : (k : ℕ) → scopeIn table₁ k ≡ within body offset own (scopeIn table) k)
-            (isTable : IsTable table₁) (at₁ : Progress)
+        module _ (words : (k : ℕ) → getD ws k 0 < 65536) {table₁ out₁ path₁ : List ℕ} {at₁ : Progress}
+            (noting : table₁ ≡ noted body offset own table) (way : path₁ ≡ set path (levelOf levels - 2) j)
             (run : BehindRun (record { records = records; offset = offset; frame = frame + 1 }) own at₁)
             (wrote : out₁
-            ≡ written place records (pointsAt body (within body offset own (scopeIn table)) (set path (levelOf levels - 2) j) offset own) out) where
+            ≡ written place records (pointsAt body (within body offset own (scopeIn table)) path₁ offset own) out) where
+          -- The table holds the scope within the instance.
+          in-table : (k : ℕ) → scopeIn table₁ k ≡ within body offset own (scopeIn table) k
+          in-table k =
+              let numbers = numbers-in-table ws words (frame + 1) (standing.group-next ws frame s n h e .1) in
+              ap (λ t. scopeIn t k) noting ∙ ap (λ (r : Scope). r k) (noted-scope body offset own table (w .isTable) numbers)
+
+          still-table : IsTable table₁
+          still-table = ap length noting ∙ noted-length body offset own table ∙ w .isTable
+
           lower-size : groupsSize (countOf (scopeIn table₁) fill) inside ≡ groupsSize counting inside
           lower-size =
-              writing.lower-size body place fill (levelOf levels) path table₀ out₀ (start .records) (start .offset) g₀ table out records offset j
-              h own inside behind there counted table₁ noted
+              writing.lower-size there table₁ in-table
 
           lower-points : groupsPoints (countOf (scopeIn table₁) fill) inside ≡ groupsPoints counting inside
           lower-points =
-              writing.lower-points body place fill (levelOf levels) path table₀ out₀ (start .records) (start .offset) g₀ table out records offset
-              j h own inside behind there counted table₁ noted
+              writing.lower-points there table₁ in-table
 
           -- The groups in the instance, where the walk over them begins.
           pub lower-here : heldAt ws (at₁ .frame) .groups ≡ inside
           lower-here =
-              ap (λ k. heldAt ws k .groups) (run .frame) ∙ standing.behind-run ws (frame + 1) (standing.group-next ws frame s n h e .1) .1
+              ap (λ k. heldAt ws k .groups) (run .frame)
+              ∙ standing.behind-run ws (frame + 1) (standing.group-next ws frame s n h e .1) .1
 
           -- What writing the groups in the instance asks for.
-          pub lower-asks : GroupsAsk ws body table₁ out₁ place fill (levels - 1) (set path (levelOf levels - 2) j) at₁
+          pub lower-asks : GroupsAsk ws body table₁ out₁ place fill (levels - 1) path₁ at₁
           lower-asks =
               let r = standing.behind-run ws (frame + 1) (standing.group-next ws frame s n h e .1) in
               let b = below (there .top) (there .enclosing) (levelOf levels) h own inside behind (there .sound) in
               let c = subst (λ k. SoundBelow (there .top) (own ++ there .enclosing) k inside) deeper b in
-              let d = subst (λ g. SoundBelow (there .top) (own ++ there .enclosing) (levelOf (levels - 1)) g) (sym lower-here) c in
               let z = writing.size-next counting j h own inside behind counted in
               let p = writing.points-next counting j h own inside behind counted in
               let o = lists.written-length place records
-              (pointsAt body (within body offset own (scopeIn table)) (set path (levelOf levels - 2) j) offset own) out in
+              (pointsAt body (within body offset own (scopeIn table)) path₁ offset own) out in
               record {
-                standing = record {
-                  stands = subst (Stands ws) (sym (run .frame)) (r .2);
-                  noPoint = ap (λ k. heldAt ws k .points) (run .frame) ∙ r .0;
-                  sound = record {
-                    top = there .top;
-                    enclosing = own ++ there .enclosing;
-                    sound = d .sound;
-                    topInReach = d .topInReach;
-                    distinct = d .distinct;
-                    apart = d .apart;
-                  };
-                  few = asks .standing .few;
-                };
-                isTable = isTable;
-                threeLevels = length-set path (levelOf levels - 2) j ∙ asks .threeLevels;
+                standing = standing-at (subst (Stands ws) (sym (run .frame)) (r .2))
+                    (ap (λ k. heldAt ws k .points) (run .frame) ∙ r .0) lower-here c (asks .standing .few);
+                isTable = still-table;
+                threeLevels = ap length way ∙ length-set path (levelOf levels - 2) j ∙ asks .threeLevels;
                 atMost3 = omega (arith, asks .atMost3);
                 filling = asks .filling;
                 short = asks .short;
                 address = asks .address;
-                inside = omega (arith, ap (groupsSize (countOf (scopeIn table₁) fill)) lower-here, lower-size, z, there .size, asks .inside, run .offset);
-                room = omega (arith, ap (groupsPoints (countOf (scopeIn table₁) fill)) lower-here, lower-points, p, there .points, there .sameLength, asks .room, run .records, ap length wrote, o);
+                inside = omega (
+                  arith,
+                  ap (groupsSize (countOf (scopeIn table₁) fill)) lower-here,
+                  lower-size,
+                  z,
+                  there .size,
+                  asks .inside,
+                  run .offset,
+                );
+                room = omega (
+                  arith,
+                  ap (groupsPoints (countOf (scopeIn table₁) fill)) lower-here,
+                  lower-points,
+                  p,
+                  there .points,
+                  there .sameLength,
+                  asks .room,
+                  run .records,
+                  ap length wrote,
+                  o,
+                );
               }
 
           -- An instance further.
-          pub further : (table₂ out₂ : List ℕ) (at₂ : Progress)
+          pub further : {table₂ out₂ : List ℕ} {at₂ : Progress}
               → BehindGroups (heldAt ws (at₁ .frame) .groups) (countOf (scopeIn table₁) fill) at₁ at₂
               → out₂
               ≡ written place (at₁ .records)
-              (groupsAt body (countOf (scopeIn table₁) fill) (levelOf (levels - 1)) (scopeIn table₁) (set path (levelOf levels - 2) j) (at₁ .offset)
+              (groupsAt body (countOf (scopeIn table₁) fill) (levelOf (levels - 1)) (scopeIn table₁) path₁ (at₁ .offset)
               (heldAt ws (at₁ .frame) .groups))
               out₁
               → Elsewhere (numbersOf (groupFrames (heldAt ws (at₁ .frame) .groups))) table₁ table₂
               → IsTable table₂
               → At table₂ out₂ (at₂ .records) (at₂ .offset) (j + 1) frame
-          further table₂ out₂ at₂ b o x t =
+          further {table₂} {out₂} {at₂} b o x t =
               let P : Groups → Type 0 = λ g. Elsewhere (numbersOf (groupFrames g)) table₁ table₂ in
-              let W : ℕ → ℕ → ℕ → Groups → List ℕ = λ r k a g.
-              written place r (groupsAt body (countOf (scopeIn table₁) fill) k (scopeIn table₁) (set path (levelOf levels - 2) j) a g) out₁ in
-              back (writing.writing-instance body place fill (levelOf levels) path table₀ out₀ (start .records) (start .offset) g₀ table out
-              records offset j h own inside behind there counted table₁ out₁ table₂ out₂ (at₂ .records) (at₂ .offset)
+              let W : ℕ → ℕ → List ℕ → ℕ → Groups → List ℕ = λ r k p a g.
+              written place r (groupsAt body (countOf (scopeIn table₁) fill) k (scopeIn table₁) p a g) out₁ in
+              let path₂ = set path (levelOf levels - 2) j in
+              let g₁ = heldAt ws (at₁ .frame) .groups in
+              back (writing.writing-instance there counted table₁ out₁ table₂ out₂ (at₂ .records) (at₂ .offset)
               (record {
-                noted = noted;
-                own = wrote;
+                noted = in-table;
+                own = wrote
+                    ∙ ap (λ p. written place records (pointsAt body (within body offset own (scopeIn table)) p offset own) out)
+                    way;
                 lower = o
-                    ∙ ap (λ r. W r (levelOf (levels - 1)) (at₁ .offset) (heldAt ws (at₁ .frame) .groups)) (run .records)
-                    ∙ ap (λ k. W (records + length own) k (at₁ .offset) (heldAt ws (at₁ .frame) .groups)) (sym deeper)
-                    ∙ ap (λ a. W (records + length own) (suc (levelOf levels)) a (heldAt ws (at₁ .frame) .groups)) (run .offset)
-                    ∙ ap (W (records + length own) (suc (levelOf levels)) (offset + pointsSize own)) lower-here;
+                    ∙ ap (λ r. W r (levelOf (levels - 1)) path₁ (at₁ .offset) g₁) (run .records)
+                    ∙ ap (λ k. W (records + length own) k path₁ (at₁ .offset) g₁) (sym deeper)
+                    ∙ ap (λ p. W (records + length own) (suc (levelOf levels)) p (at₁ .offset) g₁) way
+                    ∙ ap (λ a. W (records + length own) (suc (levelOf levels)) path₂ a g₁) (run .offset)
+                    ∙ ap (W (records + length own) (suc (levelOf levels)) path₂ (offset + pointsSize own)) lower-here;
                 counted = omega (arith, b .records, run .records, ap (groupsPoints (countOf (scopeIn table₁) fill)) lower-here);
                 passedOn = omega (arith, b .offset, run .offset, ap (groupsSize (countOf (scopeIn table₁) fill)) lower-here);
                 elsewhere = subst P lower-here x;

@@ -1,6 +1,6 @@
 -- A walk over groups goes into a group or past it: the groups there are sound too, at their level.
 use mathlib.Core.Path.{_≡_, refl, sym, ap, subst, _∙_}
-use mathlib.Core.Bool.{true, false}
+use mathlib.Core.Bool.{false}
 use mathlib.Core.List.{List, [], _∷_, _++_}
 use mathlib.Core.Option.{some}
 use Prim.Native.Nat.{ℕ, suc, _+_, _-_, _/_, _≤_}
@@ -9,26 +9,12 @@ use lib.ListN.{length}
 use Rattle.catalog.specs.Frames.{Point, Head, endFrame}
 use Rattle.catalog.specs.Rules.{among}
 use Rattle.catalog.specs.Definitions.{Groups, group, Definition, pointFrames, groupFrames, definitionFrames, definitions}
-use Rattle.catalog.specs.Soundness.{Distinct, numbersOf, In, first, later, SoundHead, SoundGroups, SoundDefinition}
-use Rattle.catalog.proofs.TestLaws.{clash}
+use Rattle.catalog.specs.Soundness.{Distinct, numbersOf, In, SoundGroups, SoundDefinition}
 use Rattle.listing.specs.Walks.{heldAt, Stands, pastEnd, Accepted, headOf, frameIn, topOf, levelOf, SoundAt, AtGroups}
 use Rattle.listing.proofs.GroupNumbers.{point-among, numbers-append, distinct-parts, among-neither, apart, none-of-parts}
 use Rattle.listing.proofs.Standing as standing
 use Rattle.listing.proofs.AcceptedModels as models
-
--- A point of a list is one of a longer list.
-pub in-front : (p : Point) (ps qs : List Point) → In p ps → In p (ps ++ qs)
-in-front p (q ∷ ps) qs first = first
-in-front p (q ∷ ps) qs (later i) = later (in-front p ps qs i)
-
-pub in-behind : (p : Point) (ps qs : List Point) → In p qs → In p (ps ++ qs)
-in-behind p [] qs i = i
-in-behind p (q ∷ ps) qs i = later (in-behind p ps qs i)
-
-pub in-either : (p : Point) (ps qs : List Point) {A : Type 0} → In p (ps ++ qs) → (In p ps → A) → (In p qs → A) → A
-in-either p [] qs i f g = g i
-in-either p (q ∷ ps) qs first f g = f first
-in-either p (q ∷ ps) qs (later i) f g = in-either p ps qs i (λ j. f (later j)) g
+use Rattle.listing.proofs.InLaws.{in-behind, in-either}
 
 -- Sound groups at a level, apart from the points around them.
 pub record SoundBelow (top enclosing : List Point) (level : ℕ) (g : Groups) : Type 0 where
@@ -63,7 +49,32 @@ module _ (top enclosing : List Point) (level : ℕ) (h : Head) (ps : List Point)
         apart = λ p i. none-of-parts (p .number) h ps inside behind (s .apart p i) .ofBehind;
       }
 
-module _ (ws : List ℕ) (i levels : ℕ) (at : AtGroups ws i levels) (few : levels ≤ 3) (h : Head) (e : headOf (frameIn ws i) ≡ some h) where
+-- What is known where a walk stands at groups, as of these groups,
+pub sound-below : {ws : List ℕ} {i levels : ℕ} (s : SoundAt ws i levels)
+    → SoundBelow (s .top) (s .enclosing) (levelOf levels) (heldAt ws i .groups)
+sound-below s = record { sound = s .sound; topInReach = s .topInReach; distinct = s .distinct; apart = s .apart }
+
+-- and back.
+pub standing-at : {ws : List ℕ} {i levels : ℕ} {top enclosing : List Point} {g : Groups} → Stands ws i → heldAt ws i .points ≡ []
+    → heldAt ws i .groups ≡ g → SoundBelow top enclosing (levelOf levels) g → length ws / 8 ≤ 4096 → AtGroups ws i levels
+standing-at {levels = levels} {top = top} {enclosing = enclosing} s n q b few =
+    let c = subst (λ x. SoundBelow top enclosing (levelOf levels) x) (sym q) b in
+    record {
+      stands = s;
+      noPoint = n;
+      sound = record {
+        top = top;
+        enclosing = enclosing;
+        sound = c .sound;
+        topInReach = c .topInReach;
+        distinct = c .distinct;
+        apart = c .apart;
+      };
+      few = few;
+    }
+
+module _ (ws : List ℕ) (i levels : ℕ) (at : AtGroups ws i levels) (few : levels ≤ 3) (h : Head)
+    (e : headOf (frameIn ws i) ≡ some h) where
   -- What stands here, as groups.
   abbrev own : List Point
   own = heldAt ws (i + 1) .points
@@ -74,36 +85,17 @@ module _ (ws : List ℕ) (i levels : ℕ) (at : AtGroups ws i levels) (few : lev
   abbrev behind : Groups
   behind = heldAt ws (pastEnd ws (i + 1)) .groups
 
-  pub here : heldAt ws i .groups ≡ group h own inside behind
+  here : heldAt ws i .groups ≡ group h own inside behind
   here = standing.group-next ws i (at .stands) (at .noPoint) h e .0
 
   pub sound-here : SoundBelow (at .sound .top) (at .sound .enclosing) (levelOf levels) (group h own inside behind)
   sound-here =
       subst (λ g. SoundBelow (at .sound .top) (at .sound .enclosing) (levelOf levels) g) here
-      (record { sound = at .sound .sound; topInReach = at .sound .topInReach; distinct = at .sound .distinct; apart = at .sound .apart })
+      (sound-below (at .sound))
 
   -- There is a level left.
   pub level-left : 1 ≤ levels
   level-left = let l = sound-here .sound .0 .levelInRange in omega arith
-
-  -- Where sound groups stand.
-  standing-at : (j deeper : ℕ) (top enclosing : List Point) (g : Groups) → Stands ws j → heldAt ws j .points ≡ []
-      → heldAt ws j .groups ≡ g → SoundBelow top enclosing (levelOf deeper) g → AtGroups ws j deeper
-  standing-at j deeper top enclosing g s n q b =
-      let c = subst (λ x. SoundBelow top enclosing (levelOf deeper) x) (sym q) b in
-      record {
-        stands = s;
-        noPoint = n;
-        sound = record {
-          top = top;
-          enclosing = enclosing;
-          sound = c .sound;
-          topInReach = c .topInReach;
-          distinct = c .distinct;
-          apart = c .apart;
-        };
-        few = at .few;
-      }
 
   -- Into the group.
   pub into : AtGroups ws (i + 1 + length own) (levels - 1)
@@ -112,24 +104,25 @@ module _ (ws : List ℕ) (i levels : ℕ) (at : AtGroups ws i levels) (few : lev
       let r = standing.behind-run ws (i + 1) (n .1) in
       let l : suc (levelOf levels) ≡ levelOf (levels - 1) = let z = level-left in omega arith in
       let b = below (at .sound .top) (at .sound .enclosing) (levelOf levels) h own inside behind sound-here in
-      standing-at (i + 1 + length own) (levels - 1) (at .sound .top) (own ++ at .sound .enclosing) inside (r .2) (r .0) (r .1)
-      (subst (λ k. SoundBelow (at .sound .top) (own ++ at .sound .enclosing) k inside) l b)
+      standing-at (r .2) (r .0) (r .1) (subst (λ k. SoundBelow (at .sound .top) (own ++ at .sound .enclosing) k inside) l b)
+      (at .few)
 
   -- Past it.
   pub past : AtGroups ws (pastEnd ws (i + 1)) levels
   past =
       let n = standing.group-next ws i (at .stands) (at .noPoint) h e in
       let b = beside (at .sound .top) (at .sound .enclosing) (levelOf levels) h own inside behind sound-here in
-      standing-at (pastEnd ws (i + 1)) levels (at .sound .top) (at .sound .enclosing) behind (n .2) (n .3) refl b
+      standing-at (n .2) (n .3) refl b (at .few)
 
 -- A walk that stands at groups, one step into or past a group.
 pub into-group : (ws : List ℕ) (i levels : ℕ) → AtGroups ws i levels → levels ≤ 3 → (h : Head) → headOf (frameIn ws i) ≡ some h
-    → (1 ≤ levels) × AtGroups ws (i + 1 + length (heldAt ws (i + 1) .points)) (levels - 1) × AtGroups ws (pastEnd ws (i + 1)) levels
+    → (1 ≤ levels) × AtGroups ws (i + 1 + length (heldAt ws (i + 1) .points)) (levels - 1)
+    × AtGroups ws (pastEnd ws (i + 1)) levels
 into-group ws i levels at few h e =
     (level-left ws i levels at few h e, into ws i levels at few h e, past ws i levels at few h e)
 
 -- The groups of a sound definition, below its top points.
-pub definition-below : (d : Definition) → SoundDefinition d → SoundBelow (d .top .points) (d .top .points) 2 (d .top .groups)
+definition-below : (d : Definition) → SoundDefinition d → SoundBelow (d .top .points) (d .top .points) 2 (d .top .groups)
 definition-below d s =
     let A = numbersOf (pointFrames (d .top .points)) in
     let I = numbersOf (groupFrames (d .top .groups)) in
@@ -156,19 +149,4 @@ top-below ws id i a e =
 pub top-groups : (ws : List ℕ) (id i : ℕ) → Accepted ws → Stands ws i → topOf id (definitions ws) ≡ some (heldAt ws i)
     → AtGroups ws (i + length (heldAt ws i .points)) 3
 top-groups ws id i a s e =
-    let r = standing.behind-run ws i s in
-    let b = top-below ws id i a e in
-    let c = subst (λ g. SoundBelow (heldAt ws i .points) (heldAt ws i .points) 2 g) (sym (r .1)) b in
-    record {
-      stands = r .2;
-      noPoint = r .0;
-      sound = record {
-        top = heldAt ws i .points;
-        enclosing = heldAt ws i .points;
-        sound = c .sound;
-        topInReach = c .topInReach;
-        distinct = c .distinct;
-        apart = c .apart;
-      };
-      few = models.accepted-few ws a;
-    }
+    let r = standing.behind-run ws i s in standing-at (r .2) (r .0) (r .1) (top-below ws id i a e) (models.accepted-few ws a)

@@ -1,7 +1,7 @@
 -- Every record listed has the id of a definition.
 use mathlib.Core.Path.{_≡_, refl, subst}
 use mathlib.Core.Bool.{Bool, true, false}
-use mathlib.Core.List.{List, [], _∷_, _++_, map}
+use mathlib.Core.List.{List, [], _∷_, map}
 use Prim.Native.Nat.{ℕ, _+_}
 use native.Mathlib.Omega.{arith}
 use Rattle.values.specs.Each.{Each}
@@ -12,6 +12,7 @@ use Rattle.register_map.specs.Scan.{Model, sizeOf, Ending, marked, broken, scan
 use Rattle.listing.specs.Points.{ModelPoint}
 use Rattle.listing.specs.Reading.{Reading, unknown, faulty, points, reading}
 use Rattle.listing.specs.Listing.{Record, recordOf, Answer, refused, listed, inFront, walk, listing}
+use Rattle.listing.proofs.EachLaws.{each-append}
 use Rattle.listing.proofs.WalkSteps.{walk-unknown, walk-faulty, walk-points}
 use Rattle.listing.proofs.ReadingLeft.{unknown-left}
 use Rattle.listing.proofs.WalksBehind.{listed-walks}
@@ -26,13 +27,9 @@ module _ (ds : List Definition) where
   KnownIn (refused n place headers) = Unit {0}
   KnownIn (listed rs headers) = Each Known rs
 
-  known-both : (rs ss : List Record) → Each Known rs → Each Known ss → Each Known (rs ++ ss)
-  known-both [] ss k l = l
-  known-both (r ∷ rs) ss k l = (k .0, known-both rs ss (k .1) l)
-
   known-in-front : (rs : List Record) (answer : Answer) → Each Known rs → KnownIn answer → KnownIn (inFront rs answer)
   known-in-front rs (refused n place headers) k l = tt
-  known-in-front rs (listed ss headers) k l = known-both rs ss k l
+  known-in-front rs (listed ss headers) k l = each-append Known rs ss k l
 
   -- A model of which points are read has the id of a definition.
   known-model : (m : Model) {ps : List ModelPoint} → reading ds m ≡ points ps → (b : Bool) → among (m .id) (idsOf ds) ≡ b

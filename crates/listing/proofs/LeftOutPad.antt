@@ -1,12 +1,12 @@
--- A pad that is left out: the points that begin before the end of the body are all but it.
+-- A pad that is left out: what is known of the points without it, and which models leave it out.
 use mathlib.Core.Path.{_≡_, refl, sym, ap, _∙_}
 use mathlib.Core.Bool.{true, false, _&&_, and-false}
 use mathlib.Core.List.{List, [], _∷_}
 use mathlib.Core.Option.{none, some}
-use Prim.Native.Nat.{ℕ, suc, _+_, _-_, _≤_, _<_}
+use Prim.Native.Nat.{ℕ, _+_, _≤_, _<_}
 use native.Mathlib.Omega.{arith}
 use borrow.Author.Tests.{lt-ltb, le-ltb, eq-eqb, ne-eqb, eqb-true, leb-true}
-use lib.Dec.{eqb, leb, ltb}
+use lib.Dec.{eqb, leb}
 use lib.ListN.{length}
 use Rattle.values.specs.Each.{Each}
 use Rattle.values.specs.Rows.{rows, rowAmong, registersOf}
@@ -22,7 +22,7 @@ use Rattle.listing.specs.Walks.{heldAt, Stands, headOf, frameIn, begun}
 use Rattle.listing.proofs.Standing as standing
 
 -- A pad is one register.
-pub pad-size : (size : ℕ) → isSizeOf pad size ≡ true → size ≡ 1
+pad-size : (size : ℕ) → isSizeOf pad size ≡ true → size ≡ 1
 unfolding isSizeOf registersOf rowAmong rows
 pad-size size e =
     let s = both (leb 1 size) (leb size 1) e in
@@ -36,6 +36,24 @@ unfolding endsWithPad allButLast
 but-one [] e = clash (sym e)
 but-one (p ∷ []) e = refl
 but-one (p ∷ q ∷ ps) e = let r = but-one (q ∷ ps) e in omega arith
+
+-- Without a pad at their end, points take one register less.
+pub without-pad : (reach ps : List Point) → Each (SoundPoint reach) ps → endsWithPad ps ≡ true
+    → pointsSize (allButLast ps) + 1 ≡ pointsSize ps
+unfolding endsWithPad allButLast
+without-pad reach [] e t = clash (sym t)
+without-pad reach (p ∷ []) e t =
+    let code = eqb-true (p .typeCode) pad t in
+    let one = pad-size (p .size) (rw code at (e .0 .sized)) in
+    omega arith
+without-pad reach (p ∷ q ∷ ps) e t = let r = without-pad reach (q ∷ ps) (e .1) t in omega (arith, r)
+
+-- What holds of each holds of all but the last.
+pub each-but-last : (P : Point → Type 0) (ps : List Point) → Each P ps → Each P (allButLast ps)
+unfolding allButLast
+each-but-last P [] e = tt
+each-but-last P (p ∷ []) e = tt
+each-but-last P (p ∷ q ∷ ps) e = (e .0, each-but-last P (q ∷ ps) (e .1))
 
 -- Where the length is one short of points that end with a pad, all but the pad begin before the end.
 begun-but-last : (reach : List Point) (len offset : ℕ) (ps : List Point) → Each (SoundPoint reach) ps → endsWithPad ps ≡ true

@@ -13,11 +13,12 @@ use Rattle.register_map.proofs.HeaderCases.{model-ends}
 use Rattle.listing.specs.Points.{ModelPoint}
 use Rattle.listing.specs.Reading.{Reading, unknown, faulty, points}
 use Rattle.listing.specs.Listing as Listing
-use Rattle.listing.specs.Listing.{Record, recordWidth, recordOf, Answer, listed, inFront, walked, entries, stored}
+use Rattle.listing.specs.Listing.{Record, recordWidth, recordOf, Answer, listed, walked, entries, stored}
 use Rattle.listing.specs.Walks.{pointsOf}
 use Rattle.listing.specs.Answers.{written, WalkFits}
 use Rattle.listing.specs.declared.records.Place.{Place}
 use Rattle.listing.proofs.WrittenRecords.{sets-append, entries-length, entries-append, written-none}
+use Rattle.listing.proofs.WalkSteps.{not-listed, in-front-listed}
 use Rattle.listing.proofs.MapSteps.{walkAt, modelAt, walk-starts, walk-at-end, walk-at-refused, walk-at-late, walk-at-unknown, walk-at-faulty, walk-at-points}
 
 -- Of no points nothing is written.
@@ -26,20 +27,9 @@ pub nothing-written : (place : Place) (k : ℕ) (ps : List ModelPoint) (out : Li
 nothing-written place k ps out e =
     (omega (arith, ap length e), sym (ap (λ qs. written place k qs out) e ∙ written-none place k out))
 
--- No answer is both refused and listed.
-not-both : {A : Type 0} {rs : List Record} {number place headers models : ℕ}
-    → Listing.refused number place models ≡ listed rs headers → A
-not-both e = let z : _≡_ {A = ℕ} 0 1 = cc in absurd (omega arith)
-
--- What stands behind records in front.
-in-front-listed : (rs left : List Record) (headers : ℕ) (a : Answer) → inFront rs a ≡ listed left headers
-    → (ss : List Record) × (a ≡ listed ss headers) × (left ≡ rs ++ ss)
-in-front-listed rs left headers (Listing.refused number place models) e = not-both e
-in-front-listed rs left headers (listed ss models) e = (ss, ap (λ n. listed ss n) cc, cc)
-
 -- The walk stands at a header with so many records written: what is left has room, and writing it gives the list behind the
 -- whole.
-pub record Writing (read : Model → Reading) (map before out : List ℕ) (at index records : ℕ) : Type 0 where
+pub record WritingMap (read : Model → Reading) (map before out : List ℕ) (at index records : ℕ) : Type 0 where
   pub left : List Record
   pub headers : ℕ
   pub rest : walkAt read map index at ≡ listed left headers
@@ -52,7 +42,7 @@ pub record Writing (read : Model → Reading) (map before out : List ℕ) (at in
 
 -- Records that have room, written from the beginning, are those in front of the rest of the list.
 starts : (read : Model → Reading) (map out : List ℕ) (a : Answer) → walkAt read map 0 2 ≡ a → a ≡ walked read map
-    → WalkFits a out → Writing read map out out 2 0 0
+    → WalkFits a out → WritingMap read map out out 2 0 0
 unfolding stored
 starts read map out (Listing.refused number place headers) e all f = absurd f
 starts read map out (listed rs headers) e all f =
@@ -72,11 +62,11 @@ starts read map out (listed rs headers) e all f =
     }
 
 pub writing-starts : (read : Model → Reading) (map out : List ℕ) → WalkFits (walked read map) out
-    → Writing read map out out 2 0 0
+    → WritingMap read map out out 2 0 0
 writing-starts read map out = starts read map out (walked read map) (walk-starts read map) refl
 
 module _ {read : Model → Reading} {map before out : List ℕ} {at index records : ℕ}
-    (here : Writing read map before out at index records) where
+    (here : WritingMap read map before out at index records) where
   -- At the end marker all is written.
   pub writing-ends : at < length map → headerAt (eqb at 2) (drop at map) ≡ endMarker → out ≡ stored (walked read map) before
   unfolding entries
@@ -88,18 +78,18 @@ module _ {read : Model → Reading} {map before out : List ℕ} {at index record
 
   -- No header is refused.
   pub writing-refused : {A : Type 0} {number : ℕ} → at < length map → headerAt (eqb at 2) (drop at map) ≡ refused number → A
-  writing-refused inside h = not-both (sym (walk-at-refused read map index at inside h) ∙ here .rest)
+  writing-refused inside h = not-listed (sym (walk-at-refused read map index at inside h) ∙ here .rest)
 
   -- The registers do not end.
   pub writing-late : {A : Type 0} → length map ≤ at → A
-  writing-late past = not-both (sym (walk-at-late read map index at past) ∙ here .rest)
+  writing-late past = not-listed (sym (walk-at-late read map index at past) ∙ here .rest)
 
   module _ (short : length map ≤ 65536) {id len : ℕ} (h : headerAt (eqb at 2) (drop at map) ≡ model id len) where
     -- The records of a model by its reading have room, and behind them the walk goes on.
     abbrev pub GoesOn : Reading → Type 0
     GoesOn r =
         (recordWidth * (records + length (pointsOf r)) ≤ length out)
-        × Writing
+        × WritingMap
         read
         map
         before
@@ -114,7 +104,7 @@ module _ {read : Model → Reading} {map before out : List ℕ} {at index record
         let none : records ≡ records + 0 = omega arith in
         let ends = model-ends (eqb at 2) map at h in (
           omega (arith, here .room),
-          subst (λ k. Writing read map before out (at + (2 + len)) (index + 1) k) none
+          subst (λ k. WritingMap read map before out (at + (2 + len)) (index + 1) k) none
               (record {
                 left = here .left;
                 headers = here .headers;
@@ -127,13 +117,13 @@ module _ {read : Model → Reading} {map before out : List ℕ} {at index record
                 fewModels = omega (arith, here .fewModels);
               }),
         )
-    by-reading (faulty fault) e = not-both (sym (walk-at-faulty read map index at id len (here .low) h e) ∙ here .rest)
+    by-reading (faulty fault) e = not-listed (sym (walk-at-faulty read map index at id len (here .low) h e) ∙ here .rest)
     by-reading (points ps) e =
         let f = recordOf index at (modelAt map at id len) in
         let rs = Lists.map f ps in
         let i = recordWidth * records in
         let next = walkAt read map (index + 1) (at + (2 + len)) in
-        let behind = in-front-listed rs (here .left) (here .headers) next
+        let behind = in-front-listed rs next (here .left) (here .headers)
         (sym (walk-at-points read map index at id len (here .low) h e) ∙ here .rest) in
         let ss = behind .0 in
         let n : recordWidth * (records + length ps) ≡ i + length (entries rs) =

@@ -10,10 +10,11 @@ use lib.ListN.{length}
 use Rattle.values.specs.Each.{Each}
 use Rattle.register_map.specs.Scan.{Model, sizeOf, totalSize, Ending, marked, broken}
 use Rattle.listing.specs.Points.{ModelPoint}
-use Rattle.listing.specs.Reading.{Reading, unknown, faulty, points, faultNumber}
-use Rattle.listing.specs.Listing.{Record, recordOf, Answer, refused, listed, inFront, walk}
+use Rattle.listing.specs.Reading.{Reading, unknown, faulty, points}
+use Rattle.listing.specs.Listing.{Record, recordOf, listed, walk}
 use Rattle.listing.specs.Tiling.{recordsWith}
 use Rattle.listing.proofs.EachLaws.{each-append}
+use Rattle.listing.proofs.WalkSteps.{not-listed, in-front-listed, walk-unknown, walk-faulty, walk-points}
 
 -- ---- Records with an index
 
@@ -66,33 +67,16 @@ module _ (read : Model → Reading) (ending : Ending) where
       × (walk read ending (i + 1) (at + sizeOf m) ms ≡ listed ss headers)
       × (rs ≡ map (recordOf i at m) ps ++ ss)
 
-  -- Records in front of what is listed.
-  in-front-listed : (front : List Record) (answer : Answer) (rs : List Record) (headers : ℕ)
-      → inFront front answer ≡ listed rs headers
-      → (ss : List Record) × (answer ≡ listed ss headers) × (rs ≡ front ++ ss)
-  in-front-listed front (refused number place before) rs headers e = let z : _≡_ {A = ℕ} 0 1 = cc in absurd (omega arith)
-  in-front-listed front (listed ss n) rs headers e =
-      let same : front ++ ss ≡ rs = cc in
-      let count : n ≡ headers = cc in
-      (ss, ap (listed ss) count, sym same)
-
   walk-listed : (i at : ℕ) (m : Model) (ms : List Model) (rs : List Record) (headers : ℕ)
       → walk read ending i at (m ∷ ms) ≡ listed rs headers → Listed i at m ms rs headers (read m)
-  unfolding walk
-  walk-listed i at m ms rs headers = go (read m)
+  walk-listed i at m ms rs headers e = go (read m) refl
     where
-      go : (r : Reading)
-          → elim r [
-            | unknown ↦ walk read ending (i + 1) (at + sizeOf m) ms
-            | faulty fault ↦ refused (faultNumber fault) at i
-            | points ps ↦ inFront (map (recordOf i at m) ps) (walk read ending (i + 1) (at + sizeOf m) ms)
-          ]
-          ≡ listed rs headers
-          → Listed i at m ms rs headers r
-      go unknown e = e
-      go (faulty fault) e = let z : _≡_ {A = ℕ} 0 1 = cc in absurd (omega arith)
-      go (points ps) e =
-          in-front-listed (map (recordOf i at m) ps) (walk read ending (i + 1) (at + sizeOf m) ms) rs headers e
+      go : (r : Reading) → read m ≡ r → Listed i at m ms rs headers r
+      go unknown q = sym (walk-unknown read ending i at m ms q) ∙ e
+      go (faulty fault) q = not-listed (sym (walk-faulty read ending i at m ms q) ∙ e)
+      go (points ps) q =
+          in-front-listed (map (recordOf i at m) ps) (walk read ending (i + 1) (at + sizeOf m) ms) rs headers
+          (sym (walk-points read ending i at m ms q) ∙ e)
 
   -- At the end nothing is listed.
   end-listed : (i at : ℕ) (rs : List Record) (headers : ℕ) → walk read ending i at [] ≡ listed rs headers → rs ≡ []

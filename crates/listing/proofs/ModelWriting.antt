@@ -7,36 +7,32 @@ use Prim.Native.Nat.{ℕ, _+_, _*_, _-_, _/_, _≤_, _<_}
 use native.Mathlib.Nat.{div-le-self}
 use native.Mathlib.Omega.{arith}
 use borrow.Author.Tests.{eqb-true, ltb-false}
-use lib.Dec.{ltb, eqb}
+use lib.Dec.{ltb}
 use lib.ListN.{length, getD}
 use Rattle.values.specs.Each.{Each}
-use Rattle.catalog.specs.Frames.{Point, Head, sunssf}
-use Rattle.catalog.specs.Rules.{isSizeOf, among}
-use Rattle.catalog.specs.Definitions.{Groups, Content, Definition, pointsSize, pointFrames, definitions}
-use Rattle.catalog.specs.Soundness.{In, first, later, numbersOf, SoundPoint, SoundGroups, SoundDefinition, ScaleResolves}
-use Rattle.catalog.proofs.TestLaws.{clash}
+use Rattle.catalog.specs.Frames.{Point, sunssf}
+use Rattle.catalog.specs.Definitions.{Groups, Content, pointsSize, definitions}
+use Rattle.catalog.specs.Soundness.{In, first, later, SoundPoint, SoundGroups, ScaleResolves}
 use Rattle.catalog.proofs.References.{points-resolve}
 use Rattle.listing.specs.Points.{ModelPoint, Scope}
 use Rattle.listing.specs.Layout.{nothing, within, topScope, countOf, groupsSize, fillSizeOf, countUnimplemented, fits, fillOf, countsOf, pointsAt, groupsAt, noInstance, contentAt, restSize}
 use Rattle.listing.specs.Counts.{groupsPoints}
-use Rattle.listing.specs.Reading.{Reading, unknown, faulty, points, pad, endsWithPad, allButLast, padLeftOut, belowTopPoints, countPointUnimplemented, notTheSize, laidOut, readBy, reading}
+use Rattle.listing.specs.Reading.{Reading, faulty, points, pad, endsWithPad, allButLast, padLeftOut, belowTopPoints, countPointUnimplemented, notTheSize, laidOut, readBy, reading}
 use Rattle.listing.specs.Listing.{recordWidth}
-use Rattle.listing.specs.Walks.{heldAt, Stands, Accepted, topOf, scopeIn, begun, noted, IsTable, AtGroups, pointsOf, HasPoints, Ready}
+use Rattle.listing.specs.Walks.{heldAt, Accepted, scopeIn, begun, IsTable, AtGroups, pointsOf, HasPoints, Ready}
 use Rattle.listing.specs.Answers.{written, RunAsks, BehindRun, GroupsAsk, BehindGroups}
 use Rattle.listing.specs.declared.records.Place.{Place}
 use Rattle.listing.specs.declared.records.Progress.{Progress}
 use Rattle.listing.proofs.Standing as standing
 use Rattle.listing.proofs.AcceptedModels as models
-use Rattle.listing.proofs.GroupNumbers.{point-among}
 use Rattle.listing.proofs.IntoGroups.{top-groups}
 use Rattle.listing.proofs.CountsAgree as counts
-use Rattle.listing.proofs.ReachOnly.{Agree, within-agrees, points-agree, groups-agree}
-use Rattle.listing.proofs.Sizes.{laid-size}
+use Rattle.listing.proofs.ReachOnly.{Agree, within-own, points-agree, groups-agree}
 use Rattle.listing.proofs.PointCounts as pointCounts
 use Rattle.listing.proofs.WrittenRecords as lists
 use Rattle.listing.proofs.NotedPoints as notes
 use Rattle.listing.proofs.LeftOutPad as pads
-use Rattle.listing.proofs.InstanceSteps.{sized}
+use Rattle.listing.proofs.Sizes.{laid-size, points-sized}
 
 -- ---- Readings
 
@@ -54,7 +50,9 @@ pub data HowRead (id : ℕ) (c : Content) (body : List ℕ) : Reading → Type 0
 
 laid-out : (id : ℕ) (c : Content) (body : List ℕ) → HasPoints (laidOut c body) → HowRead id c body (laidOut c body)
 unfolding laidOut
-laid-out id c body = go (ltb (length body) (pointsSize (c .points))) (countUnimplemented (topScope (c .points) body) (c .groups)) (fits c body) refl refl
+laid-out id c body =
+    go (ltb (length body) (pointsSize (c .points))) (countUnimplemented (topScope (c .points) body) (c .groups)) (fits c body)
+    refl refl
   where
     go : (a b d : Bool) → ltb (length body) (pointsSize (c .points)) ≡ a → fits c body ≡ d
         → HasPoints (elim a [
@@ -76,7 +74,7 @@ laid-out id c body = go (ltb (length body) (pointsSize (c .points))) (countUnimp
     go false false false e f h = absurd h
     go false false true e f h = full (record { room = ltb-false (length body) (pointsSize (c .points)) e; fitting = f })
 
-pub how-read : (id : ℕ) (c : Content) (body : List ℕ) → HasPoints (readBy id c body) → HowRead id c body (readBy id c body)
+how-read : (id : ℕ) (c : Content) (body : List ℕ) → HasPoints (readBy id c body) → HowRead id c body (readBy id c body)
 unfolding readBy
 how-read id c body = go (padLeftOut id c (length body)) refl
   where
@@ -94,10 +92,6 @@ how-read id c body = go (padLeftOut id c (length body)) refl
 
 -- ---- Scopes
 
--- Two scopes within the same points agree on them.
-pub within-own : (body : List ℕ) (ps : List Point) (s t : Scope) → Agree ps (within body 0 ps s) (within body 0 ps t)
-within-own body ps s t p i = within-agrees body 0 ps s t (p .number) (λ e. clash (sym (point-among p ps i) ∙ e))
-
 -- A scale factor is no pad, so it is none that is left out.
 not-last : (q : Point) (ps : List Point) → endsWithPad ps ≡ true → q .typeCode ≡ sunssf → In q ps → In q (allButLast ps)
 unfolding endsWithPad allButLast
@@ -106,27 +100,11 @@ not-last q (p ∷ r ∷ ps) e t first = first
 not-last q (p ∷ r ∷ ps) e t (later i) = later (not-last q (r ∷ ps) e t i)
 
 -- So the scale factors of the points that are left resolve among these.
-resolves-left : (ps qs : List Point) → endsWithPad ps ≡ true → Each (ScaleResolves ps) qs → Each (ScaleResolves (allButLast ps)) qs
+resolves-left : (ps qs : List Point) → endsWithPad ps ≡ true → Each (ScaleResolves ps) qs
+    → Each (ScaleResolves (allButLast ps)) qs
 resolves-left ps [] e r = tt
 resolves-left ps (q ∷ qs) e r =
     (λ k. let f = r .0 k in (f .0, not-last (f .0) ps e (f .3) (f .1), f .2, f .3), resolves-left ps qs e (r .1))
-
-each-left : (P : Point → Type 0) (ps : List Point) → Each P ps → Each P (allButLast ps)
-unfolding allButLast
-each-left P [] e = tt
-each-left P (p ∷ []) e = tt
-each-left P (p ∷ q ∷ ps) e = (e .0, each-left P (q ∷ ps) (e .1))
-
--- A pad is one register.
-size-but-last : (reach ps : List Point) → Each (SoundPoint reach) ps → endsWithPad ps ≡ true
-    → pointsSize ps ≡ pointsSize (allButLast ps) + 1
-unfolding endsWithPad allButLast
-size-but-last reach [] s e = clash (sym e)
-size-but-last reach (p ∷ []) s e =
-    let t = eqb-true (p .typeCode) pad e in
-    let z : p .size ≡ 1 = pads.pad-size (p .size) (rw t at (s .0 .sized)) in
-    omega arith
-size-but-last reach (p ∷ q ∷ ps) s e = let r = size-but-last reach (q ∷ ps) (s .1) e in omega arith
 
 -- The points of a model in full.
 content-parts : (c : Content) (body : List ℕ) → contentAt c body
@@ -136,7 +114,7 @@ unfolding contentAt
 content-parts c body = refl
 
 -- The fill is at most the length.
-pub fill-few : (c : Content) (body : List ℕ) → fillOf c body ≤ length body
+fill-few : (c : Content) (body : List ℕ) → fillOf c body ≤ length body
 unfolding fillOf
 fill-few c body = go (fillSizeOf c body)
   where
@@ -156,9 +134,9 @@ each-begun P len offset (p ∷ ps) e = go (ltb offset len) (each-begun P len (of
 
 -- ---- The model at a frame
 
-module _ (ws : List ℕ) (id : ℕ) (body table : List ℕ) (first fill : ℕ) (place : Place) (records : ℕ) (out : List ℕ)
-    (accepted : Accepted ws) (ready : Ready ws id body table first fill) (words : (k : ℕ) → getD ws k 0 < 65536) (short : length body ≤ 65535)
-    (address : place .address ≤ 65536) where
+module _ {ws : List ℕ} {id : ℕ} {body table : List ℕ} {first fill : ℕ} (place : Place) (records : ℕ) (out : List ℕ)
+    (accepted : Accepted ws) (ready : Ready ws id body table first fill) (words : (k : ℕ) → getD ws k 0 < 65536)
+    (short : length body ≤ 65535) (address : place .address ≤ 65536) where
   abbrev top : Content
   top = heldAt ws first
 
@@ -172,25 +150,14 @@ module _ (ws : List ℕ) (id : ℕ) (body table : List ℕ) (first fill : ℕ) (
   read = reading (definitions ws) (record { id = id; body = body })
 
   -- It is read by the definition at the frame.
-  pub read-here : read ≡ readBy id top body
-  read-here =
-      models.reading-top (definitions ws) (record { id = id; body = body })
-      ∙ ap (λ o. elim o [ none ↦ unknown | some c ↦ readBy id c body ]) (ready .known)
-
-  abbrev definition : Definition
-  definition = models.top-sound ws id top accepted (ready .known) .0
-
-  sound : SoundDefinition definition
-  sound = models.top-sound ws id top accepted (ready .known) .1
-
-  is-top : definition .top ≡ top
-  is-top = models.top-sound ws id top accepted (ready .known) .3
+  read-here : read ≡ readBy id top body
+  read-here = models.read-known (definitions ws) id body top (ready .known)
 
   sound-points : Each (SoundPoint ps) ps
-  sound-points = subst (λ c. Each (SoundPoint (c .points)) (c .points)) is-top (sound .points)
+  sound-points = models.top-points-sound ws id top accepted (ready .known)
 
   sound-groups : SoundGroups ps ps 2 (top .groups)
-  sound-groups = subst (λ c. SoundGroups (c .points) (c .points) 2 (c .groups)) is-top (sound .groups)
+  sound-groups = models.top-groups-sound ws id top accepted (ready .known)
 
   -- The table holds the scope of the points that are laid.
   table-scope : scopeIn table ≡ within body 0 laid (scopeIn (ready .before))
@@ -214,9 +181,9 @@ module _ (ws : List ℕ) (id : ℕ) (body table : List ℕ) (first fill : ℕ) (
     agree-laid : Agree qs (scopeIn table) (topScope qs body)
     agree-laid p i =
         ap (λ (s : Scope). s (p .number)) (table-scope ∙ ap (λ rs. within body 0 rs (scopeIn (ready .before))) e)
-        ∙ within-own body qs (scopeIn (ready .before)) nothing p i
+        ∙ within-own body 0 qs (scopeIn (ready .before)) nothing p i
 
-    pub same-points : Each (ScaleResolves qs) qs
+    same-points : Each (ScaleResolves qs) qs
         → pointsAt body (scopeIn table) noInstance 0 laid ≡ pointsAt body (topScope qs body) noInstance 0 qs
     same-points r =
         ap (pointsAt body (scopeIn table) noInstance 0) e
@@ -224,43 +191,47 @@ module _ (ws : List ℕ) (id : ℕ) (body table : List ℕ) (first fill : ℕ) (
 
   -- In full all top points are laid.
   all-laid : Full top body → laid ≡ ps
-  all-laid f = notes.begun-all (length body) 0 ps (sized ps ps sound-points) (omega (arith, f .room))
+  all-laid f = notes.begun-all (length body) 0 ps (points-sized ps ps sound-points) (omega (arith, f .room))
 
   resolved : Each (ScaleResolves ps) ps
   resolved = points-resolve ps ps sound-points
 
   -- The size of a body in full, with the table's counts.
   module _ (f : Full top body) where
-    pub agree-top : Agree ps (scopeIn table) (topScope ps body)
+    agree-top : Agree ps (scopeIn table) (topScope ps body)
     agree-top = agree-laid ps (all-laid f)
 
-    pub lower-size : groupsSize (countOf (scopeIn table) fill) (top .groups) ≡ groupsSize (countsOf top body) (top .groups)
+    lower-size : groupsSize (countOf (scopeIn table) fill) (top .groups) ≡ groupsSize (countsOf top body) (top .groups)
     lower-size =
         counts.sizes-agree (scopeIn table) (topScope ps body) ps agree-top fill ps 2 (top .groups) sound-groups
         ∙ ap (λ n. groupsSize (countOf (topScope ps body) n) (top .groups)) (ready .filling)
 
-    pub lower-points : groupsPoints (countOf (scopeIn table) fill) (top .groups) ≡ groupsPoints (countsOf top body) (top .groups)
+    lower-points : groupsPoints (countOf (scopeIn table) fill) (top .groups) ≡ groupsPoints (countsOf top body) (top .groups)
     lower-points =
         counts.points-agree (scopeIn table) (topScope ps body) ps agree-top fill ps 2 (top .groups) sound-groups
         ∙ ap (λ n. groupsPoints (countOf (topScope ps body) n) (top .groups)) (ready .filling)
 
-    pub in-full : pointsSize ps + groupsSize (countsOf top body) (top .groups) ≡ length body
+    in-full : pointsSize ps + groupsSize (countsOf top body) (top .groups) ≡ length body
     in-full = laid-size ps ps top body sound-groups (f .fitting)
 
-    pub same-groups : (offset : ℕ) → groupsAt body (countOf (scopeIn table) fill) 2 (scopeIn table) noInstance offset (top .groups)
+    same-groups : (offset : ℕ) → groupsAt body (countOf (scopeIn table) fill) 2 (scopeIn table) noInstance offset (top .groups)
         ≡ groupsAt body (countsOf top body) 2 (topScope ps body) noInstance offset (top .groups)
     same-groups offset =
-        groups-agree body fill ps (scopeIn table) (topScope ps body) agree-top noInstance offset ps 2 (top .groups) sound-groups (scopeIn table)
+        groups-agree body fill ps (scopeIn table) (topScope ps body) agree-top noInstance offset ps 2 (top .groups) sound-groups
+        (scopeIn table)
         (topScope ps body) agree-top
-        ∙ ap (λ n. groupsAt body (countOf (topScope ps body) n) 2 (topScope ps body) noInstance offset (top .groups)) (ready .filling)
+        ∙ ap (λ n. groupsAt body (countOf (topScope ps body) n) 2 (topScope ps body) noInstance offset (top .groups))
+        (ready .filling)
 
     -- Where the top points fill the body, no group has a point.
-    pub no-lower : pointsSize ps ≡ length body
+    no-lower : pointsSize ps ≡ length body
         → groupsAt body (countsOf top body) 2 (topScope ps body) noInstance (pointsSize ps) (top .groups) ≡ []
     no-lower e =
         let g = pointCounts.groups-fit (countsOf top body) ps ps 2 (top .groups) sound-groups in
-        let n = pointCounts.groups-counted body (countsOf top body) 2 (topScope ps body) noInstance (pointsSize ps) (top .groups) in
-        none-left (groupsAt body (countsOf top body) 2 (topScope ps body) noInstance (pointsSize ps) (top .groups)) (omega (arith, g, n, in-full, e))
+        let n = pointCounts.groups-counted body (countsOf top body) 2 (topScope ps body) noInstance (pointsSize ps)
+        (top .groups) in
+        none-left (groupsAt body (countsOf top body) 2 (topScope ps body) noInstance (pointsSize ps) (top .groups))
+        (omega (arith, g, n, in-full, e))
       where
         none-left : (xs : List ModelPoint) → length xs ≡ 0 → xs ≡ []
         none-left [] h = refl
@@ -276,34 +247,30 @@ module _ (ws : List ℕ) (id : ℕ) (body table : List ℕ) (first fill : ℕ) (
     pub run-asks : RunAsks ws body out place start laid
     run-asks = go (readBy id top body) read-here how
       where
+        asks : pointsSize laid ≤ length body → length laid ≤ length (pointsOf read) → RunAsks ws body out place start laid
+        asks inside few =
+            record {
+              stands = ready .stands;
+              few = models.accepted-few ws accepted;
+              short = short;
+              address = address;
+              sized = points-sized ps ps sound-points;
+              inside = omega (arith, inside);
+              room = omega (arith, few, room);
+            }
+
         go : (r : Reading) → read ≡ r → HowRead id top body r → RunAsks ws body out place start laid
         go r q (leftOut e) =
             let l = pads.left-out id top (length body) e in
             let b = pads.begun-but-pad ps id top (length body) sound-points e in
-            let z = size-but-last ps ps sound-points (l .1) in
+            let z = pads.without-pad ps ps sound-points (l .1) in
             let n = ap (λ x. length (pointsOf x)) q
             ∙ pointCounts.points-counted body (topScope (allButLast ps) body) noInstance 0 (allButLast ps) in
-            record {
-              stands = ready .stands;
-              few = models.accepted-few ws accepted;
-              short = short;
-              address = address;
-              sized = sized ps ps sound-points;
-              inside = omega (arith, ap pointsSize b, z, l .2);
-              room = omega (arith, ap length b, n, room);
-            }
+            asks (omega (arith, ap pointsSize b, z, l .2)) (omega (arith, ap length b, n))
         go r q (full f) =
             let b = all-laid f in
             let n = ap (λ x. length (pointsOf x)) q ∙ pointCounts.content-counted top body in
-            record {
-              stands = ready .stands;
-              few = models.accepted-few ws accepted;
-              short = short;
-              address = address;
-              sized = sized ps ps sound-points;
-              inside = omega (arith, ap pointsSize b, f .room);
-              room = omega (arith, ap length b, n, room);
-            }
+            asks (omega (arith, ap pointsSize b, f .room)) (omega (arith, ap length b, n))
 
     -- Where the top points fill the body they are all points.
     pub all-points : pointsSize laid ≡ length body → pointsAt body (scopeIn table) noInstance 0 laid ≡ pointsOf read
@@ -313,7 +280,7 @@ module _ (ws : List ℕ) (id : ℕ) (body table : List ℕ) (first fill : ℕ) (
         go r q (leftOut h) =
             let l = pads.left-out id top (length body) h in
             same-points (allButLast ps) (pads.begun-but-pad ps id top (length body) sound-points h)
-            (resolves-left ps (allButLast ps) (l .1) (each-left (ScaleResolves ps) ps resolved))
+            (resolves-left ps (allButLast ps) (l .1) (pads.each-but-last (ScaleResolves ps) ps resolved))
             ∙ sym (ap pointsOf q)
         go r q (full f) =
             let z = ap pointsSize (all-laid f) in
@@ -332,12 +299,12 @@ module _ (ws : List ℕ) (id : ℕ) (body table : List ℕ) (first fill : ℕ) (
         go r q (leftOut h) =
             let l = pads.left-out id top (length body) h in
             let b = pads.begun-but-pad ps id top (length body) sound-points h in
-            let z = size-but-last ps ps sound-points (l .1) in
+            let z = pads.without-pad ps ps sound-points (l .1) in
             absurd (n (omega (arith, ap pointsSize b, z, l .2)))
         go r q (full f) = (f, q)
 
-    module _ (at₁ : Progress) (run : BehindRun start laid at₁) (f : Full top body) (q : read ≡ points (contentAt top body))
-        (out₁ : List ℕ) (wrote : out₁ ≡ written place records (pointsAt body (scopeIn table) noInstance 0 laid) out) where
+    module _ {at₁ : Progress} (run : BehindRun start laid at₁) (f : Full top body) (q : read ≡ points (contentAt top body))
+        {out₁ : List ℕ} (wrote : out₁ ≡ written place records (pointsAt body (scopeIn table) noInstance 0 laid) out) where
       frame-there : at₁ .frame ≡ first + length ps
       frame-there = run .frame ∙ ap (λ rs. first + length rs) (all-laid f)
 
@@ -353,28 +320,55 @@ module _ (ws : List ℕ) (id : ℕ) (body table : List ℕ) (first fill : ℕ) (
           let b = all-laid f in
           let o = lists.written-length place records (pointsAt body (scopeIn table) noInstance 0 laid) out in
           record {
-            standing = subst (λ k. AtGroups ws k 3) (sym frame-there) (top-groups ws id first accepted (ready .stands) (ready .known));
+            standing = subst (λ k. AtGroups ws k 3) (sym frame-there)
+                (top-groups ws id first accepted (ready .stands) (ready .known));
             isTable = ready .isTable;
             threeLevels = refl;
             atMost3 = omega arith;
             filling = omega (arith, ready .filling, fill-few top body, short);
             short = short;
             address = address;
-            inside = omega (arith, ap (groupsSize (countOf (scopeIn table) fill)) groups-there, lower-size f, in-full f, run .offset, ap pointsSize b);
-            room = omega (arith, ap (groupsPoints (countOf (scopeIn table) fill)) groups-there, lower-points f, counted, room, run .records, ap length b, ap length wrote, o);
+            inside = omega (
+              arith,
+              ap (groupsSize (countOf (scopeIn table) fill)) groups-there,
+              lower-size f,
+              in-full f,
+              run .offset,
+              ap pointsSize b,
+            );
+            room = omega (
+              arith,
+              ap (groupsPoints (countOf (scopeIn table) fill)) groups-there,
+              lower-points f,
+              counted,
+              room,
+              run .records,
+              ap length b,
+              ap length wrote,
+              o,
+            );
           }
 
       -- What has been written behind the groups.
-      pub records-behind : (at₂ : Progress) → BehindGroups (heldAt ws (at₁ .frame) .groups) (countOf (scopeIn table) fill) at₁ at₂
+      pub records-behind : {at₂ : Progress} → BehindGroups (heldAt ws (at₁ .frame) .groups) (countOf (scopeIn table) fill) at₁ at₂
           → at₂ .records ≡ records + length (pointsOf read)
-      records-behind at₂ b =
-          omega (arith, b .records, run .records, ap (groupsPoints (countOf (scopeIn table) fill)) groups-there, lower-points f, counted, ap length (all-laid f))
+      records-behind b =
+          omega (
+            arith,
+            b .records,
+            run .records,
+            ap (groupsPoints (countOf (scopeIn table) fill)) groups-there,
+            lower-points f,
+            counted,
+            ap length (all-laid f),
+          )
 
-      pub list-behind : (out₂ : List ℕ) → out₂
+      pub list-behind : {out₂ : List ℕ} → out₂
           ≡ written place (at₁ .records)
-          (groupsAt body (countOf (scopeIn table) fill) 2 (scopeIn table) noInstance (at₁ .offset) (heldAt ws (at₁ .frame) .groups)) out₁
+          (groupsAt body (countOf (scopeIn table) fill) 2 (scopeIn table) noInstance (at₁ .offset)
+          (heldAt ws (at₁ .frame) .groups)) out₁
           → out₂ ≡ written place records (pointsOf read) out
-      list-behind out₂ e =
+      list-behind e =
           let P = pointsAt body (topScope ps body) noInstance 0 ps in
           let Q = groupsAt body (countsOf top body) 2 (topScope ps body) noInstance (pointsSize ps) (top .groups) in
           let W : ℕ → ℕ → Groups → List ℕ → List ℕ = λ r a g l.
@@ -383,7 +377,8 @@ module _ (ws : List ℕ) (id : ℕ) (body table : List ℕ) (first fill : ℕ) (
           let n = pointCounts.points-counted body (topScope ps body) noInstance 0 ps in
           let r : at₁ .records ≡ records + length P = omega (arith, run .records, ap length b, n) in
           let a : at₁ .offset ≡ pointsSize ps = omega (arith, run .offset, ap pointsSize b) in
-          let o : out₁ ≡ written place records P out = wrote ∙ ap (λ x. written place records x out) (same-points ps b resolved) in
+          let o : out₁ ≡ written place records P out =
+          wrote ∙ ap (λ x. written place records x out) (same-points ps b resolved) in
           e
           ∙ ap (λ x. W x (at₁ .offset) (heldAt ws (at₁ .frame) .groups) out₁) r
           ∙ ap (λ x. W (records + length P) x (heldAt ws (at₁ .frame) .groups) out₁) a

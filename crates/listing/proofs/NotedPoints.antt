@@ -18,6 +18,7 @@ use Rattle.catalog.proofs.GroupSizes.{type-size}
 use Rattle.listing.specs.Points.{Scope}
 use Rattle.listing.specs.Layout.{withPoint, within, pointsAt}
 use Rattle.listing.specs.Walks.{heldAt, Stands, scopeIn, noted, begun, IsTable}
+use Rattle.listing.proofs.EachLaws.{each-drop}
 
 -- ---- Noting
 
@@ -50,11 +51,6 @@ noted-scope body offset (p ∷ ps) table t e =
     noted-scope body (offset + p .size) ps (set table (p .number) register) (length-set table (p .number) register ∙ t) (e .1)
     ∙ ap (λ (s : Scope). within body (offset + p .size) ps s) (fun-ext here)
 
--- Points in the same scope.
-pub points-scope : (body path : List ℕ) (offset : ℕ) (ps : List Point) (s t : Scope) → ((n : ℕ) → s n ≡ t n)
-    → pointsAt body s path offset ps ≡ pointsAt body t path offset ps
-points-scope body path offset ps s t h = ap (λ (x : Scope). pointsAt body x path offset ps) (fun-ext h)
-
 -- ---- Numbers
 
 -- A point frame's number is one of the table's.
@@ -81,11 +77,6 @@ module _ (ws : List ℕ) (words : (k : ℕ) → getD ws k 0 < 65536) where
   unfolding framesFrom
   frames-in-table i zero = tt
   frames-in-table i (suc n) = (frame-in-table i, frames-in-table (suc i) n)
-
-each-drop : {A : Type 0} (P : A → Type 0) (i : ℕ) (xs : List A) → Each P xs → Each P (drop i xs)
-each-drop P zero xs e = e
-each-drop P (suc i) [] e = tt
-each-drop P (suc i) (x ∷ xs) e = each-drop P i xs (e .1)
 
 points-in-table : (ps : List Point) (fs : List Frame) → Each InTable (pointFrames ps ++ fs) → Each (λ p. p .number < 65536) ps
 points-in-table [] fs e = tt

@@ -1,15 +1,15 @@
 -- A number names one point of a sound definition, so the size of a point by its number is one size.
 use mathlib.Core.Path.{_≡_, refl, sym, ap, subst, _∙_}
-use mathlib.Core.Bool.{Bool, true, false, _||_}
+use mathlib.Core.Bool.{true}
 use mathlib.Core.List.{List, [], _∷_, _++_, append-assoc, append-nil}
 use borrow.Author.Tests.{eq-eqb}
-use lib.Dec.{eqb}
 use Rattle.catalog.specs.Frames.{Point, Frame, modelFrame, groupFrame, pointFrame, endFrame, malformed}
 use Rattle.catalog.specs.Rules.{among}
 use Rattle.catalog.specs.Definitions.{Groups, noGroup, group, Definition, pointFrames, groupFrames, definitionFrames}
 use Rattle.catalog.specs.Soundness.{SoundDefinition, Distinct, numbersOf, In, first, later}
 use Rattle.catalog.proofs.TestLaws.{clash}
 use Rattle.listing.specs.Tiling.{lowerPoints, definedPoints}
+use Rattle.listing.proofs.GroupNumbers.{among-later}
 
 -- The points of frames.
 abbrev framePoints : List Frame → List Point
@@ -48,17 +48,13 @@ of-definition d =
     ∙ ap (λ qs. ps ++ qs) (of-groups g (endFrame ∷ []) ∙ append-nil (lowerPoints g))
 
 -- The number of a point is among the numbers of the frames.
-behind-or : (a b : Bool) → b ≡ true → a || b ≡ true
-behind-or true b e = refl
-behind-or false b e = e
-
 number-among : (fs : List Frame) (p : Point) → In p (framePoints fs) → among (p .number) (numbersOf fs) ≡ true
 number-among (modelFrame id ∷ fs) p i = number-among fs p i
 number-among (groupFrame h ∷ fs) p i =
-    behind-or (eqb (p .number) (h .number)) (among (p .number) (numbersOf fs)) (number-among fs p i)
+    among-later (p .number) (h .number) (numbersOf fs) (number-among fs p i)
 number-among (pointFrame q ∷ fs) p first = rw (eq-eqb (p .number) (p .number) refl)
 number-among (pointFrame q ∷ fs) p (later i) =
-    behind-or (eqb (p .number) (q .number)) (among (p .number) (numbersOf fs)) (number-among fs p i)
+    among-later (p .number) (q .number) (numbersOf fs) (number-among fs p i)
 number-among (endFrame ∷ fs) p i = number-among fs p i
 number-among (malformed ∷ fs) p i = number-among fs p i
 

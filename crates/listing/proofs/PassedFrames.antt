@@ -52,7 +52,7 @@ passed ws i c cs rest e = go (c .points) (c .groups) e
         record { left = cs; there = t .1; deep = rw f (omega arith); inModel = λ id. rw f }
 
 -- Each open group has an end frame to come.
-pub ends-to-come : (cs : List Content) (rest : List Frame) → length cs ≤ length (restFrames cs rest)
+ends-to-come : (cs : List Content) (rest : List Frame) → length cs ≤ length (restFrames cs rest)
 ends-to-come [] rest = omega arith
 ends-to-come (c ∷ cs) rest =
     let gs = groupFrames (c .groups) in

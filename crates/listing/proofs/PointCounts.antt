@@ -8,15 +8,13 @@ use native.Mathlib.Omega.{arith}
 use borrow.Author.Tests.{eqb-true, eqb-false}
 use lib.Dec.{eqb}
 use lib.ListN.{length, set, length-append}
-use Rattle.values.specs.Each.{Each}
 use Rattle.catalog.specs.Frames.{Point, Head, fill}
 use Rattle.catalog.specs.Definitions.{Groups, noGroup, group, Content, pointsSize}
-use Rattle.catalog.specs.Soundness.{SoundPoint, SoundGroups}
-use Rattle.catalog.proofs.GroupSizes.{point-size}
+use Rattle.catalog.specs.Soundness.{SoundGroups}
 use Rattle.listing.specs.Points.{ModelPoint, Scope}
 use Rattle.listing.specs.Layout.{within, topScope, countOf, groupsSize, countsOf, noInstance, pointsAt, instances, groupsAt, contentAt}
 use Rattle.listing.specs.Counts.{groupsPoints, fillPoints}
-use Rattle.listing.proofs.Sizes.{count-of-fill, count-of-other}
+use Rattle.listing.proofs.Sizes.{points-fit, count-of-fill, count-of-other}
 
 -- ---- The points that are laid out, wherever that is
 
@@ -28,7 +26,7 @@ points-counted body scope path offset [] = refl
 points-counted body scope path offset (p ∷ ps) = ap suc (points-counted body scope path (offset + p .size) ps)
 
 -- n instances have n times as many points as each.
-pub instances-counted : (k size : ℕ) (one : ℕ → ℕ → List ModelPoint) → ((j at : ℕ) → length (one j at) ≡ k)
+instances-counted : (k size : ℕ) (one : ℕ → ℕ → List ModelPoint) → ((j at : ℕ) → length (one j at) ≡ k)
     → (n j offset : ℕ) → length (instances n j offset size one) ≡ n * k
 unfolding instances
 instances-counted k size one each zero j offset = omega arith
@@ -76,14 +74,6 @@ content-counted c body =
 
 -- ---- No more points than registers
 
--- Each sound point takes a register.
-pub points-fit : (reach ps : List Point) → Each (SoundPoint reach) ps → length ps ≤ pointsSize ps
-points-fit reach [] e = omega arith
-points-fit reach (p ∷ ps) e =
-    let s = point-size reach p (e .0) .0 in
-    let r = points-fit reach ps (e .1) in
-    omega arith
-
 -- Sound groups have no more points than registers.
 pub groups-fit : (count : Head → ℕ) (top enclosing : List Point) (level : ℕ) (g : Groups) → SoundGroups top enclosing level g
     → groupsPoints count g ≤ groupsSize count g
@@ -100,7 +90,7 @@ groups-fit count top enclosing level (group h ps inside behind) e =
 -- ---- What the fill group adds
 
 -- No group below level 2 is the fill group.
-pub lower-points : (s : Scope) (f : ℕ) (top enclosing : List Point) (level : ℕ) (g : Groups) → 3 ≤ level
+lower-points : (s : Scope) (f : ℕ) (top enclosing : List Point) (level : ℕ) (g : Groups) → 3 ≤ level
     → SoundGroups top enclosing level g → groupsPoints (countOf s f) g ≡ groupsPoints (countOf s 0) g
 unfolding groupsPoints
 lower-points s f top enclosing level noGroup l e = refl

@@ -70,7 +70,7 @@ module _ {ws body table : List ℕ} {place : Place} {path out₀ : List ℕ} {at
   still-within = standing.stands-within ws (at .frame) (s .asks .stands)
 
   -- None is left.
-  pub still-none : leftAt ws body at ≡ []
+  still-none : leftAt ws body at ≡ []
       → BehindRun at₀ (leftAt ws body at₀) at × (out ≡ written place (at₀ .records) (shownAt ws body table path at₀) out₀)
   unfolding pointsAt
   still-none e =

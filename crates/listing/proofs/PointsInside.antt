@@ -1,4 +1,4 @@
--- A point lies in its model: the one fact about the layout that inserted models ask for.
+-- The points of a model, as an accepted catalog reads them, lie in the model and are no more than its registers.
 use mathlib.Core.Path.{_≡_}
 use mathlib.Core.List.{List, [], _∷_}
 use Prim.Native.Nat.{ℕ, _+_, _≤_}
@@ -15,33 +15,54 @@ use Rattle.catalog.proofs.TestLaws.{by-test}
 use Rattle.register_map.specs.Scan.{Model}
 use Rattle.listing.specs.Points.{ModelPoint}
 use Rattle.listing.specs.Reading.{Reading, points, reading}
-use Rattle.listing.specs.Tiling.{Tiles}
+use Rattle.listing.specs.Walks.{Accepted}
+use Rattle.listing.specs.Tiling.{Tiles, BodyTiled}
 use Rattle.listing.proofs.BodyTiling.{read-tiled}
+use Rattle.listing.proofs.TiledApart.{upward}
+
+-- What sound definitions read fills the body, by one of them.
+reading-tiled : (ds : List Definition) → Each SoundDefinition ds → (m : Model) (ps : List ModelPoint)
+    → reading ds m ≡ points ps → (d : Definition) × BodyTiled d (length (m .body)) ps
+unfolding reading
+reading-tiled [] s m ps = λ e. let z : _≡_ {A = ℕ} 0 1 = cc in absurd (omega arith)
+reading-tiled (d ∷ ds) s m ps =
+    by-test (λ r. r ≡ points ps → (d : Definition) × BodyTiled d (length (m .body)) ps) (eqb (d .id) (m .id))
+    (λ t e. (d, read-tiled d (s .0) (m .id) (m .body) ps e)) (λ t. reading-tiled ds (s .1) m ps)
+
+-- So does what an accepted catalog reads.
+accepted-tiled : (catalog : List ℕ) (n : ℕ) → checked catalog ≡ accepted n → (m : Model) (ps : List ModelPoint)
+    → reading (definitions catalog) m ≡ points ps → (d : Definition) × BodyTiled d (length (m .body)) ps
+accepted-tiled catalog n e = reading-tiled (definitions catalog) (accepted-is-sound catalog n e .0 .each)
+
+-- Points that fill the registers up to an end begin there at the latest,
+tiled-inside : (from end : ℕ) (ps : List ModelPoint) (qs : List Point) → Tiles (λ p. p .offset) (λ p. p .number) from end ps qs
+    → Each (λ p. p .offset ≤ end) ps
+tiled-inside from end [] [] t = tt
+tiled-inside from end [] (q ∷ qs) t = absurd t
+tiled-inside from end (p ∷ ps) [] t = absurd t
+tiled-inside from end (p ∷ ps) (q ∷ qs) t =
+    let u = upward (λ p. p .offset) (λ p. p .number) (from + q .size) end ps qs (t .3) in
+    (omega (arith, t .0, u), tiled-inside (from + q .size) end ps qs (t .3))
+
+-- and are no more than these registers.
+tiled-few : (from end : ℕ) (ps : List ModelPoint) (qs : List Point) → Tiles (λ p. p .offset) (λ p. p .number) from end ps qs
+    → from + length ps ≤ end
+tiled-few from end [] [] t = omega arith
+tiled-few from end [] (q ∷ qs) t = absurd t
+tiled-few from end (p ∷ ps) [] t = absurd t
+tiled-few from end (p ∷ ps) (q ∷ qs) t = let r = tiled-few (from + q .size) end ps qs (t .3) in omega (arith, t .2, r)
 
 -- The points of a reading lie in the model: behind none lies the model's end.
 abbrev pub Inside : (Model → Reading) → Type 0
 Inside read = (m : Model) (ps : List ModelPoint) → read m ≡ points ps → Each (λ p. p .offset ≤ length (m .body)) ps
 
--- Points that fill the registers up to an end begin there at the latest.
-tiled-inside : (from end : ℕ) (ps : List ModelPoint) (qs : List Point) → Tiles (λ p. p .offset) (λ p. p .number) from end ps qs
-    → (from ≤ end) × Each (λ p. p .offset ≤ end) ps
-tiled-inside from end [] [] t = (omega arith, tt)
-tiled-inside from end [] (q ∷ qs) t = absurd t
-tiled-inside from end (p ∷ ps) [] t = absurd t
-tiled-inside from end (p ∷ ps) (q ∷ qs) t =
-    let rest = tiled-inside (from + q .size) end ps qs (t .3) in
-    let at = t .0 in
-    (omega arith, (omega arith, rest .1))
-
--- So do the points that sound definitions read.
-reading-inside : (ds : List Definition) → Each SoundDefinition ds → Inside (reading ds)
-unfolding reading
-reading-inside [] s m ps = λ e. let z : _≡_ {A = ℕ} 0 1 = cc in absurd (omega arith)
-reading-inside (d ∷ ds) s m ps =
-    by-test (λ r. r ≡ points ps → Each (λ p. p .offset ≤ length (m .body)) ps) (eqb (d .id) (m .id))
-    (λ t e. let b = read-tiled d (s .0) (m .id) (m .body) ps e in tiled-inside 0 (length (m .body)) ps (b .by) (b .tiles) .1)
-    (λ t. reading-inside ds (s .1) m ps)
-
--- And those that an accepted catalog reads.
 pub accepted-inside : (catalog : List ℕ) (n : ℕ) → checked catalog ≡ accepted n → Inside (reading (definitions catalog))
-accepted-inside catalog n e = reading-inside (definitions catalog) (accepted-is-sound catalog n e .0 .each)
+accepted-inside catalog n e m ps r =
+    let b = accepted-tiled catalog n e m ps r .1 in tiled-inside 0 (length (m .body)) ps (b .by) (b .tiles)
+
+-- A model has no more points than registers.
+pub points-few : (ws : List ℕ) → Accepted ws → (m : Model) (ps : List ModelPoint) → reading (definitions ws) m ≡ points ps
+    → length ps ≤ length (m .body)
+points-few ws a m ps r =
+    let b = accepted-tiled ws (a .0) (a .1) m ps r .1 in
+    omega (arith, tiled-few 0 (length (m .body)) ps (b .by) (b .tiles))

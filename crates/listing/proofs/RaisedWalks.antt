@@ -5,23 +5,9 @@ use Prim.Native.Nat.{ℕ, _+_}
 use native.Mathlib.Omega.{arith}
 use Rattle.register_map.specs.Scan.{Model, sizeOf, Ending, marked, broken}
 use Rattle.listing.specs.Points.{ModelPoint}
-use Rattle.listing.specs.Reading.{Reading, unknown, faulty, points, faultNumber}
+use Rattle.listing.specs.Reading.{Reading, unknown, faulty, points}
 use Rattle.listing.specs.Listing.{Record, recordOf, Answer, refused, listed, inFront, walk}
-
--- A model with an index at an address, by what is read of it, in front of the answer from behind it on.
-abbrev pub withModel : Reading → ℕ → ℕ → Model → Answer → Answer
-withModel r index at m behind =
-    elim r [
-      | unknown ↦ behind
-      | faulty fault ↦ refused (faultNumber fault) at index
-      | points ps ↦ inFront (map (recordOf index at m) ps) behind
-    ]
-
--- A walk is its first model in front of the walk behind it.
-pub walk-model : (read : Model → Reading) (ending : Ending) (index at : ℕ) (m : Model) (ms : List Model)
-    → walk read ending index at (m ∷ ms) ≡ withModel (read m) index at m (walk read ending (index + 1) (at + sizeOf m) ms)
-unfolding walk
-walk-model read ending index at m ms = refl
+use Rattle.listing.proofs.WalkSteps.{withModel}
 
 -- A record whose index is higher by n and whose address is higher by d.
 abbrev pub raised : ℕ → ℕ → Record → Record

@@ -1,6 +1,6 @@
 -- The points of sound groups depend on a scope only as far as it reaches: no point outside reach is asked for a scale factor or a
 -- count. So what else a scope holds makes no difference.
-use mathlib.Core.Path.{_≡_, refl, sym, ap, _∙_, subst}
+use mathlib.Core.Path.{_≡_, refl, sym, ap, _∙_}
 use mathlib.Core.Bool.{Bool, true, false, _||_}
 use mathlib.Core.List.{List, [], _∷_, _++_}
 use Prim.Native.Nat.{ℕ, zero, suc, _+_, _*_, _-_}
@@ -9,17 +9,17 @@ use lib.Dec.{eqb}
 use lib.ListN.{getD, set}
 use Rattle.values.specs.Each.{Each}
 use Rattle.values.specs.Registers.{join, shownRaw}
-use Rattle.values.specs.Classes.{Class, value, unimplemented, outOfRange, Classified, ofClass, tooWide, unknownType, classified}
-use Rattle.catalog.specs.Frames.{Point, Head, fixedScale, scaleByPoint, sunssf}
+use Rattle.values.specs.Classes.{value, unimplemented, outOfRange, Classified, ofClass, tooWide, unknownType, classified}
+use Rattle.catalog.specs.Frames.{Point, fixedScale, scaleByPoint, sunssf}
 use Rattle.catalog.specs.Rules.{among}
 use Rattle.catalog.specs.Definitions.{Groups, noGroup, group, pointsSize, pointFrames}
-use Rattle.catalog.specs.Soundness.{In, numbersOf, SoundPoint, SoundGroups, ScaleResolves}
+use Rattle.catalog.specs.Soundness.{In, numbersOf, SoundGroups, ScaleResolves}
 use Rattle.catalog.proofs.TestLaws.{clash}
 use Rattle.catalog.proofs.References.{points-resolve}
 use Rattle.listing.specs.Points.{ModelPoint, Scope, statusOf, scaleOf, scaleStatus, registersAt, statusAt, pointAt}
 use Rattle.listing.specs.Layout.{withPoint, within, countOf, groupsSize, pointsAt, instances, groupsAt}
 use Rattle.listing.proofs.GroupNumbers.{point-among}
-use Rattle.listing.proofs.IntoGroups.{in-either}
+use Rattle.listing.proofs.InLaws.{in-either}
 use Rattle.listing.proofs.CountsAgree.{count-agrees, sizes-agree}
 
 -- Two scopes agree on these points.
@@ -29,7 +29,7 @@ Agree ps s t = (p : Point) → In p ps → s (p .number) ≡ t (p .number)
 -- ---- Scopes
 
 -- Within an instance two scopes agree where they did, or where a point of the instance is meant.
-pub within-agrees : (body : List ℕ) (offset : ℕ) (ps : List Point) (s t : Scope) (n : ℕ)
+within-agrees : (body : List ℕ) (offset : ℕ) (ps : List Point) (s t : Scope) (n : ℕ)
     → (among n (numbersOf (pointFrames ps)) ≡ false → s n ≡ t n)
     → within body offset ps s n ≡ within body offset ps t n
 unfolding within
@@ -43,6 +43,11 @@ within-agrees body offset (p ∷ ps) s t n h =
     go true a e f = refl
     go false a e f = f e
 
+-- They agree on the points of the instance.
+pub within-own : (body : List ℕ) (offset : ℕ) (ps : List Point) (s t : Scope)
+    → Agree ps (within body offset ps s) (within body offset ps t)
+within-own body offset ps s t p i = within-agrees body offset ps s t (p .number) (λ e. clash (sym (point-among p ps i) ∙ e))
+
 -- They agree on the points of the instance and on all that they agreed on.
 pub reach-agrees : (body : List ℕ) (offset : ℕ) (ps enclosing : List Point) (s t : Scope) → Agree enclosing s t
     → Agree (ps ++ enclosing) (within body offset ps s) (within body offset ps t)
@@ -53,7 +58,8 @@ reach-agrees body offset ps enclosing s t h p i =
 -- ---- Points
 
 -- The register of the scale point is not looked at by a point that has none.
-no-scale-status : (p : Point) (c : Classified) (r q : ℕ) → eqb (p .scaleKind) scaleByPoint ≡ false → statusOf p c r ≡ statusOf p c q
+no-scale-status : (p : Point) (c : Classified) (r q : ℕ) → eqb (p .scaleKind) scaleByPoint ≡ false
+    → statusOf p c r ≡ statusOf p c q
 no-scale-status p (ofClass value) r q e =
     ap (λ b. elim b [ true ↦ scaleStatus (classified sunssf r) | false ↦ 0 ]) e
     ∙ sym (ap (λ b. elim b [ true ↦ scaleStatus (classified sunssf q) | false ↦ 0 ]) e)
@@ -88,7 +94,7 @@ shownBy body path offset p status scale =
     }
 
 -- A point whose scale factor resolves is the same in scopes that agree.
-pub point-agrees : (body path : List ℕ) (offset : ℕ) (reach : List Point) (p : Point) (s t : Scope) → ScaleResolves reach p
+point-agrees : (body path : List ℕ) (offset : ℕ) (reach : List Point) (p : Point) (s t : Scope) → ScaleResolves reach p
     → Agree reach s t → pointAt body s path offset p ≡ pointAt body t path offset p
 unfolding pointAt
 point-agrees body path offset reach p s t r h = go (eqb (p .scaleKind) scaleByPoint) refl
@@ -116,7 +122,7 @@ points-agree body path offset reach (p ∷ ps) s t r h =
     rw (point-agrees body path offset reach p s t (r .0) h, points-agree body path (offset + p .size) reach ps s t (r .1) h)
 
 -- Instances that are the same one by one.
-pub instances-agree : (one other : ℕ → ℕ → List ModelPoint) → ((j at : ℕ) → one j at ≡ other j at)
+instances-agree : (one other : ℕ → ℕ → List ModelPoint) → ((j at : ℕ) → one j at ≡ other j at)
     → (n j offset size : ℕ) → instances n j offset size one ≡ instances n j offset size other
 unfolding instances
 instances-agree one other h zero j offset size = refl
@@ -126,7 +132,7 @@ instances-agree one other h (suc n) j offset size =
 -- ---- Groups
 
 module _ (body : List ℕ) (fill : ℕ) (top : List Point) (s s′ : Scope) (counts : Agree top s s′) where
-  -- The points of sound groups, in scopes that agree on the points around them, with counts from scopes that agree on the top group.
+  -- The points of sound groups, in scopes that agree on the points around them, by counts that agree on the top group.
   pub groups-agree : (path : List ℕ) (offset : ℕ) (enclosing : List Point) (level : ℕ) (g : Groups)
       → SoundGroups top enclosing level g → (t t′ : Scope) → Agree enclosing t t′
       → groupsAt body (countOf s fill) level t path offset g ≡ groupsAt body (countOf s′ fill) level t′ path offset g
@@ -140,12 +146,22 @@ module _ (body : List ℕ) (fill : ℕ) (top : List Point) (s s′ : Scope) (cou
       ++ groupsAt body (countOf s fill) (suc level) (within body at ps t) (set path (level - 2) j) (at + pointsSize ps) inside in
       let other : (ℕ → ℕ → List ModelPoint) = λ j at.
       pointsAt body (within body at ps t′) (set path (level - 2) j) at ps
-      ++ groupsAt body (countOf s′ fill) (suc level) (within body at ps t′) (set path (level - 2) j) (at + pointsSize ps) inside in
+      ++ groupsAt body (countOf s′ fill) (suc level) (within body at ps t′) (set path (level - 2) j) (at + pointsSize ps)
+      inside in
       let each : (j at : ℕ) → one j at ≡ other j at = λ j at.
       let a = reach-agrees body at ps enclosing t t′ h in
       rw (
-        points-agree body (set path (level - 2) j) at (ps ++ enclosing) ps (within body at ps t) (within body at ps t′) (points-resolve (ps ++ enclosing) ps (e .2)) a,
-        groups-agree (set path (level - 2) j) (at + pointsSize ps) (ps ++ enclosing) (suc level) inside (e .3) (within body at ps t) (within body at ps t′) a,
+        points-agree body (set path (level - 2) j) at (ps ++ enclosing) ps (within body at ps t) (within body at ps t′)
+            (points-resolve (ps ++ enclosing) ps (e .2)) a,
+        groups-agree (set path (level - 2) j) (at + pointsSize ps) (ps ++ enclosing) (suc level) inside (e .3)
+            (within body at ps t) (within body at ps t′) a,
       ) in
-      let b = groups-agree path (offset + countOf s′ fill head * (pointsSize ps + groupsSize (countOf s′ fill) inside)) enclosing level behind (e .4) t t′ h in
-      rw (c, z, instances-agree one other each (countOf s′ fill head) 0 offset (pointsSize ps + groupsSize (countOf s′ fill) inside), b)
+      let b = groups-agree path (offset + countOf s′ fill head * (pointsSize ps + groupsSize (countOf s′ fill) inside)) enclosing
+      level behind (e .4) t t′ h in
+      rw (
+        c,
+        z,
+        instances-agree one other each (countOf s′ fill head) 0 offset
+            (pointsSize ps + groupsSize (countOf s′ fill) inside),
+        b,
+      )

@@ -18,15 +18,11 @@ use Rattle.listing.specs.Removed.{keepsId}
 other-way : (a b : ℕ) → eqb a b ≡ false → eqb b a ≡ false
 other-way a b e = ne-eqb b a (λ q. eqb-false a b e (sym q))
 
-module _ (d : Definition) (ds : List Definition) (m : Model) where
-  -- The first definition reads a model of its id, and those behind it any other.
-  pub reading-first : eqb (d .id) (m .id) ≡ true → reading (d ∷ ds) m ≡ readBy (m .id) (d .top) (m .body)
-  unfolding reading
-  reading-first e = rw (e, reading)
-
-  pub reading-later : eqb (d .id) (m .id) ≡ false → reading (d ∷ ds) m ≡ reading ds m
-  unfolding reading
-  reading-later e = rw (e, reading)
+-- A model is not read by a first definition of another id.
+reading-later : (d : Definition) (ds : List Definition) (m : Model) → eqb (d .id) (m .id) ≡ false
+    → reading (d ∷ ds) m ≡ reading ds m
+unfolding reading
+reading-later d ds m e = rw (e, reading)
 
 -- A model whose id no definition has is unknown, whatever is kept.
 pub unknown-left : (choice : List Bool) (ds : List Definition) (m : Model) → among (m .id) (idsOf ds) ≡ false

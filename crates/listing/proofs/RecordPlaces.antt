@@ -11,7 +11,8 @@ use Rattle.listing.specs.Points.{ModelPoint}
 use Rattle.listing.specs.Reading.{Reading, unknown, faulty, points}
 use Rattle.listing.specs.Listing.{recordOf, Answer, refused, listed, inFront, walk}
 use Rattle.listing.proofs.PointsInside.{Inside}
-use Rattle.listing.proofs.RaisedWalks.{withModel, raisedAnswer}
+use Rattle.listing.proofs.WalkSteps.{withModel}
+use Rattle.listing.proofs.RaisedWalks.{raisedAnswer}
 use Rattle.listing.proofs.WalkMoved.{walk-first}
 
 -- An address lies in the model with an index, of models from address `at` on, or right behind it.

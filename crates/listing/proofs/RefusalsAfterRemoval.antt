@@ -13,18 +13,7 @@ use Rattle.register_map.specs.Scan.{Model, scan}
 use Rattle.listing.specs.Listing.{Record, recordWidth, Answer, refused, listed, withRoom, listing}
 use Rattle.listing.specs.Removed.{recordsLeft, keepsAt}
 use Rattle.listing.proofs.RefusalNumbers.{Between, catalog-number}
-use Rattle.listing.proofs.ListingCases.{
-  with-room,
-  Case,
-  catalogRefused,
-  openingRefused,
-  walkRefused,
-  noRoom,
-  allListed,
-  listing-case,
-  listing-walks,
-  listing-unopened,
-}
+use Rattle.listing.proofs.ListingCases.{with-room, Case, catalogRefused, openingRefused, walkRefused, noRoom, allListed, listing-case, listing-walks, listing-unopened}
 use Rattle.listing.proofs.WalksBehind.{walk-number, short-walks, refused-walks}
 use Rattle.listing.proofs.WalksLeft.{listed-left, refused-left}
 use Rattle.listing.proofs.Headers.{headers-at-end}

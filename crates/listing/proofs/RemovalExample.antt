@@ -15,17 +15,7 @@ use Rattle.catalog.specs.Removal.{keeping, allButOne}
 use Rattle.register_map.specs.Headers.{opening}
 use Rattle.register_map.specs.Scan.{scanFrom, scan}
 use Rattle.listing.specs.Points.{ModelPoint, pointAt}
-use Rattle.listing.specs.Layout.{
-  within,
-  groupsSize,
-  fillSize,
-  countUnimplemented,
-  fits,
-  fillOf,
-  pointsAt,
-  groupsAt,
-  contentAt,
-}
+use Rattle.listing.specs.Layout.{within, groupsSize, fillSize, countUnimplemented, fits, fillOf, pointsAt, groupsAt, contentAt}
 use Rattle.listing.specs.Reading.{endsWithPad, laidOut, readBy, reading}
 use Rattle.listing.specs.Listing.{Record, recordWidth, listed, walk, withRoom, listedBy, listing}
 use Rattle.listing.specs.Removed.{keepsId, recordsLeft}

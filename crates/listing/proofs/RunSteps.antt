@@ -7,23 +7,12 @@ use Prim.Native.Nat.{ℕ, _+_, _-_, _*_, _≤_}
 use native.Mathlib.Omega.{arith}
 use lib.Dec.{eqb}
 use lib.ListN.{length}
-use Rattle.values.specs.Each.{Each}
 use Rattle.catalog.specs.Frames.{Point}
 use Rattle.catalog.specs.Definitions.{pointsSize}
-use Rattle.catalog.specs.Soundness.{SoundPoint}
-use Rattle.catalog.proofs.GroupSizes.{point-size}
 use Rattle.listing.specs.Reading.{pad, endsWithPad}
 use Rattle.listing.specs.Walks.{heldAt, Stands, pointOf, frameIn}
 use Rattle.listing.specs.Answers.{RunOf}
 use Rattle.listing.proofs.Standing as standing
-
--- Sound points take at most 64 registers each.
-pub points-small : (reach ps : List Point) → Each (SoundPoint reach) ps → pointsSize ps ≤ 64 * length ps
-points-small reach [] e = omega arith
-points-small reach (p ∷ ps) e =
-    let s = point-size reach p (e .0) .1 in
-    let r = points-small reach ps (e .1) in
-    omega arith
 
 -- Is the last of these points a pad, or where there is none, was the one in front of them?
 abbrev pub lastIsPad : Bool → List Point → Bool
@@ -31,13 +20,13 @@ lastIsPad before [] = before
 lastIsPad before (p ∷ ps) = endsWithPad (p ∷ ps)
 
 -- No point is in front.
-pub pad-none : (ps : List Point) → lastIsPad false ps ≡ endsWithPad ps
+pad-none : (ps : List Point) → lastIsPad false ps ≡ endsWithPad ps
 unfolding endsWithPad
 pad-none [] = refl
 pad-none (p ∷ ps) = refl
 
 -- A point is passed.
-pub pad-next : (before : Bool) (p : Point) (ps : List Point) → lastIsPad (eqb (p .typeCode) pad) ps ≡ lastIsPad before (p ∷ ps)
+pad-next : (before : Bool) (p : Point) (ps : List Point) → lastIsPad (eqb (p .typeCode) pad) ps ≡ lastIsPad before (p ∷ ps)
 unfolding endsWithPad
 pad-next before p [] = refl
 pad-next before p (q ∷ ps) = refl

@@ -1,4 +1,4 @@
--- The size of a model by its counts: what the fill group adds, and refusal 29 as one equation.
+-- The sizes of points, and the size of a model by its counts: what the fill group adds, and refusal 29 as one equation.
 use mathlib.Core.Path.{_≡_, refl, sym, ap, _∙_}
 use mathlib.Core.Bool.{Bool, true, false, _&&_}
 use mathlib.Core.List.{List, [], _∷_, _++_}
@@ -12,6 +12,7 @@ use lib.Dec.{eqb, leb}
 use lib.ListN.{length}
 use Rattle.values.specs.Each.{Each}
 use Rattle.catalog.specs.Frames.{Point, Head, constantCount, countByPoint, fill}
+use Rattle.catalog.specs.Rules.{isSizeOf}
 use Rattle.catalog.specs.Checking.{accepted, checked}
 use Rattle.catalog.specs.Definitions.{Groups, noGroup, group, Content, Definition, definitions, pointsSize}
 use Rattle.catalog.specs.Soundness.{SoundPoint, SoundGroups}
@@ -21,11 +22,31 @@ use Rattle.catalog.proofs.EveryGroup.{of-models}
 use Rattle.listing.specs.Points.{Scope}
 use Rattle.listing.specs.Layout.{topScope, countOf, groupsSize, fillSize, restSize, fillSizeOf, fits, fillOf, countsOf}
 use Rattle.listing.specs.Counts.{sizeOr0}
+use Rattle.listing.proofs.EachLaws.{each-implied}
 
--- Sound points, one or more, take at least one register.
-pub points-take-registers : (reach ps : List Point) → 1 ≤ length ps → Each (SoundPoint reach) ps → 1 ≤ pointsSize ps
-points-take-registers reach [] l e = absurd (omega arith)
-points-take-registers reach (p ∷ ps) l e = let s = point-size reach p (e .0) .0 in omega arith
+-- ---- Sound points
+
+-- Each has a size of its type,
+pub points-sized : (reach ps : List Point) → Each (SoundPoint reach) ps → Each (λ p. isSizeOf (p .typeCode) (p .size) ≡ true) ps
+points-sized reach ps = each-implied (SoundPoint reach) (λ p. isSizeOf (p .typeCode) (p .size) ≡ true) (λ p s. s .sized) ps
+
+-- takes a register or more,
+pub points-fit : (reach ps : List Point) → Each (SoundPoint reach) ps → length ps ≤ pointsSize ps
+points-fit reach [] e = omega arith
+points-fit reach (p ∷ ps) e =
+    let s = point-size reach p (e .0) .0 in
+    let r = points-fit reach ps (e .1) in
+    omega arith
+
+-- and 64 at most.
+pub points-small : (reach ps : List Point) → Each (SoundPoint reach) ps → pointsSize ps ≤ 64 * length ps
+points-small reach [] e = omega arith
+points-small reach (p ∷ ps) e =
+    let s = point-size reach p (e .0) .1 in
+    let r = points-small reach ps (e .1) in
+    omega arith
+
+-- ---- Groups
 
 module _ (s : Scope) (f : ℕ) where
   -- The fill group has as many instances as fill the model.
@@ -47,7 +68,7 @@ module _ (s : Scope) (f : ℕ) where
           absurd (n (omega arith))
 
   -- No group below level 2 is the fill group, so the size of such groups does not depend on it either.
-  pub lower-size : (top enclosing : List Point) (level : ℕ) (g : Groups) → 3 ≤ level → SoundGroups top enclosing level g
+  lower-size : (top enclosing : List Point) (level : ℕ) (g : Groups) → 3 ≤ level → SoundGroups top enclosing level g
       → groupsSize (countOf s f) g ≡ groupsSize (countOf s 0) g
   unfolding groupsSize
   lower-size top enclosing level noGroup l e = refl
@@ -114,9 +135,9 @@ fill-takes-registers count top enclosing level (group h ps inside behind) e size
     go : (b : Bool) → (fillSize count behind ≡ some size → 1 ≤ size)
         → elim b [ true ↦ some I | false ↦ fillSize count behind ] ≡ some size → 1 ≤ size
     go true rest p =
-        let own = points-take-registers (ps ++ enclosing) ps (e .1) (e .2) in
+        let own = points-fit (ps ++ enclosing) ps (e .2) in
         let same : I ≡ size = cc in
-        omega (arith, own, same)
+        omega (arith, e .1, own, same)
     go false rest p = rest p
 
 -- ---- Refusal 29

@@ -41,7 +41,7 @@ module _ (ws : List ℕ) (i : ℕ) where
   onward-none h = let n = length-from ws 0 (length ws / 8) in drop-of-length-le (frames ws) {i = i} (omega arith)
 
   -- The frames behind some of these.
-  pub skipped : (xs ys : List Frame) → onward ws i ≡ xs ++ ys → onward ws (i + length xs) ≡ ys
+  skipped : (xs ys : List Frame) → onward ws i ≡ xs ++ ys → onward ws (i + length xs) ≡ ys
   skipped xs ys e = sym (drop-drop (length xs) i (frames ws)) ∙ ap (drop (length xs)) e ∙ drop-append-seam xs ys
 
   -- The first of the frames from frame i on is frame i.
@@ -60,7 +60,7 @@ module _ (ws : List ℕ) (i : ℕ) where
 module _ (ws : List ℕ) (i : ℕ) (ps : List Point) (gs : Groups) (rest : List Frame)
     (e : onward ws i ≡ contentFrames ps gs rest) where
   -- The open group holds the points and groups whose frames stand there.
-  pub content-back : heldAt ws i ≡ record { points = ps; groups = gs }
+  content-back : heldAt ws i ≡ record { points = ps; groups = gs }
   unfolding heldAt
   content-back =
       let held = points-read ps gs (groupFrames gs ++ (endFrame ∷ rest)) (parsed rest) (groups-read gs rest) in
@@ -74,7 +74,7 @@ module _ (ws : List ℕ) (i : ℕ) (ps : List Point) (gs : Groups) (rest : List 
       (p, g, record { behind = rest; here = e ∙ rw (p, g) })
 
   -- Behind the points stand the groups.
-  pub groups-there : onward ws (i + length ps) ≡ contentFrames [] gs rest
+  groups-there : onward ws (i + length ps) ≡ contentFrames [] gs rest
   groups-there = ap (λ n. onward ws (i + n)) (sym (length-points ps))
       ∙ skipped ws i (pointFrames ps) (groupFrames gs ++ (endFrame ∷ rest)) e
 

@@ -1,87 +1,64 @@
 -- A model surveyed by the definition that begins at a frame of an accepted catalog, with a table of the points in reach.
 use mathlib.Core.Path.{_≡_, refl, sym, ap, subst, _∙_}
-use mathlib.Core.Bool.{Bool, true, false}
-use mathlib.Core.List.{List, [], _∷_}
-use mathlib.Core.Option.{Option, none, some}
-use Prim.Native.Nat.{ℕ, _+_, _-_, _/_, _≤_, _<_}
+use mathlib.Core.Bool.{true, false}
+use mathlib.Core.List.{List}
+use mathlib.Core.Option.{some}
+use Prim.Native.Nat.{ℕ, _-_, _≤_, _<_}
 use native.Mathlib.Omega.{arith}
 use lib.ListN.{length, getD}
 use Rattle.values.specs.Each.{Each}
-use Rattle.catalog.specs.Frames.{Point}
-use Rattle.catalog.specs.Rules.{isSizeOf}
-use Rattle.catalog.specs.Definitions.{Content, Definition, definitions, pointsSize}
-use Rattle.catalog.specs.Soundness.{In, SoundPoint, SoundGroups, SoundDefinition}
-use Rattle.catalog.proofs.TestLaws.{clash}
-use Rattle.listing.specs.Layout.{nothing, within, topScope, countUnimplemented, fits, fillOf, contentAt}
-use Rattle.listing.specs.Reading.{Reading, unknown, padLeftOut, readBy, reading}
+use Rattle.catalog.specs.Definitions.{Content, definitions, pointsSize}
+use Rattle.catalog.specs.Soundness.{SoundPoint, SoundGroups}
+use Rattle.listing.specs.Layout.{nothing, topScope, fits, fillOf, contentAt}
+use Rattle.listing.specs.Reading.{padLeftOut, readBy}
 use Rattle.listing.specs.Walks.{heldAt, Stands, Accepted, topOf, scopeIn, noted, begun, IsTable, surveyedRefused, surveyedPoints, surveyed, Ready, AtGroups}
 use Rattle.listing.specs.Answers.{RunOf, ExtentOf, fittedBy, surveyForm, ReadyBy}
 use Rattle.listing.specs.declared.extents.Run.{Run}
 use Rattle.listing.specs.declared.extents.Extent.{Extent}
 use Rattle.listing.specs.declared.surveys.Survey.{Survey}
 use Rattle.listing.proofs.Standing as standing
-use Rattle.listing.proofs.AcceptedModels.{accepted-few, top-sound, reading-top}
+use Rattle.listing.proofs.AcceptedModels.{accepted-few, top-points-sound, top-groups-sound}
+use Rattle.listing.proofs.Sizes.{points-sized}
 use Rattle.listing.proofs.IntoGroups.{top-groups}
-use Rattle.listing.proofs.GroupNumbers.{point-among}
-use Rattle.listing.proofs.ReachOnly.{within-agrees}
+use Rattle.listing.proofs.ReachOnly.{Agree, within-own}
 use Rattle.listing.proofs.NotedPoints.{noted-length, noted-scope, numbers-in-table, begun-all}
 use Rattle.listing.proofs.LeftOutPad.{but-one, left-out, no-fill}
 use Rattle.listing.proofs.SurveyedModels as models
 
--- A model is read by the definition that is found by its id,
-pub read-known : (ds : List Definition) (id : ℕ) (body : List ℕ) (c : Content) → topOf id ds ≡ some c
-    → reading ds (record { id = id; body = body }) ≡ readBy id c body
-read-known ds id body c e =
-    reading-top ds (record { id = id; body = body }) ∙ ap (λ o. elim o [ none ↦ unknown | some t ↦ readBy id t body ]) e
-
--- and is unknown where none is.
-pub read-unknown : (ds : List Definition) (id : ℕ) (body : List ℕ) → topOf id ds ≡ none
-    → reading ds (record { id = id; body = body }) ≡ unknown
-read-unknown ds id body e =
-    reading-top ds (record { id = id; body = body }) ∙ ap (λ o. elim o [ none ↦ unknown | some t ↦ readBy id t body ]) e
-
--- The sizes of sound points.
-sizes : (reach ps : List Point) → Each (SoundPoint reach) ps → Each (λ p. isSizeOf (p .typeCode) (p .size) ≡ true) ps
-sizes reach [] s = tt
-sizes reach (p ∷ ps) s = (s .0 .sized, sizes reach ps (s .1))
-
-module _ (ws : List ℕ) (id first : ℕ) (accepted : Accepted ws) (stands : Stands ws first)
+module _ {ws : List ℕ} (id : ℕ) {first : ℕ} (accepted : Accepted ws) (stands : Stands ws first)
     (known : topOf id (definitions ws) ≡ some (heldAt ws first)) where
   abbrev c : Content
   c = heldAt ws first
 
   -- The definition is sound.
   sound-points : Each (SoundPoint (c .points)) (c .points)
-  sound-points =
-      let d = top-sound ws id c accepted known in subst (λ t. Each (SoundPoint (t .points)) (t .points)) (d .3) (d .1 .points)
+  sound-points = top-points-sound ws id c accepted known
 
   sound-groups : SoundGroups (c .points) (c .points) 2 (c .groups)
-  sound-groups =
-      let d = top-sound ws id c accepted known in
-      subst (λ t. SoundGroups (t .points) (t .points) 2 (t .groups)) (d .3) (d .1 .groups)
+  sound-groups = top-groups-sound ws id c accepted known
 
   -- A run has no more points than the catalog has frames.
-  pub few-points : (run : Run) → RunOf ws first run → run .points ≤ 4096
-  few-points run r =
+  pub few-points : {run : Run} → RunOf ws first run → run .points ≤ 4096
+  few-points r =
       let n = r .points in
       let w = standing.past-end-within ws first stands in
       let f = accepted-few ws accepted in
       omega arith
 
   -- Where a pad is left out, there is a point.
-  pub one-point : (run : Run) (len : ℕ) → RunOf ws first run → padLeftOut id c len ≡ true → 1 ≤ run .points
-  one-point run len r e =
+  pub has-point : {run : Run} (len : ℕ) → RunOf ws first run → padLeftOut id c len ≡ true → 1 ≤ run .points
+  has-point len r e =
       let n = r .points in
       let b = but-one (c .points) (left-out id c len e .1) in
       omega (arith, b)
 
   -- Behind the run stand the groups.
-  pub at-groups : (run : Run) → RunOf ws first run → AtGroups ws (run .next) 3
-  at-groups run r = subst (λ i. AtGroups ws i 3) (sym (r .next)) (top-groups ws id first accepted stands known)
+  pub at-groups : {run : Run} → RunOf ws first run → AtGroups ws (run .next) 3
+  at-groups r = subst (λ i. AtGroups ws i 3) (sym (r .next)) (top-groups ws id first accepted stands known)
 
   -- ---- With the table behind the run
 
-  module _ (body table after : List ℕ) (isTable : IsTable table)
+  module _ (body table : List ℕ) {after : List ℕ} (isTable : IsTable table)
       (noting : after ≡ noted body 0 (begun (length body) 0 (c .points)) table) where
     pub still-table : IsTable after
     still-table =
@@ -93,25 +70,25 @@ module _ (ws : List ℕ) (id first : ℕ) (accepted : Accepted ws) (stands : Sta
         record { known = known; stands = stands; filling = e; isTable = still-table; before = table; tableNoted = noting }
 
     -- A model without its pad.
-    pub pad-left-out : (run : Run) → RunOf ws first run → padLeftOut id c (length body) ≡ true
+    pub pad-left-out : {run : Run} → RunOf ws first run → padLeftOut id c (length body) ≡ true
         → (surveyedPoints (run .points - 1) ≡ surveyed (readBy id c body)) × (Ready ws id body after first 0 × IsTable after)
-    pad-left-out run r e =
+    pad-left-out r e =
         let n = no-fill c body (left-out id c (length body) e .0) in
         (ap (λ k. surveyedPoints (k - 1)) (r .points) ∙ models.pad-surveyed id c body e, (ready 0 (sym n), still-table))
 
     module _ (words : (k : ℕ) → getD ws k 0 < 65536) (short : length body ≤ 65535)
         (kept : padLeftOut id c (length body) ≡ false) (long : pointsSize (c .points) ≤ length body) where
       -- The table holds the scope of the top group, as far as its points go.
-      agrees : (p : Point) → In p (c .points) → scopeIn after (p .number) ≡ topScope (c .points) body (p .number)
+      agrees : Agree (c .points) (scopeIn after) (topScope (c .points) body)
       agrees p i =
-          let all = begun-all (length body) 0 (c .points) (sizes (c .points) (c .points) sound-points) (omega arith) in
+          let all = begun-all (length body) 0 (c .points) (points-sized (c .points) (c .points) sound-points) (omega arith) in
           let there : after ≡ noted body 0 (c .points) table = noting ∙ ap (λ ps. noted body 0 ps table) all in
           let scope = noted-scope body 0 (c .points) table isTable (numbers-in-table ws words first stands) in
           ap (λ t. scopeIn t (p .number)) there
           ∙ ap (λ s. s (p .number)) scope
-          ∙ within-agrees body 0 (c .points) (scopeIn table) nothing (p .number) (λ f. clash (sym (point-among p (c .points) i) ∙ f))
+          ∙ within-own body 0 (c .points) (scopeIn table) nothing p i
 
-      module _ (run : Run) (r : RunOf ws first run) (groups : Extent)
+      module _ {run : Run} (r : RunOf ws first run) {groups : Extent}
           (x : ExtentOf (scopeIn after) (heldAt ws (run .next) .groups) groups) where
         -- The extent is that by the definition.
         extent : ExtentOf (topScope (c .points) body) (c .groups) groups
@@ -126,9 +103,9 @@ module _ (ws : List ℕ) (id first : ℕ) (accepted : Accepted ws) (stands : Sta
         unimplemented u = models.unimplemented-surveyed id c body kept long (sym (extent .unimplemented) ∙ u)
 
         -- 29, or the points.
-        pub surveyed-here : groups .unimplemented ≡ false → (s : Survey) → s ≡ fittedBy first run groups (length body)
+        pub surveyed-here : groups .unimplemented ≡ false → {s : Survey} → s ≡ fittedBy first run groups (length body)
             → (surveyForm s ≡ surveyed (readBy id c body)) × (ReadyBy ws id body after s × IsTable after)
-        surveyed-here u s q =
+        surveyed-here u {s} q =
             let d = q ∙ models.fitted-by-definition first run groups c body short sound-groups (r .size) (r .points) extent in (
               models.fits-surveyed id c body kept long s first (sym (extent .unimplemented) ∙ u) d,
               (

@@ -2,30 +2,30 @@
 -- a bound decide 29, the number of points and the fill as those by the definition do.
 use mathlib.Core.Path.{_≡_, refl, sym, ap, subst, _∙_}
 use mathlib.Core.Bool.{Bool, true, false, _&&_}
-use mathlib.Core.List.{List, [], _∷_, _++_}
+use mathlib.Core.List.{List, _++_}
 use mathlib.Core.Option.{Option, none, some}
-use Prim.Native.Nat.{ℕ, zero, suc, min, _+_, _*_, _-_, _/_, _%_, _≤_, _<_}
+use Prim.Native.Nat.{ℕ, suc, min, _+_, _*_, _-_, _/_, _%_, _≤_, _<_}
 use native.Mathlib.Decide.{decLe}
 use native.Mathlib.Nat.{zero-mul, div-eq-of-lt}
 use native.Mathlib.Omega.{arith}
-use borrow.Author.Tests.{eqb-true, eqb-false, eq-eqb, ne-eqb, ltb-true, ltb-false, le-ltb, lt-ltb, leb-true, leb-false, le-leb, lt-leb}
+use borrow.Author.Tests.{eqb-true, eqb-false, eq-eqb, ne-eqb, ltb-true, ltb-false, le-ltb, lt-ltb, leb-true, leb-false}
 use lib.Dec.{eqb, leb, ltb}
 use lib.ListN.{length}
 use Rattle.catalog.specs.Frames.{Point, Head, fill}
 use Rattle.catalog.specs.Definitions.{Groups, noGroup, group, Content, pointsSize}
 use Rattle.catalog.specs.Soundness.{In, SoundGroups}
-use Rattle.catalog.proofs.TestLaws.{clash, both, by-test}
+use Rattle.catalog.proofs.TestLaws.{by-test}
 use Rattle.listing.specs.Points.{Scope}
 use Rattle.listing.specs.Layout.{topScope, countOf, groupsSize, fillSize, countUnimplemented, fillSizeOf, fits, fillOf, pointsAt, noInstance, contentAt}
 use Rattle.listing.specs.Counts.{groupsPoints, fillPoints, sizeOr0}
-use Rattle.listing.specs.Reading.{Reading, faulty, points, belowTopPoints, countPointUnimplemented, notTheSize, allButLast, padLeftOut, laidOut, readBy}
-use Rattle.listing.specs.Walks.{Surveyed, surveyedRefused, surveyedPoints, surveyed, Ready}
+use Rattle.listing.specs.Reading.{faulty, points, belowTopPoints, countPointUnimplemented, notTheSize, allButLast, padLeftOut, laidOut, readBy}
+use Rattle.listing.specs.Walks.{surveyedRefused, surveyedPoints, surveyed, Ready}
 use Rattle.listing.specs.Answers.{ExtentOf, fittedBy, surveyForm, ReadyBy}
 use Rattle.listing.specs.declared.extents.Run.{Run}
 use Rattle.listing.specs.declared.extents.Extent.{Extent}
 use Rattle.listing.specs.declared.surveys.Survey.{Survey}
-use Rattle.listing.proofs.Sizes.{fill-takes-registers}
-use Rattle.listing.proofs.PointCounts.{points-counted, content-counted, groups-fit, points-fit, fill-adds-points}
+use Rattle.listing.proofs.Sizes.{points-fit, fill-takes-registers}
+use Rattle.listing.proofs.PointCounts.{points-counted, content-counted, groups-fit, fill-adds-points}
 use Rattle.listing.proofs.Capping.{capped-remainder, capped-quotient}
 use Rattle.listing.proofs.LeftOutPad.{but-one, left-out}
 use Rattle.listing.proofs.CountsAgree.{sizes-agree, points-agree, fill-sizes-agree, fill-points-agree, unimplemented-agrees}

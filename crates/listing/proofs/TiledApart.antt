@@ -9,7 +9,7 @@ use Rattle.listing.specs.Tiling.{Tiles}
 
 module _ {A : Type 0} (at number : A → ℕ) where
   -- Tiling goes upward.
-  upward : (from to : ℕ) (xs : List A) (qs : List Point) → Tiles at number from to xs qs → from ≤ to
+  pub upward : (from to : ℕ) (xs : List A) (qs : List Point) → Tiles at number from to xs qs → from ≤ to
   upward from to [] [] t = omega arith
   upward from to [] (q ∷ qs) t = absurd t
   upward from to (x ∷ xs) [] t = absurd t

@@ -15,7 +15,8 @@ use Rattle.listing.specs.Reading.{Reading, unknown, faulty, points}
 use Rattle.listing.specs.Listing.{Record, recordOf, Answer, refused, listed, walk}
 use Rattle.listing.specs.Stability.{shifted}
 use Rattle.listing.proofs.WalkSteps.{walk-unknown}
-use Rattle.listing.proofs.RaisedWalks.{withModel, walk-model, raised, raisedAnswer, walk-raised}
+use Rattle.listing.proofs.WalkSteps.{withModel, walk-model}
+use Rattle.listing.proofs.RaisedWalks.{raised, raisedAnswer, walk-raised}
 
 -- ---- Over unknown models
 

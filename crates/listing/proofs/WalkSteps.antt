@@ -1,22 +1,51 @@
--- Listing model by model: a model by what is read of it, and the end.
-use mathlib.Core.Path.{_≡_, refl, sym, _∙_}
-use mathlib.Core.List.{List, [], _∷_, map}
+-- Listing model by model: a model, by what is read of it, in front of what is found behind it.
+use mathlib.Core.Path.{_≡_, refl, sym, ap, _∙_}
+use mathlib.Core.List.{List, [], _∷_, _++_, map}
 use Prim.Native.Nat.{ℕ, _+_}
+use native.Mathlib.Omega.{arith}
 use Rattle.register_map.specs.Scan.{Model, sizeOf, Ending}
 use Rattle.listing.specs.Points.{ModelPoint}
 use Rattle.listing.specs.Reading.{Reading, unknown, faulty, points, Fault, faultNumber}
-use Rattle.listing.specs.Listing.{recordOf, Answer, refused, listed, inFront, walk}
+use Rattle.listing.specs.Listing.{Record, recordOf, Answer, refused, listed, inFront, walk}
 
 -- With no records in front an answer is as it was.
-pub none-in-front : (answer : Answer) → inFront [] answer ≡ answer
+none-in-front : (answer : Answer) → inFront [] answer ≡ answer
 none-in-front (refused number place headers) = refl
 none-in-front (listed rs headers) = refl
+
+-- No answer is both a refusal and a list.
+pub not-listed : {A : Type 0} {number place models headers : ℕ} {rs : List Record}
+    → refused number place models ≡ listed rs headers → A
+not-listed e = let z : _≡_ {A = ℕ} 0 1 = cc in absurd (omega arith)
+
+-- With records in front an answer lists these and what it lists.
+pub in-front-listed : (front : List Record) (answer : Answer) (rs : List Record) (headers : ℕ)
+    → inFront front answer ≡ listed rs headers
+    → (ss : List Record) × (answer ≡ listed ss headers) × (rs ≡ front ++ ss)
+in-front-listed front (refused number place models) rs headers e = not-listed e
+in-front-listed front (listed ss n) rs headers e = (ss, ap (λ k. listed ss k) cc, cc)
+
+-- A model with an index at an address, by what is read of it, in front of the answer from behind it on.
+abbrev pub withModel : Reading → ℕ → ℕ → Model → Answer → Answer
+withModel r index at m behind =
+    elim r [
+      | unknown ↦ behind
+      | faulty fault ↦ refused (faultNumber fault) at index
+      | points ps ↦ inFront (map (recordOf index at m) ps) behind
+    ]
+
+-- A walk is its first model in front of the walk behind it.
+pub walk-model : (read : Model → Reading) (ending : Ending) (index at : ℕ) (m : Model) (ms : List Model)
+    → walk read ending index at (m ∷ ms) ≡ withModel (read m) index at m (walk read ending (index + 1) (at + sizeOf m) ms)
+unfolding walk
+walk-model read ending index at m ms = refl
 
 module _ (read : Model → Reading) (ending : Ending) (index at : ℕ) (m : Model) (ms : List Model) where
   -- An unknown model is stepped over.
   pub walk-unknown : read m ≡ unknown → walk read ending index at (m ∷ ms) ≡ walk read ending (index + 1) (at + sizeOf m) ms
-  unfolding walk
-  walk-unknown e = rw (e, walk)
+  walk-unknown e =
+      let rest = walk read ending (index + 1) (at + sizeOf m) ms in
+      walk-model read ending index at m ms ∙ ap (λ r. withModel r index at m rest) e
 
   pub walk-no-records : read m ≡ unknown
       → walk read ending index at (m ∷ ms) ≡ inFront [] (walk read ending (index + 1) (at + sizeOf m) ms)
@@ -25,12 +54,14 @@ module _ (read : Model → Reading) (ending : Ending) (index at : ℕ) (m : Mode
   -- A faulty one is refused.
   pub walk-faulty : {fault : Fault} → read m ≡ faulty fault
       → walk read ending index at (m ∷ ms) ≡ refused (faultNumber fault) at index
-  unfolding walk
-  walk-faulty e = rw (e, walk)
+  walk-faulty e =
+      let rest = walk read ending (index + 1) (at + sizeOf m) ms in
+      walk-model read ending index at m ms ∙ ap (λ r. withModel r index at m rest) e
 
   -- The records of the others stand in front of those behind them.
   pub walk-points : {ps : List ModelPoint} → read m ≡ points ps
       → walk read ending index at (m ∷ ms)
       ≡ inFront (map (recordOf index at m) ps) (walk read ending (index + 1) (at + sizeOf m) ms)
-  unfolding walk
-  walk-points e = rw (e, walk)
+  walk-points e =
+      let rest = walk read ending (index + 1) (at + sizeOf m) ms in
+      walk-model read ending index at m ms ∙ ap (λ r. withModel r index at m rest) e

@@ -1,7 +1,7 @@
 -- The walk behind an answer: acceptance, 30, and a refusal of 22 to 29 each tell what the walk came to.
 use mathlib.Core.Path.{_≡_, subst}
 use mathlib.Core.List.{List}
-use mathlib.Core.Logic.{_⊎_, ⊎-elim}
+use mathlib.Core.Logic.{⊎-elim}
 use Prim.Native.Nat.{ℕ, _*_, _≤_, _<_}
 use native.Mathlib.Nat.{eq-or-lt-of-le}
 use native.Mathlib.Omega.{arith}
@@ -12,16 +12,7 @@ use Rattle.listing.specs.Reading.{reading}
 use Rattle.listing.specs.Listing.{Record, recordWidth, Answer, refused, listed, listing}
 use Rattle.listing.proofs.RefusalNumbers.{Between, catalog-number, opening-number, ending-number}
 use Rattle.listing.proofs.WalkHeaders.{HeadersWalked, walk-headers}
-use Rattle.listing.proofs.ListingCases.{
-  Walks,
-  Case,
-  catalogRefused,
-  openingRefused,
-  walkRefused,
-  noRoom,
-  allListed,
-  listing-case,
-}
+use Rattle.listing.proofs.ListingCases.{Walks, Case, catalogRefused, openingRefused, walkRefused, noRoom, allListed, listing-case}
 
 module _ (catalog map : List ℕ) where
   -- The headers of an answer of the walk.

@@ -1,18 +1,13 @@
 -- The answer of listing and the list behind it, by what decides them.
 use mathlib.Core.Path.{_≡_, refl, sym, ap, _∙_}
 use mathlib.Core.List.{List}
-use mathlib.Core.Option.{none, some}
 use Prim.Native.Nat.{ℕ, _*_, _/_, _≤_, _<_}
 use native.Mathlib.Omega.{arith}
-use borrow.Author.Tests.{lt-ltb, le-ltb}
+use borrow.Author.Tests.{lt-ltb}
 use lib.ListN.{length}
-use Rattle.catalog.specs.Checking as Checking
-use Rattle.catalog.specs.Definitions.{definitions}
-use Rattle.register_map.specs.Headers.{opening}
-use Rattle.register_map.specs.Scan.{Model}
-use Rattle.listing.specs.Reading.{Reading, reading}
-use Rattle.listing.specs.Listing.{recordWidth, Answer, refused, listed, withRoom, walked, listedBy, listing, stored, Told, refusedTold, listedTold, told}
+use Rattle.listing.specs.Listing.{recordWidth, Answer, refused, listed, withRoom, stored, Told, refusedTold, listedTold, told}
 use Rattle.listing.specs.Answers.{WalkFits}
+use Rattle.listing.proofs.ListingCases.{with-room}
 
 -- What is told and what the list is then are those of an answer.
 abbrev pub Answered : Answer → List ℕ → Told → List ℕ → Type 0
@@ -49,7 +44,7 @@ module _ (out : List ℕ) where
   has-room (listed rs behind) points headers e f =
       let n : points ≡ length rs = cc in
       let fits : recordWidth * length rs ≤ length out = omega arith in
-      (fits, rw (le-ltb (length out) (recordWidth * length rs) fits, withRoom))
+      (fits, with-room (length out) rs behind fits)
 
   -- A refusal at a header comes first.
   pub before-room : (a : Answer) (number place headers : ℕ) → refusedTold number place headers ≡ told a
@@ -57,27 +52,3 @@ module _ (out : List ℕ) where
   unfolding withRoom stored
   before-room (refused n at behind) number place headers e = (e, refl)
   before-room (listed rs behind) number place headers e = let z : _≡_ {A = ℕ} 0 1 = cc in absurd (omega arith)
-
--- ---- 20 and 21
-
-module _ (read : Model → Reading) (map : List ℕ) (room : ℕ) where
-  pub opens : opening map ≡ none → listedBy read map room ≡ withRoom room (walked read map)
-  unfolding listedBy
-  opens o = rw (o, listedBy)
-
-  pub unopened : {n : ℕ} → opening map ≡ some n → listedBy read map room ≡ refused n 0 0
-  unfolding listedBy
-  unopened o = rw (o, listedBy)
-
--- ---- 1 to 11
-
-module _ (catalog map : List ℕ) (room : ℕ) where
-  pub accepted-listed : {n : ℕ} → Checking.checked catalog ≡ Checking.accepted n
-      → listing catalog map room ≡ listedBy (reading (definitions catalog)) map room
-  unfolding listing
-  accepted-listed e = rw (e, listing)
-
-  pub catalog-refused : {number place : ℕ} → Checking.checked catalog ≡ Checking.refused number place
-      → listing catalog map room ≡ refused number place 0
-  unfolding listing
-  catalog-refused e = rw (e, listing)

@@ -1,18 +1,14 @@
 -- A map made of whole models is not refused as a whole, and its models end at the end marker. So it is of the lengthened map.
 use mathlib.Core.Path.{_≡_, ap, _∙_}
-use mathlib.Core.Bool.{true}
 use mathlib.Core.List.{List, []}
-use mathlib.Core.Option.{Option, none, some}
+use mathlib.Core.Option.{none}
 use Prim.Native.Nat.{ℕ, _≤_}
-use native.Mathlib.Omega.{arith}
-use lib.Dec.{ltb}
 use lib.ListN.{length}
 use Rattle.values.specs.Each.{Each}
-use Rattle.catalog.proofs.TestLaws.{by-test}
-use Rattle.register_map.specs.Headers.{isMarked, opening}
+use Rattle.register_map.specs.Headers.{opening}
 use Rattle.register_map.specs.Scan.{Model, marked, Scan, scan, WellFormed}
 use Rattle.register_map.specs.Insertion.{allModels, placed, lengthened}
-use Rattle.register_map.proofs.HeaderLaws.{opening-marked}
+use Rattle.register_map.proofs.HeaderLaws.{opening-none, opening-marked}
 use Rattle.register_map.proofs.Lengthened.{lengthened-marked, lengthened-scan}
 use Rattle.listing.specs.Stability.{MadeOfWholeModels}
 use Rattle.listing.proofs.WalksBehind.{headers-walked, listed-walks}
@@ -21,14 +17,6 @@ use Rattle.listing.proofs.WalksBehind.{headers-walked, listed-walks}
 pub record HasModels (map : List ℕ) (ms : List Model) : Type 0 where
   pub opens : opening map ≡ none
   pub scanned : scan map ≡ record { models = ms; ending = marked }
-
--- A map that is not refused as a whole begins with 5375 6E53.
-opens-marked : (map : List ℕ) → opening map ≡ none → isMarked map ≡ true
-unfolding opening
-opens-marked map =
-    let P : Option ℕ → Type 0 = λ o. o ≡ none → isMarked map ≡ true in
-    let never : (number : ℕ) → P (some number) = λ number e. let z : _≡_ {A = ℕ} 0 1 = cc in absurd (omega arith) in
-    by-test P (ltb 65536 (length map)) (λ t. never 20) (λ t. by-test P (isMarked map) (λ u e. u) (λ u. never 21))
 
 module _ (map : List ℕ) (whole : MadeOfWholeModels map) where
   pub whole-ends : scan map .ending ≡ marked
@@ -46,5 +34,5 @@ module _ (map : List ℕ) (whole : MadeOfWholeModels map) where
   pub lengthened-models : (gaps : List (List Model)) → Each (Each WellFormed) gaps → length (lengthened map gaps) ≤ 65536
       → HasModels (lengthened map gaps) (allModels (placed (scan map .models) gaps))
   lengthened-models gaps f l =
-      let begins = lengthened-marked map whole-ends gaps ∙ opens-marked map (whole-models .opens) in
+      let begins = lengthened-marked map whole-ends gaps ∙ opening-none map (whole-models .opens) .1 in
       record { opens = opening-marked (lengthened map gaps) l begins; scanned = lengthened-scan map whole-ends gaps f }

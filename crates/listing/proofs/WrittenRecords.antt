@@ -1,6 +1,6 @@
 -- Records written into a list: one behind the other, and ten numbers each.
 use mathlib.Core.Path.{_≡_, refl, ap, _∙_}
-use mathlib.Core.List.{List, [], _∷_, _++_, map, append-assoc}
+use mathlib.Core.List.{List, [], _∷_, _++_, map, append-assoc, map-append}
 use Prim.Native.Nat.{ℕ, suc, _+_, _*_, _<_}
 use native.Mathlib.Nat.{add-zero}
 use native.Mathlib.Numerals.{add-one}
@@ -30,7 +30,7 @@ sets-more l i k vs h =
 
 -- ---- The numbers of records
 
-pub numbers-length : (r : Record) → length (numbersOf r) ≡ recordWidth
+numbers-length : (r : Record) → length (numbersOf r) ≡ recordWidth
 unfolding numbersOf
 numbers-length r = refl
 
@@ -44,10 +44,6 @@ pub entries-append : (rs ss : List Record) → entries (rs ++ ss) ≡ entries rs
 unfolding entries
 entries-append [] ss = refl
 entries-append (r ∷ rs) ss = rw (entries-append rs ss, append-assoc (numbersOf r) (entries rs) (entries ss))
-
-map-append : (f : ModelPoint → Record) (ps qs : List ModelPoint) → map f (ps ++ qs) ≡ map f ps ++ map f qs
-map-append f [] qs = refl
-map-append f (p ∷ ps) qs = ap (λ rs. f p ∷ rs) (map-append f ps qs)
 
 -- ---- Records written
 

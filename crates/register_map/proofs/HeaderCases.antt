@@ -61,7 +61,7 @@ by-case (endCase one marker l) e = let z : _≡_ {A = ℕ} 0 1 = cc in absurd (o
 by-case refusedCase e = let z : _≡_ {A = ℕ} 0 1 = cc in absurd (omega arith)
 
 -- It holds wherever a model stands.
-pub model-header : (first : Bool) (rest : List ℕ) {id len : ℕ} → headerAt first rest ≡ model id len → ModelHeader id len rest
+model-header : (first : Bool) (rest : List ℕ) {id len : ℕ} → headerAt first rest ≡ model id len → ModelHeader id len rest
 model-header first rest e = by-case (header-case first rest) e
 
 -- So a model at an address ends in the map.

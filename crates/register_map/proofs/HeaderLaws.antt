@@ -68,7 +68,7 @@ header-drop first map at h =
     (ap (headerOf first (getD map at 0) (getD map (suc at) 0)) e)
 
 -- Under two registers are left.
-pub header-none : (first : Bool) (rest : List ℕ) → length rest < 2 → headerAt first rest ≡ refused 22
+header-none : (first : Bool) (rest : List ℕ) → length rest < 2 → headerAt first rest ≡ refused 22
 header-none first [] h = refl
 header-none first (id ∷ []) h = refl
 header-none first (id ∷ len ∷ behind) h = absurd (omega arith)

@@ -2,24 +2,13 @@
 use mathlib.Core.Path.{_≡_, refl, ap, _∙_}
 use mathlib.Core.Bool.{Bool, true, false}
 use mathlib.Core.List.{List, [], _∷_, _++_, append-assoc}
-use Prim.Native.Nat.{ℕ, zero, suc, _+_, _*_, _-_, _/_, _≤_}
+use Prim.Native.Nat.{ℕ, zero, suc, _+_, _-_, _/_, _≤_}
 use native.Mathlib.Omega.{arith}
-use lib.ListN.{length, take, drop, take-append-drop, length-append, length-drop}
+use lib.ListN.{length, take, drop, take-append-drop, length-append}
 use lib.Seq.{length-take-le}
 use Rattle.values.specs.Each.{Each}
 use Rattle.register_map.specs.Headers.{endId, Header, headerAt}
-use Rattle.register_map.specs.Scan.{
-  Model,
-  totalSize,
-  marked,
-  broken,
-  Scan,
-  scanFrom,
-  scan,
-  registersOf,
-  WellFormed,
-  BeginsWith1,
-}
+use Rattle.register_map.specs.Scan.{Model, totalSize, marked, broken, Scan, scanFrom, scan, registersOf, WellFormed, BeginsWith1}
 use Rattle.register_map.proofs.HeaderCases.{HeaderCase, modelCase, endCase, refusedCase, header-case}
 use Rattle.register_map.proofs.ScanSteps.{scan-model, scan-end, scan-refused}
 use Rattle.register_map.proofs.ScanBack.{length-registers, length-total}
@@ -126,18 +115,6 @@ made-of-models (a ∷ b ∷ rest) h =
 pub scanned-well-formed : (map : List ℕ) → Each WellFormed (scan map .models)
 unfolding scan
 scanned-well-formed map = taken-apart (length map) true (drop 2 map) .wellFormed
-
--- The models scanned lie in the map behind its first two registers, three or more registers each.
-pub models-fit : (map : List ℕ) → totalSize (scan map .models) ≤ length map - 2
-unfolding scan
-models-fit map =
-    let t = taken-apart (length map) true (drop 2 map) in
-    let ms : List Model = scan map .models in
-    let e = ap length (t .shape) ∙ length-append (registersOf ms) (t .left) in
-    omega (arith, length-drop 2 map, length-registers ms)
-
-pub model-count : (map : List ℕ) → 3 * length (scan map .models) ≤ length map - 2
-model-count map = omega (arith, models-fit map, length-total (scan map .models) (scanned-well-formed map))
 
 -- Where the scan ends at the marker, its two registers lie behind the models.
 pub marked-fit : (map : List ℕ) → scan map .ending ≡ marked → totalSize (scan map .models) + 4 ≤ length map

@@ -29,11 +29,11 @@ module _ (n : ℕ) (first : Bool) (rest : List ℕ) where
   scan-refused h = rw (h, scanFrom)
 
 -- The registers behind the model at an address.
-pub behind-model : (map : List ℕ) (at len : ℕ) → drop len (drop 2 (drop at map)) ≡ drop (at + 2 + len) map
+behind-model : (map : List ℕ) (at len : ℕ) → drop len (drop 2 (drop at map)) ≡ drop (at + 2 + len) map
 behind-model map at len = rw (drop-drop 2 at map, drop-drop len (at + 2) map)
 
 -- The model at an address, and the scan behind it.
-pub scan-model-at : (n : ℕ) (first : Bool) (map : List ℕ) (at : ℕ) {id len : ℕ} → headerAt first (drop at map) ≡ model id len
+scan-model-at : (n : ℕ) (first : Bool) (map : List ℕ) (at : ℕ) {id len : ℕ} → headerAt first (drop at map) ≡ model id len
     → scanFrom (suc n) first (drop at map)
     ≡ ahead (record { id = id; body = take len (drop (at + 2) map) }) (scanFrom n false (drop (at + 2 + len) map))
 scan-model-at n first map at {id} {len} h =

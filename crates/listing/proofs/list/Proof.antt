@@ -2,7 +2,8 @@
 use mathlib.Core.Path.{sym, ap, _∙_}
 use lib.ListN.{length}
 use Rattle.catalog.specs.Answers as Catalog
-use Rattle.listing.proofs.WholeAnswer.{answered-by, refused-answered, accepted-listed, catalog-refused}
+use Rattle.listing.proofs.ListingCases.{accepted-listed, catalog-refused}
+use Rattle.listing.proofs.WholeAnswer.{answered-by, refused-answered}
 use borrow.Author.Needs.{needs}
 use Rattle.listing.proofs.list.Statement.{statement}
 use Rattle.listing.proofs.list.Tie as tie

@@ -4,7 +4,8 @@ use lib.ListN.{length}
 use Rattle.catalog.specs.Definitions.{definitions}
 use Rattle.register_map.specs.Answers.{openingForm}
 use Rattle.listing.specs.Reading.{reading}
-use Rattle.listing.proofs.WholeAnswer.{answered-by, refused-answered, opens, unopened}
+use Rattle.listing.proofs.ListingCases.{opened, unopened}
+use Rattle.listing.proofs.WholeAnswer.{answered-by, refused-answered}
 use borrow.Author.Needs.{needs}
 use Rattle.listing.proofs.list_checked.Statement.{statement}
 use Rattle.listing.proofs.list_checked.Tie as tie
@@ -34,7 +35,7 @@ returns c =
     let out = v .out .now in
     let t = c .before .before .before .before in
     let e = sym (t .before .before .opened .ensures) ∙ ap openingForm (t .enum-told .given .1) in
-    answered-by out (opens read (v .map .now) (length out) e) (c .before .before .list-opened .ensures)
+    answered-by out (opened read (v .map .now) (length out) e) (c .before .before .list-opened .ensures)
 
 returns-2 : tie.Need-returns-2
 returns-2 c =

@@ -11,14 +11,14 @@ use Rattle.register_map.proofs.HeaderLaws.{opening-none}
 use Rattle.register_map.proofs.HeaderCases.{model-ends}
 use Rattle.listing.specs.Reading.{reading}
 use Rattle.listing.specs.Walks.{IsTable}
-use Rattle.listing.proofs.MapRecords.{Writing, writing-starts, writing-ends, writing-refused, writing-late, writing-goes-on}
+use Rattle.listing.proofs.MapRecords.{WritingMap, writing-starts, writing-ends, writing-refused, writing-late, writing-goes-on}
 use borrow.Author.Needs.{needs}
 use Rattle.listing.proofs.put_map.Statement.{statement}
 use Rattle.listing.proofs.put_map.Tie as tie
 
 abbrev Inv-loop : tie.InvT-loop
 Inv-loop catalog map table₀ out₀ at₀ index₀ records₀ table out at index records =
-    Writing (reading (definitions catalog)) map out₀ out at index records × IsTable table
+    WritingMap (reading (definitions catalog)) map out₀ out at index records × IsTable table
 
 abbrev μ-loop : tie.MeasureT-loop
 μ-loop catalog map table₀ out₀ at₀ index₀ records₀ table out at index records = length map - at
@@ -77,7 +77,7 @@ loop-again c =
     let p = c .before .before .before .before .put-known in
     let read = reading (definitions (s .args .catalog .now)) in
     let Goes : List ℕ → ℕ → Type 0 =
-    λ out n. Writing read (s .args .map .now) (s .args .out .now) out (l .at + (2 + g .0 .1 .0)) (l .index + 1) n in
+    λ out n. WritingMap read (s .args .map .now) (s .args .out .now) out (l .at + (2 + g .0 .1 .0)) (l .index + 1) n in
     let on = subst (Goes _) (sym (p .ensures .0)) (next .1) in
     (subst (λ out. Goes out (p .result)) (sym (p .ensures .1 .0)) on, p .ensures .1 .1)
 

@@ -14,7 +14,7 @@ use Rattle.listing.specs.Walks.{IsTable, surveyed}
 use Rattle.listing.specs.Answers.{surveyForm}
 use Rattle.listing.proofs.MapSteps.{body-length}
 use Rattle.listing.proofs.MapSurvey.{Surveying, survey-starts, survey-ends, survey-refused, survey-late, survey-unknown, survey-faulty, more-fit, survey-points}
-use Rattle.listing.proofs.PointsFew.{points-few}
+use Rattle.listing.proofs.PointsInside.{points-few}
 use borrow.Author.Needs.{needs}
 use Rattle.listing.proofs.survey_map.Statement.{statement}
 use Rattle.listing.proofs.survey_map.Tie as tie

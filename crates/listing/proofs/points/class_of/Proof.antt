@@ -1,4 +1,4 @@
--- `class_of` classifies by the raw value of up to four registers, and of more by whether all are 0.
+-- `listing::points::class_of` meets its contract: by the raw value of up to four registers, else by whether all are 0.
 use mathlib.Core.Path.{_≡_, sym, ap, _∙_}
 use Prim.Native.Nat.{ℕ}
 use native.Mathlib.Omega.{arith}

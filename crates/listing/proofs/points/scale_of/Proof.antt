@@ -1,4 +1,4 @@
--- `scale_of` gives the scale shown by the status and the scale kind.
+-- `listing::points::scale_of` meets its contract: the scale shown, by the status and the scale kind.
 use mathlib.Core.Path.{sym}
 use borrow.Author.Needs.{needs}
 use Rattle.catalog.specs.Answers.{pointForm}

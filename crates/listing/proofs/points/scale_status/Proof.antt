@@ -1,4 +1,4 @@
--- `scale_status` classifies the register of a scale point.
+-- `listing::points::scale_status` meets its contract: the register of a scale point is classified.
 use borrow.Author.Needs.{needs}
 use Rattle.listing.proofs.points.scale_status.Statement.{statement}
 use Rattle.listing.proofs.points.scale_status.Tie as tie

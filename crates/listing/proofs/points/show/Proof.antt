@@ -1,4 +1,4 @@
--- `show` shows a point's status, raw value and scale.
+-- `listing::points::show` meets its contract: a point's status, raw value and scale.
 use mathlib.Core.Path.{ap, _∙_}
 use Prim.Native.Nat.{ℕ}
 use borrow.Author.Needs.{needs}

@@ -1,4 +1,4 @@
--- `status_of` gives the status by what the registers were found to be.
+-- `listing::points::status_of` meets its contract: the status, by what the registers were found to be.
 use borrow.Author.Needs.{needs}
 use Rattle.listing.proofs.points.status_of.Statement.{statement}
 use Rattle.listing.proofs.points.status_of.Tie as tie

@@ -1,4 +1,4 @@
--- `status_of_class` gives the status by the class of the registers, and for a value by the scale point's.
+-- `listing::points::status_of_class` meets its contract: the status by the registers' class, and for a value by the scale point.
 use mathlib.Core.Path.{sym, _∙_}
 use borrow.Author.Needs.{needs}
 use Rattle.catalog.specs.Answers.{pointForm}

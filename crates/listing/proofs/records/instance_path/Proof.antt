@@ -1,4 +1,4 @@
--- The instance number stands at its level's place in the path.
+-- `listing::records::instance_path` meets its contract: the instance number stands at its level's place.
 use borrow.Author.Needs.{needs}
 use mathlib.Core.Path.{_≡_, ap}
 use Prim.Native.Nat.{_-_}
@@ -7,22 +7,16 @@ use lib.ListN.{set}
 use Rattle.listing.specs.Walks.{levelOf}
 use Rattle.listing.proofs.records.instance_path.Statement.{statement}
 use Rattle.listing.proofs.records.instance_path.Tie as tie
-use Rattle.listing.proofs.records.instance_path.Reads as reads
-use Rattle.listing.proofs.records.instance_path.Lts as lts
 
--- src/records.rt:241:15
 sub-instances : tie.Need-sub-instances
 sub-instances c = search needs
 
--- src/records.rt:241:5
 mul-instances : tie.Need-mul-instances
 mul-instances c = search needs
 
--- src/records.rt:241:5
 array-write-instances : tie.Need-array-write-instances
 array-write-instances c = search needs
 
--- src/records.rt:235:1
 returns : tie.Need-returns
 returns c =
     let v = c .before .args in

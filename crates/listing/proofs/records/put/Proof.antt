@@ -1,4 +1,4 @@
--- `put` stores ten numbers, one by one. The invariant: storing those that are left gives what storing all gives.
+-- `listing::records::put` meets its contract: storing the numbers that are left gives what storing all ten gives.
 use mathlib.Core.Path.{_≡_, refl, _∙_}
 use Prim.Native.Nat.{_+_, _-_, _≤_}
 use native.Mathlib.Nat.{add-zero}

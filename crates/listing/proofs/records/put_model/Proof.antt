@@ -1,4 +1,4 @@
--- The records of a model are written: those of its top points, then those of its groups.
+-- `listing::records::put_model` meets its contract: the top points are written, then the groups.
 use borrow.Author.Needs.{needs}
 use mathlib.Core.Path.{_≡_, refl, ap, _∙_}
 use Prim.Native.Nat.{ℕ, _<_}
@@ -12,70 +12,88 @@ use Rattle.listing.proofs.PointCounts as counts
 use Rattle.listing.proofs.ModelWriting as model
 use Rattle.listing.proofs.records.put_model.Statement.{statement}
 use Rattle.listing.proofs.records.put_model.Tie as tie
-use Rattle.listing.proofs.records.put_model.Reads as reads
-use Rattle.listing.proofs.records.put_model.Lts as lts
-use Rattle.listing.proofs.records.put_groups.Reads as put-groups-reads
-use Rattle.listing.proofs.records.put_run.Reads as put-run-reads
 
--- src/records.rt:78:9
 put-run-requires : tie.Need-put-run-requires
 put-run-requires c κs =
-    let v = c .before .before .before .before .before .before .args in
-    let pre = c .before .before .before .before .before .before .pre in
-    let words : (k : ℕ) → getD (v .catalog .now) k 0 < 65536 = λ k. omega (arith, c .before .before .before .before .before .shared-slice-known .given k) in
-    ((pre .1 .0 .isTable, refl), model.run-asks (v .catalog .now) (v .place .id) (v .body .now) (v .table .now) (v .first) (v .fill) (v .place) (v .records) (v .out .now) (pre .0) (pre .1 .0) words (pre .1 .1 .1 .0 .0) (pre .1 .1 .1 .0 .1) (pre .1 .1 .0) (pre .1 .1 .1 .1))
+    let at-slices = c .before .before .before .before .before in
+    let at-start = at-slices .before in
+    let v = at-start .args in
+    let pre = at-start .pre in
+    let rest = pre .1 .1 in
+    let words : (k : ℕ) → getD (v .catalog .now) k 0 < 65536 = λ k. omega (arith, at-slices .shared-slice-known .given k) in
+    let asks = model.run-asks (v .place) (v .records) (v .out .now) (pre .0) (pre .1 .0) words (rest .1 .0 .0) (rest .1 .0 .1)
+    (rest .0) (rest .1 .1) in
+    ((pre .1 .0 .isTable, refl), asks)
 
--- src/records.rt:80:9
 same-length : tie.Need-same-length
 same-length c = search needs
 
--- src/records.rt:80:9
 same-length-2 : tie.Need-same-length-2
 same-length-2 c = search needs
 
--- src/records.rt:80:9
 returns : tie.Need-returns
 returns c =
-    let v = c .before .before .before .before .before .before .before .before .before .before .before .args in
-    let pre = c .before .before .before .before .before .before .before .before .before .before .before .pre in
-    let words : (k : ℕ) → getD (v .catalog .now) k 0 < 65536 = λ k. omega (arith, c .before .before .before .before .before .before .before .before .before .before .shared-slice-known .given k) in
-    let run = c .before .before .before .before .put-run .ensures .0 in
+    let at-put-run = c .before .before .before .before in
+    let at-slices = at-put-run .before .before .before .before .before .before in
+    let at-start = at-slices .before in
+    let v = at-start .args in
+    let pre = at-start .pre in
+    let rest = pre .1 .1 in
+    let words : (k : ℕ) → getD (v .catalog .now) k 0 < 65536 = λ k. omega (arith, at-slices .shared-slice-known .given k) in
+    let run = at-put-run .put-run .ensures .0 in
     let e : pointsSize (begun (length (v .body .now)) 0 (heldAt (v .catalog .now) (v .first) .points)) ≡ length (v .body .now) =
     omega (arith, run .offset, c .if1) in
-    let a = model.all-points (v .catalog .now) (v .place .id) (v .body .now) (v .table .now) (v .first) (v .fill) (v .place) (v .records) (v .out .now) (pre .0) (pre .1 .0) words (pre .1 .1 .1 .0 .0) (pre .1 .1 .1 .0 .1) (pre .1 .1 .0) (pre .1 .1 .1 .1) e in
-    let n = counts.points-counted (v .body .now) (scopeIn (v .table .now)) noInstance 0 (begun (length (v .body .now)) 0 (heldAt (v .catalog .now) (v .first) .points)) in
-    (omega (arith, run .records, n, ap length a), (c .before .before .before .before .put-run .ensures .1 ∙ ap (λ x. written (v .place) (v .records) x (v .out .now)) a, pre .1 .0 .isTable))
+    let a = model.all-points (v .place) (v .records) (v .out .now) (pre .0) (pre .1 .0) words (rest .1 .0 .0) (rest .1 .0 .1)
+    (rest .0) (rest .1 .1) e in
+    let n = counts.points-counted (v .body .now) (scopeIn (v .table .now)) noInstance 0
+    (begun (length (v .body .now)) 0 (heldAt (v .catalog .now) (v .first) .points)) in
+    let wrote = at-put-run .put-run .ensures .1 ∙ ap (λ x. written (v .place) (v .records) x (v .out .now)) a in
+    (omega (arith, run .records, n, ap length a), (wrote, pre .1 .0 .isTable))
 
--- src/records.rt:82:9
 put-groups-requires : tie.Need-put-groups-requires
 put-groups-requires c κs =
-    let v = c .before .before .before .before .before .before .before .before .before .before .before .before .before .args in
-    let pre = c .before .before .before .before .before .before .before .before .before .before .before .before .before .pre in
-    let words : (k : ℕ) → getD (v .catalog .now) k 0 < 65536 = λ k. omega (arith, c .before .before .before .before .before .before .before .before .before .before .before .before .shared-slice-known .given k) in
-    let run = c .before .before .before .before .before .before .put-run .ensures .0 in
-    let f = model.else-full (v .catalog .now) (v .place .id) (v .body .now) (v .table .now) (v .first) (v .fill) (v .place) (v .records) (v .out .now) (pre .0) (pre .1 .0) words (pre .1 .1 .1 .0 .0) (pre .1 .1 .1 .0 .1) (pre .1 .1 .0) (pre .1 .1 .1 .1) (λ e. c .before .before .if1 .left (omega (arith, run .offset, e))) in
-    model.groups-ask (v .catalog .now) (v .place .id) (v .body .now) (v .table .now) (v .first) (v .fill) (v .place) (v .records) (v .out .now) (pre .0) (pre .1 .0) words (pre .1 .1 .1 .0 .0) (pre .1 .1 .1 .0 .1) (pre .1 .1 .0) (pre .1 .1 .1 .1) (c .before .before .before .before .before .before .put-run .result) run (f .0) (f .1) _ (c .before .before .before .before .before .before .put-run .ensures .1)
+    let at-put-run = c .before .before .before .before .before .before in
+    let at-slices = at-put-run .before .before .before .before .before .before in
+    let at-start = at-slices .before in
+    let v = at-start .args in
+    let pre = at-start .pre in
+    let rest = pre .1 .1 in
+    let words : (k : ℕ) → getD (v .catalog .now) k 0 < 65536 = λ k. omega (arith, at-slices .shared-slice-known .given k) in
+    let run = at-put-run .put-run .ensures .0 in
+    let f = model.else-full (v .place) (v .records) (v .out .now) (pre .0) (pre .1 .0) words (rest .1 .0 .0) (rest .1 .0 .1)
+    (rest .0) (rest .1 .1) (λ e. c .before .before .if1 .left (omega (arith, run .offset, e))) in
+    model.groups-ask (v .place) (v .records) (v .out .now) (pre .0) (pre .1 .0) words (rest .1 .0 .0) (rest .1 .0 .1) (rest .0)
+    (rest .1 .1) run (f .0) (f .1) (at-put-run .put-run .ensures .1)
 
--- src/records.rt:52:1
 same-length-3 : tie.Need-same-length-3
 same-length-3 c = search needs
 
--- src/records.rt:52:1
 same-length-4 : tie.Need-same-length-4
 same-length-4 c = search needs
 
--- src/records.rt:52:1
 returns-2 : tie.Need-returns-2
 returns-2 c =
-    let v = c .before .before .before .before .before .before .before .before .before .before .before .before .before .before .before .before .before .before .args in
-    let pre = c .before .before .before .before .before .before .before .before .before .before .before .before .before .before .before .before .before .before .pre in
-    let words : (k : ℕ) → getD (v .catalog .now) k 0 < 65536 = λ k. omega (arith, c .before .before .before .before .before .before .before .before .before .before .before .before .before .before .before .before .before .shared-slice-known .given k) in
-    let run = c .before .before .before .before .before .before .before .before .before .before .before .put-run .ensures .0 in
-    let f = model.else-full (v .catalog .now) (v .place .id) (v .body .now) (v .table .now) (v .first) (v .fill) (v .place) (v .records) (v .out .now) (pre .0) (pre .1 .0) words (pre .1 .1 .1 .0 .0) (pre .1 .1 .1 .0 .1) (pre .1 .1 .0) (pre .1 .1 .1 .1) (λ e. c .before .before .before .before .before .before .before .if1 .left (omega (arith, run .offset, e))) in
-    let wrote = c .before .before .before .before .before .before .before .before .before .before .before .put-run .ensures .1 in
-    let g = c .before .before .before .before .put-groups .ensures in (
-      model.records-behind (v .catalog .now) (v .place .id) (v .body .now) (v .table .now) (v .first) (v .fill) (v .place) (v .records) (v .out .now) (pre .0) (pre .1 .0) words (pre .1 .1 .1 .0 .0) (pre .1 .1 .1 .0 .1) (pre .1 .1 .0) (pre .1 .1 .1 .1) (c .before .before .before .before .before .before .before .before .before .before .before .put-run .result) run (f .0) (f .1) _ wrote (c .before .before .before .before .put-groups .result) (g .0),
-      (model.list-behind (v .catalog .now) (v .place .id) (v .body .now) (v .table .now) (v .first) (v .fill) (v .place) (v .records) (v .out .now) (pre .0) (pre .1 .0) words (pre .1 .1 .1 .0 .0) (pre .1 .1 .1 .0 .1) (pre .1 .1 .0) (pre .1 .1 .1 .1) (c .before .before .before .before .before .before .before .before .before .before .before .put-run .result) run (f .0) (f .1) _ wrote _ (g .1 .0), g .1 .1 .1),
+    let at-put-groups = c .before .before .before .before in
+    let at-if1 = at-put-groups .before .before .before in
+    let at-put-run = at-if1 .before .before .before .before in
+    let at-slices = at-put-run .before .before .before .before .before .before in
+    let at-start = at-slices .before in
+    let v = at-start .args in
+    let pre = at-start .pre in
+    let rest = pre .1 .1 in
+    let words : (k : ℕ) → getD (v .catalog .now) k 0 < 65536 = λ k. omega (arith, at-slices .shared-slice-known .given k) in
+    let run = at-put-run .put-run .ensures .0 in
+    let f = model.else-full (v .place) (v .records) (v .out .now) (pre .0) (pre .1 .0) words (rest .1 .0 .0) (rest .1 .0 .1)
+    (rest .0) (rest .1 .1) (λ e. at-if1 .if1 .left (omega (arith, run .offset, e))) in
+    let wrote = at-put-run .put-run .ensures .1 in
+    let g = at-put-groups .put-groups .ensures in (
+      model.records-behind (v .place) (v .records) (v .out .now) (pre .0) (pre .1 .0) words (rest .1 .0 .0) (rest .1 .0 .1)
+          (rest .0) (rest .1 .1) run (f .0) (f .1) wrote (g .0),
+      (
+        model.list-behind (v .place) (v .records) (v .out .now) (pre .0) (pre .1 .0) words (rest .1 .0 .0) (rest .1 .0 .1)
+            (rest .0) (rest .1 .1) run (f .0) (f .1) wrote (g .1 .0),
+        g .1 .1 .1,
+      ),
     )
 
 pub put-model-spec : {M : Type 1} → statement M

@@ -1,4 +1,4 @@
--- `put_own` notes the points of an instance, and then writes their records by the table.
+-- `listing::records::put_own` meets its contract: the points are noted, and then written by the table.
 use mathlib.Core.Path.{_≡_, sym, ap, subst, _∙_}
 use mathlib.Core.List.{List}
 use Prim.Native.Nat.{ℕ, _+_, _<_}
@@ -58,8 +58,9 @@ same-length-2 c = search needs
 
 returns : tie.Need-returns
 returns c =
+    let at-before = c .before .before .before .before .before .before in
     let put = c .before .before .put-run in
-    let noting = c .before .before .before .before .before .before .before in
+    let noting = at-before .before in
     let known = noting .before .before .before .before .before .before in
     let s = known .before in
     let a = s .args in
@@ -67,7 +68,8 @@ returns c =
     let all = all-begun s in
     let words : (k : ℕ) → getD (a .catalog .now) k 0 < 65536 = λ k. omega (arith, known .shared-slice-known .given k) in
     let numbers = numbers-in-table (a .catalog .now) words (a .at .frame + 1) (s .pre .1 .stands) in
-    let points = own-points body (a .at .offset) (own s) (a .table .now) (a .path .instances) (noting .note-run .last .1 .1 .1 .1 .0)
+    let points = own-points body (a .at .offset) (own s) (a .table .now) (a .path .instances)
+    (noting .note-run .last .1 .1 .1 .1 .0)
     (s .pre .0 .0) numbers all (noting .note-run .ensures) in (
       subst (λ (ps : List Point). BehindRun (start s) ps (put .result)) all (put .ensures .0),
       (

@@ -1,4 +1,4 @@
--- `put_point` writes the ten numbers of a point's record.
+-- `listing::records::put_point` meets its contract: the ten numbers of a point's record are written.
 use mathlib.Core.Path.{_≡_, sym, ap, subst, _∙_}
 use mathlib.Core.Bool.{true}
 use mathlib.Core.List.{List}

@@ -1,5 +1,4 @@
--- `put_run` writes the records of the points of an instance. The invariant: writing those that are left gives what writing
--- all gives.
+-- `listing::records::put_run` meets its contract: writing the points that are left gives what writing all gives.
 use mathlib.Core.Path.{sym, ap, _∙_}
 use Prim.Native.Nat.{_-_, _/_}
 use native.Mathlib.Omega.{arith}

@@ -1,4 +1,4 @@
--- `note_run` notes the points of an instance one by one. The invariant: noting those that are left gives what noting all gives.
+-- `listing::scopes::note_run` meets its contract: noting the points that are left gives what noting all gives.
 use mathlib.Core.Path.{_≡_, refl, sym, ap, _∙_}
 use mathlib.Core.List.{List}
 use Prim.Native.Nat.{_+_, _-_, _/_}

@@ -1,4 +1,4 @@
--- `is_pad_left_out` meets its contract: its tests are those of `padLeftOut`, the groups last.
+-- `listing::surveys::is_pad_left_out` meets its contract: its tests are those of `padLeftOut`, the groups last.
 use mathlib.Core.Path.{sym, ap, _∙_}
 use borrow.Author.Needs.{needs}
 use borrow.Author.Tests.{ne-eqb, not-true, not-false}
@@ -7,9 +7,6 @@ use Rattle.listing.specs.Answers.{groupOrForm}
 use Rattle.listing.proofs.LeftOutPad as pads
 use Rattle.listing.proofs.surveys.is_pad_left_out.Statement.{statement}
 use Rattle.listing.proofs.surveys.is_pad_left_out.Tie as tie
-use Rattle.listing.proofs.surveys.is_pad_left_out.Reads as reads
-use Rattle.listing.proofs.surveys.is_pad_left_out.Lts as lts
-use Rattle.listing.proofs.frames.group_at.Reads as group-at-reads
 
 returns : tie.Need-returns
 returns c = simp (ne-eqb _ _ (c .if1 .taken))
@@ -19,7 +16,8 @@ returns-2 c =
     let b = c .before .before .before .before in
     let a = b .args in
     let held = heldAt (a .catalog .now) (a .first) in
-    sym (pads.kept-without-pad (a .id) held (a .length) (sym (b .pre .0 .1 .pad) ∙ not-true (a .run .«ends_with_pad») (c .if2 .taken)))
+    sym (pads.kept-without-pad (a .id) held (a .length)
+    (sym (b .pre .0 .1 .pad) ∙ not-true (a .run .«ends_with_pad») (c .if2 .taken)))
 
 add-if3 : tie.Need-add-if3
 add-if3 c = search needs
@@ -51,12 +49,14 @@ returns-4 c =
 
 returns-5 : tie.Need-returns-5
 returns-5 c =
-    let b = c .before .before .before .before .before .before .before .before .before in
+    let at-if1 = c .before .before .before .before .before .before .before in
+    let b = at-if1 .before .before in
     let a = b .args in
     let held = heldAt (a .catalog .now) (a .first) in
     let told = sym (c .before .before .group-at .ensures) ∙ ap groupOrForm (c .enum-told2 .given .1) in
     let none = pads.no-group-behind (a .catalog .now) (a .first) (a .run .next) (b .pre .0 .0) (b .pre .0 .1 .next) told in
-    sym (pads.one-short (a .id) held (a .length) (c .before .before .before .before .before .before .before .if1 .left) none (sym (b .pre .0 .1 .pad) ∙ not-false (a .run .«ends_with_pad») (c .before .before .before .before .before .if2 .left))
+    sym (pads.one-short (a .id) held (a .length) (at-if1 .if1 .left) none
+    (sym (b .pre .0 .1 .pad) ∙ not-false (a .run .«ends_with_pad») (c .before .before .before .before .before .if2 .left))
     (c .before .before .before .if3 .left ∙ b .pre .0 .1 .size))
 
 pub is-pad-left-out-spec : {M : Type 1} → statement M

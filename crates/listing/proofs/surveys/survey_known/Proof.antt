@@ -1,5 +1,5 @@
--- `survey_known` meets its contract: what the model's definition says of it, by laws over the frames and the table.
-use mathlib.Core.Path.{_≡_, sym, _∙_}
+-- `listing::surveys::survey_known` meets its contract: what the definition says, by the frames and the table.
+use mathlib.Core.Path.{sym, _∙_}
 use Prim.Native.Nat.{ℕ, _≤_, _<_}
 use native.Mathlib.Omega.{arith}
 use lib.ListN.{length, getD}
@@ -11,13 +11,6 @@ use Rattle.listing.proofs.SurveyedByFrames as laws
 use borrow.Author.Needs.{needs}
 use Rattle.listing.proofs.surveys.survey_known.Statement.{statement}
 use Rattle.listing.proofs.surveys.survey_known.Tie as tie
-use Rattle.listing.proofs.surveys.survey_known.Reads as reads
-use Rattle.listing.proofs.surveys.survey_known.Lts as lts
-use Rattle.listing.proofs.extents.groups_extent.Reads as groups-extent-reads
-use Rattle.listing.proofs.extents.run_extent.Reads as run-extent-reads
-use Rattle.listing.proofs.scopes.note_run.Reads as note-run-reads
-use Rattle.listing.proofs.surveys.fitted.Reads as fitted-reads
-use Rattle.listing.proofs.surveys.is_pad_left_out.Reads as is-pad-left-out-reads
 
 run-extent-requires : tie.Need-run-extent-requires
 run-extent-requires c κs =
@@ -38,25 +31,26 @@ note-run-requires c κs =
 
 sub-t13 : tie.Need-sub-t13
 sub-t13 c =
-    let b = c .before .before .before .before .before .before .before .before .before .before .before in
+    let at-is-pad-left-out = c .before .before .before .before .before .before in
+    let at-run-extent = at-is-pad-left-out .before in
+    let b = at-run-extent .before .before .before .before in
     let a = b .args in
-    let ws = a .catalog .now in
-    let e = sym (c .before .before .before .before .before .before .is-pad-left-out .ensures) ∙ c .before .before .before .before .before .if1 .taken in
-    laws.one-point ws (a .id) (a .first) (b .pre .0) (b .pre .1 .1 .0) (b .pre .1 .1 .1) (c .before .before .before .before .before .before .before .run-extent .result)
-    (length (a .body .now)) (c .before .before .before .before .before .before .before .run-extent .ensures) e
+    let e = sym (at-is-pad-left-out .is-pad-left-out .ensures) ∙ c .before .before .before .before .before .if1 .taken in
+    laws.has-point (a .id) (b .pre .0) (b .pre .1 .1 .0) (b .pre .1 .1 .1) (length (a .body .now))
+    (at-run-extent .run-extent .ensures) e
 
 same-length : tie.Need-same-length
 same-length c = search needs
 
 returns : tie.Need-returns
 returns c =
-    let b = c .before .before .before .before .before .before .before .before .before .before .before in
+    let at-is-pad-left-out = c .before .before .before .before .before .before in
+    let at-run-extent = at-is-pad-left-out .before in
+    let b = at-run-extent .before .before .before .before in
     let a = b .args in
-    let ws = a .catalog .now in
-    let e = sym (c .before .before .before .before .before .before .is-pad-left-out .ensures) ∙ c .before .before .before .before .before .if1 .taken in
-    laws.pad-left-out ws (a .id) (a .first) (b .pre .0) (b .pre .1 .1 .0) (b .pre .1 .1 .1) (a .body .now) (a .table .now)
-    (c .before .before .before .note-run .last .1 .1 .1 .1 .0) (b .pre .1 .0 .0) (c .before .before .before .note-run .ensures) (c .before .before .before .before .before .before .before .run-extent .result)
-    (c .before .before .before .before .before .before .before .run-extent .ensures) e
+    let e = sym (at-is-pad-left-out .is-pad-left-out .ensures) ∙ c .before .before .before .before .before .if1 .taken in
+    laws.pad-left-out (a .id) (b .pre .0) (b .pre .1 .1 .0) (b .pre .1 .1 .1) (a .body .now) (a .table .now) (b .pre .1 .0 .0)
+    (c .before .before .before .note-run .ensures) (at-run-extent .run-extent .ensures) e
 
 returns-2 : tie.Need-returns-2
 returns-2 c =
@@ -65,7 +59,8 @@ returns-2 c =
     let ws = a .catalog .now in
     let r = c .before .before .before .before .run-extent in
     let e = sym (c .before .before .before .is-pad-left-out .ensures) ∙ c .before .before .if1 .left in
-    let short : length (a .body .now) < pointsSize (heldAt ws (a .first) .points) = omega (arith, c .if2 .taken, r .ensures .size) in
+    let short : length (a .body .now) < pointsSize (heldAt ws (a .first) .points) =
+    omega (arith, c .if2 .taken, r .ensures .size) in
     (models.below-surveyed (a .id) (heldAt ws (a .first)) (a .body .now) e short, (tt, b .pre .1 .0 .0))
 
 note-run-requires-2 : tie.Need-note-run-requires-2
@@ -77,14 +72,14 @@ note-run-requires-2 c κs =
 
 groups-extent-requires : tie.Need-groups-extent-requires
 groups-extent-requires c κs =
-    let b = c .before .before .before .before .before .before .before .before .before .before .before .before .before in
+    let at-run-extent = c .before .before .before .before .before .before .before .before .before in
+    let b = at-run-extent .before .before .before .before in
     let a = b .args in
-    let ws = a .catalog .now in
-    let r = c .before .before .before .before .before .before .before .before .before .run-extent in (
-      laws.at-groups ws (a .id) (a .first) (b .pre .0) (b .pre .1 .1 .0) (b .pre .1 .1 .1) (r .result) (r .ensures),
+    let r = at-run-extent .run-extent in (
+      laws.at-groups (a .id) (b .pre .0) (b .pre .1 .1 .0) (b .pre .1 .1 .1) (r .ensures),
       (
-        laws.still-table ws (a .id) (a .first) (b .pre .0) (b .pre .1 .1 .0) (b .pre .1 .1 .1) (a .body .now) (a .table .now)
-            (c .before .before .before .note-run2 .last .1 .1 .1 .1 .0) (b .pre .1 .0 .0) (c .before .before .before .note-run2 .ensures),
+        laws.still-table (a .id) (b .pre .0) (b .pre .1 .1 .0) (b .pre .1 .1 .1) (a .body .now) (a .table .now) (b .pre .1 .0 .0)
+            (c .before .before .before .note-run2 .ensures),
         omega arith,
       ),
     )
@@ -94,31 +89,37 @@ same-length-2 c = search needs
 
 returns-3 : tie.Need-returns-3
 returns-3 c =
-    let b = c .before .before .before .before .before .before .before .before .before .before .before .before .before .before .before in
+    let at-if2 = c .before .before .before .before .before .before .before in
+    let at-if1 = at-if2 .before .before in
+    let at-is-pad-left-out = at-if1 .before in
+    let at-run-extent = at-is-pad-left-out .before in
+    let at-slices = at-run-extent .before .before .before in
+    let b = at-slices .before in
     let a = b .args in
     let ws = a .catalog .now in
-    let words : (k : ℕ) → getD ws k 0 < 65536 = λ k. omega (arith, c .before .before .before .before .before .before .before .before .before .before .before .before .before .before .shared-slice-known .given k) in
-    let r = c .before .before .before .before .before .before .before .before .before .before .before .run-extent in
-    let e = sym (c .before .before .before .before .before .before .before .before .before .before .is-pad-left-out .ensures) ∙ c .before .before .before .before .before .before .before .before .before .if1 .left in
+    let words : (k : ℕ) → getD ws k 0 < 65536 = λ k. omega (arith, at-slices .shared-slice-known .given k) in
+    let r = at-run-extent .run-extent in
+    let e = sym (at-is-pad-left-out .is-pad-left-out .ensures) ∙ at-if1 .if1 .left in
     let n = c .before .before .before .before .before .note-run2 in
     let long : pointsSize (heldAt ws (a .first) .points) ≤ length (a .body .now) =
-    omega (arith, c .before .before .before .before .before .before .before .if2 .left, r .ensures .size) in
-    let u = laws.unimplemented ws (a .id) (a .first) (b .pre .0) (b .pre .1 .1 .0) (b .pre .1 .1 .1) (a .body .now) (a .table .now)
-    (n .last .1 .1 .1 .1 .0) (b .pre .1 .0 .0) (n .ensures) words (b .pre .1 .0 .1) e long
-    (r .result) (r .ensures) (c .before .groups-extent .result) (c .before .groups-extent .ensures .0) (c .if3 .taken) in
-    let t = laws.still-table ws (a .id) (a .first) (b .pre .0) (b .pre .1 .1 .0) (b .pre .1 .1 .1) (a .body .now) (a .table .now)
-    (n .last .1 .1 .1 .1 .0) (b .pre .1 .0 .0) (n .ensures) in
+    omega (arith, at-if2 .if2 .left, r .ensures .size) in
+    let u = laws.unimplemented (a .id) (b .pre .0) (b .pre .1 .1 .0) (b .pre .1 .1 .1) (a .body .now) (a .table .now)
+    (b .pre .1 .0 .0) (n .ensures) words (b .pre .1 .0 .1) e long
+    (r .ensures) (c .before .groups-extent .ensures .0) (c .if3 .taken) in
+    let t = laws.still-table (a .id) (b .pre .0) (b .pre .1 .1 .0) (b .pre .1 .1 .1) (a .body .now) (a .table .now)
+    (b .pre .1 .0 .0) (n .ensures) in
     (u, (tt, t))
 
 fitted-requires : tie.Need-fitted-requires
 fitted-requires c κs =
-    let b = c .before .before .before .before .before .before .before .before .before .before .before .before .before .before .before in
+    let at-if2 = c .before .before .before .before .before .before .before in
+    let at-run-extent = at-if2 .before .before .before .before in
+    let b = at-run-extent .before .before .before .before in
     let a = b .args in
-    let ws = a .catalog .now in
-    let r = c .before .before .before .before .before .before .before .before .before .before .before .run-extent in
+    let r = at-run-extent .run-extent in
     let x = c .before .groups-extent .ensures .0 in
-    let few = laws.few-points ws (a .id) (a .first) (b .pre .0) (b .pre .1 .1 .0) (b .pre .1 .1 .1) (r .result) (r .ensures) in (
-      (omega (arith, c .before .before .before .before .before .before .before .if2 .left), b .pre .1 .0 .1, few),
+    let few = laws.few-points (a .id) (b .pre .0) (b .pre .1 .1 .0) (b .pre .1 .1 .1) (r .ensures) in (
+      (omega (arith, at-if2 .if2 .left), b .pre .1 .0 .1, few),
       (omega (arith, x .size), omega (arith, x .points), omega (arith, x .fillPoints)),
     )
 
@@ -127,18 +128,24 @@ same-length-3 c = search needs
 
 returns-4 : tie.Need-returns-4
 returns-4 c =
-    let b = c .before .before .before .before .before .before .before .before .before .before .before .before .before .before .before .before in
+    let at-note-run2 = c .before .before .before .before .before .before in
+    let at-if2 = at-note-run2 .before .before in
+    let at-if1 = at-if2 .before .before in
+    let at-is-pad-left-out = at-if1 .before in
+    let at-run-extent = at-is-pad-left-out .before in
+    let at-slices = at-run-extent .before .before .before in
+    let b = at-slices .before in
     let a = b .args in
     let ws = a .catalog .now in
-    let words : (k : ℕ) → getD ws k 0 < 65536 = λ k. omega (arith, c .before .before .before .before .before .before .before .before .before .before .before .before .before .before .before .shared-slice-known .given k) in
-    let r = c .before .before .before .before .before .before .before .before .before .before .before .before .run-extent in
-    let e = sym (c .before .before .before .before .before .before .before .before .before .before .before .is-pad-left-out .ensures) ∙ c .before .before .before .before .before .before .before .before .before .before .if1 .left in
-    let n = c .before .before .before .before .before .before .note-run2 in
+    let words : (k : ℕ) → getD ws k 0 < 65536 = λ k. omega (arith, at-slices .shared-slice-known .given k) in
+    let r = at-run-extent .run-extent in
+    let e = sym (at-is-pad-left-out .is-pad-left-out .ensures) ∙ at-if1 .if1 .left in
+    let n = at-note-run2 .note-run2 in
     let long : pointsSize (heldAt ws (a .first) .points) ≤ length (a .body .now) =
-    omega (arith, c .before .before .before .before .before .before .before .before .if2 .left, r .ensures .size) in
-    laws.surveyed-here ws (a .id) (a .first) (b .pre .0) (b .pre .1 .1 .0) (b .pre .1 .1 .1) (a .body .now) (a .table .now)
-    (n .last .1 .1 .1 .1 .0) (b .pre .1 .0 .0) (n .ensures) words (b .pre .1 .0 .1) e long
-    (r .result) (r .ensures) (c .before .before .groups-extent .result) (c .before .before .groups-extent .ensures .0) (c .before .if3 .left) (c .fitted .result) (c .fitted .ensures)
+    omega (arith, at-if2 .if2 .left, r .ensures .size) in
+    laws.surveyed-here (a .id) (b .pre .0) (b .pre .1 .1 .0) (b .pre .1 .1 .1) (a .body .now) (a .table .now) (b .pre .1 .0 .0)
+    (n .ensures) words (b .pre .1 .0 .1) e long
+    (r .ensures) (c .before .before .groups-extent .ensures .0) (c .before .if3 .left) (c .fitted .ensures)
 
 pub survey-known-spec : {M : Type 1} → statement M
 survey-known-spec =

@@ -1,16 +1,12 @@
--- `survey_model` meets its contract: it surveys by the definition that is found.
+-- `listing::surveys::survey_model` meets its contract: it surveys by the definition that is found.
 use mathlib.Core.Path.{sym, ap, subst, _∙_}
 use Rattle.catalog.specs.Definitions.{definitions}
 use Rattle.listing.specs.Walks.{heldAt, surveyed}
 use Rattle.listing.specs.Answers.{foundForm, FoundStands}
-use Rattle.listing.proofs.SurveyedByFrames.{read-known, read-unknown}
+use Rattle.listing.proofs.AcceptedModels.{read-known, read-unknown}
 use borrow.Author.Needs.{needs}
 use Rattle.listing.proofs.surveys.survey_model.Statement.{statement}
 use Rattle.listing.proofs.surveys.survey_model.Tie as tie
-use Rattle.listing.proofs.surveys.survey_model.Reads as reads
-use Rattle.listing.proofs.surveys.survey_model.Lts as lts
-use Rattle.listing.proofs.frames.find_model.Reads as find-model-reads
-use Rattle.listing.proofs.surveys.survey_known.Reads as survey-known-reads
 
 find-model-requires : tie.Need-find-model-requires
 find-model-requires c κs = search needs
@@ -36,14 +32,16 @@ same-length c = search needs
 
 returns : tie.Need-returns
 returns c =
-    let b = c .before .before .before .before .before .before .before .before .before .before .before in
+    let at-find-model = c .before .before .before .before .before .before .before in
+    let b = at-find-model .before .before .before .before in
     let a = b .args in
     let ws = a .catalog .now in
-    let f = c .before .before .before .before .before .before .before .find-model in
+    let f = at-find-model .find-model in
     let here = c .before .before .before .before .before .found .given .1 in
     let known = sym (f .ensures .0) ∙ ap (foundForm ws) here in
     let k = c .before .before .survey-known in
-    let read = read-known (definitions ws) (a .id) (a .body .now) (heldAt ws (c .before .before .before .before .before .found .given .0 .0)) known in
+    let read = read-known (definitions ws) (a .id) (a .body .now)
+    (heldAt ws (c .before .before .before .before .before .found .given .0 .0)) known in
     (k .ensures .0 ∙ sym (ap surveyed read), k .ensures .1)
 
 returns-2 : tie.Need-returns-2
