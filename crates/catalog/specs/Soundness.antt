@@ -93,10 +93,10 @@ EachGroup P enclosing level (group h ps inside behind) =
 abbrev pub EachLowerGroup : (List Point → ℕ → Head → List Point → Groups → Type 0) → Definition → Type 0
 EachLowerGroup P d = EachGroup P (d .top .points) 2 (d .top .groups)
 
--- A point is one of these.
-pub data In (p : Point) : List Point → Type 0 where
-  first : {ps : List Point} → In p (p ∷ ps)
-  later : {q : Point} {ps : List Point} → In p ps → In p (q ∷ ps)
+-- A point, or anything else, is one of these.
+pub data In {A : Type 0} (x : A) : List A → Type 0 where
+  first : {xs : List A} → In x (x ∷ xs)
+  later : {y : A} {xs : List A} → In x xs → In x (y ∷ xs)
 
 -- If a point gives the scale factor, it is a sunssf point among these.
 abbrev pub ScaleResolves : List Point → Point → Type 0

@@ -8,11 +8,19 @@ use native.Mathlib.Nat.{eq-or-lt-of-le}
 use native.Mathlib.Omega.{arith}
 use lib.ListN.{length, take}
 use Rattle.register_map.specs.Scan.{totalSize, scan}
-use Rattle.register_map.proofs.MadeOfModels.{marked-count}
 use Rattle.listing.specs.Listing.{Record, refused, listed, listing}
 use Rattle.listing.proofs.RefusalNumbers.{ending-number}
-use Rattle.listing.proofs.ListingCases.{Walks}
-use Rattle.listing.proofs.WalksBehind.{headers-walked, listed-walks, short-walks, refused-walks, refused-early}
+use Rattle.listing.proofs.WalksBehind.{headers-walked, headers-marked, listed-walks, short-walks, refused-walks, refused-early}
+
+-- On acceptance the headers are models + 1 and at most (registers − 1) / 3.
+pub headers : (catalog map : List ℕ) (room : ℕ) (rs : List Record) (headers : ℕ) → listing catalog map room ≡ listed rs headers
+    → (headers ≡ length (scan map .models) + 1) × (headers ≤ (length map - 1) / 3)
+headers catalog map room rs h e = headers-marked catalog map (listed-walks catalog map room rs h e .0)
+
+-- So they are on 30.
+pub headers-without-room : (catalog map : List ℕ) (room n headers : ℕ) → listing catalog map room ≡ refused 30 n headers
+    → (headers ≡ length (scan map .models) + 1) × (headers ≤ (length map - 1) / 3)
+headers-without-room catalog map room n headers e = headers-marked catalog map (short-walks catalog map room n headers e .1)
 
 -- 1 to 11, 20 and 21: none.
 pub no-headers : (catalog map : List ℕ) (room n place headers : ℕ) → listing catalog map room ≡ refused n place headers → n ≤ 21
@@ -46,23 +54,3 @@ headers-at-model catalog map room n place headers e low high =
     let counted = r .counted in
     ⊎-elim (λ q. let b = ending-number map n (r .atEnd q) in absurd (omega arith)) (λ l. omega arith)
     (eq-or-lt-of-le (r .within))
-
--- A walk to the end marker.
-whole-walk : (catalog map : List ℕ) (rs : List Record) (headers : ℕ) → Walks catalog map (listed rs headers)
-    → (headers ≡ length (scan map .models) + 1) × (headers ≤ (length map - 1) / 3)
-whole-walk catalog map rs headers w =
-    let r = headers-walked catalog map w in
-    let counted = r .0 in
-    let bound = marked-count map (r .1) in
-    (omega arith, omega arith)
-
--- 30: models + 1, as on acceptance.
-pub headers-without-room : (catalog map : List ℕ) (room n headers : ℕ) → listing catalog map room ≡ refused 30 n headers
-    → (headers ≡ length (scan map .models) + 1) × (headers ≤ (length map - 1) / 3)
-headers-without-room catalog map room n headers e =
-    let s = short-walks catalog map room n headers e in whole-walk catalog map (s .0) headers (s .1)
-
--- On acceptance the headers are models + 1 and at most (registers − 1) / 3.
-pub headers : (catalog map : List ℕ) (room : ℕ) (rs : List Record) (headers : ℕ) → listing catalog map room ≡ listed rs headers
-    → (headers ≡ length (scan map .models) + 1) × (headers ≤ (length map - 1) / 3)
-headers catalog map room rs h e = whole-walk catalog map rs h (listed-walks catalog map room rs h e .0)

@@ -8,7 +8,7 @@
 -- the models whose addresses in the lengthened map are lower (`MovedByLower`). It is one claim over all inserted models.
 use mathlib.Core.Path.{_≡_, refl, ap, _∙_}
 use mathlib.Core.Bool.{_&&_}
-use mathlib.Core.List.{List, []}
+use mathlib.Core.List.{List, [], _∷_}
 use mathlib.Core.Option.{some}
 use Prim.Native.Nat.{ℕ, _+_, _≤_}
 use lib.Dec.{eqb, leb}
@@ -19,7 +19,7 @@ use Rattle.register_map.specs.Scan.{Model, totalSize, scan, WellFormed}
 use Rattle.register_map.specs.Insertion.{placed, lengthened, gapsBefore}
 use Rattle.register_map.proofs.PlacedModels.{placed-length}
 use Rattle.register_map.proofs.Lengthened.{lengthened-scan, lengthened-length, lengthened-none}
-use Rattle.listing.specs.Listing.{Answer, refused, listed, listing, pointCount}
+use Rattle.listing.specs.Listing.{Record, numbersOf, Answer, refused, listed, listing, pointCount, stored, told}
 use Rattle.listing.specs.Stability.{MadeOfWholeModels, UnknownModel, shifted, movedAnswer, MovedByLower, refusalNumber}
 use Rattle.listing.proofs.EachLaws.{each-implied}
 use Rattle.listing.proofs.WholeMaps.{whole-ends, whole-models, lengthened-models}
@@ -37,7 +37,36 @@ insertion catalog map gaps room whole unknown short =
     listing-moved catalog room map (lengthened map gaps) (scan map .models) gaps (whole-models map whole)
     (lengthened-models map whole gaps wellFormed short) unknown
 
+-- So it is of what `list` answers, and of the output list behind it.
+pub insertion-told : (catalog map : List ℕ) (gaps : List (List Model)) (out : List ℕ)
+    → MadeOfWholeModels map
+    → Each (Each (UnknownModel catalog)) gaps
+    → length (lengthened map gaps) ≤ 65536
+    → (told (listing catalog (lengthened map gaps) (length out))
+    ≡ told (movedAnswer (length (scan map .models)) gaps (listing catalog map (length out))))
+    × (stored (listing catalog (lengthened map gaps) (length out)) out
+    ≡ stored (movedAnswer (length (scan map .models)) gaps (listing catalog map (length out))) out)
+insertion-told catalog map gaps out whole unknown short =
+    let moved = insertion catalog map gaps (length out) whole unknown short .0 in
+    (ap told moved, ap (λ a. stored a out) moved)
+
 -- ---- What it says, in part
+
+-- Of a record's ten numbers only the model's index and the address change.
+pub shifted-numbers : (ms : List Model) (r : Record) → numbersOf (shifted ms r)
+    ≡ (r .index + length ms)
+    ∷ r .id
+    ∷ r .point .number
+    ∷ r .point .level2
+    ∷ r .point .level3
+    ∷ r .point .level4
+    ∷ (r .address + totalSize ms)
+    ∷ r .point .status
+    ∷ r .point .raw
+    ∷ r .point .scale
+    ∷ []
+unfolding numbersOf
+shifted-numbers ms r = refl
 
 -- The number of a refusal stays, and so does acceptance.
 moved-number : (n : ℕ) (gaps : List (List Model)) (a : Answer) → refusalNumber (movedAnswer n gaps a) ≡ refusalNumber a

@@ -1,6 +1,6 @@
 -- The claims
 pub mod Insertion
-pub mod ListingAfterRemoval
+pub mod Removal
 pub mod RefusalsAfterRemoval
 pub mod LeftById
 pub mod Headers
@@ -8,6 +8,7 @@ pub mod Tiling
 pub mod TiledApart
 pub mod OnePoint
 pub mod WorkedCases
+pub mod InsertionExample
 pub mod RemovalExample
 -- Laws of lists
 pub mod EachLaws
@@ -20,6 +21,7 @@ pub mod CountsAgree
 pub mod ReachOnly
 pub mod LeftOutPad
 pub mod BodyTiling
+pub mod RecordsTiling
 pub mod PointsInside
 -- Laws of the walk over the models of a map
 pub mod WalkSteps

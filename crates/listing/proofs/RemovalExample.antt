@@ -19,7 +19,7 @@ use Rattle.listing.specs.Layout.{within, groupsSize, fillSize, countUnim
 use Rattle.listing.specs.Reading.{endsWithPad, laidOut, readBy, reading}
 use Rattle.listing.specs.Listing.{Record, recordWidth, listed, walk, withRoom, listedBy, listing}
 use Rattle.listing.specs.Removed.{keepsId, recordsLeft}
-use Rattle.listing.proofs.ListingAfterRemoval.{removal}
+use Rattle.listing.proofs.Removal.{removal}
 
 -- Models 1 and 7, each of one uint16 point, numbered 1.
 abbrev catalog : List ℕ

@@ -1,156 +1,40 @@
 -- In an accepted map the points of each known model lie one behind the other without gap or overlap, from the register behind its
 -- length to its last register. (A pad that is left out has no record, and the last register is then that of the point before it.)
-use mathlib.Core.Path.{_≡_, refl, sym, ap, subst, _∙_}
-use mathlib.Core.Bool.{true, false}
-use mathlib.Core.List.{List, [], _∷_, _++_, map}
+use mathlib.Core.Path.{_≡_, ap, _∙_}
+use mathlib.Core.Bool.{false}
+use mathlib.Core.List.{List, [], _∷_, _++_}
 use Prim.Native.Nat.{ℕ, _+_}
-use native.Mathlib.Omega.{arith}
-use borrow.Author.Tests.{eq-eqb, ne-eqb}
-use lib.Dec.{ltb}
 use lib.ListN.{length}
-use Rattle.values.specs.Each.{Each}
-use Rattle.catalog.specs.Frames.{Point}
+use Rattle.catalog.specs.Frames.{frames}
 use Rattle.catalog.specs.Rules.{among}
 use Rattle.catalog.specs.Checking.{accepted, checked}
-use Rattle.catalog.specs.Definitions.{Content, Definition, definitions, pointsSize}
-use Rattle.catalog.specs.Soundness.{SoundDefinition, Distinct, idsOf}
-use Rattle.catalog.proofs.TestLaws.{clash, by-test}
-use Rattle.catalog.proofs.AcceptedIsSound.{accepted-is-sound}
+use Rattle.catalog.specs.Definitions.{Definition, definitions, modelIds}
+use Rattle.catalog.specs.Soundness.{In}
+use Rattle.catalog.proofs.ModelIds.{ids-of-model-frames}
 use Rattle.register_map.specs.Scan.{Model, sizeOf, totalSize, scan}
 use Rattle.listing.specs.Points.{ModelPoint}
-use Rattle.listing.specs.Layout.{topScope, countUnimplemented, fits}
-use Rattle.listing.specs.Reading.{Reading, unknown, faulty, points, padLeftOut, laidOut, readBy, reading}
-use Rattle.listing.specs.Listing.{Record, recordOf, listed, walk, listing}
-use Rattle.listing.specs.Tiling.{Tiles, BodyTiled, RecordsTiled, recordsWith, OneOf, here, there}
-use Rattle.listing.proofs.BodyTiling.{read-tiled}
-use Rattle.listing.proofs.ReadingLeft.{unknown-left}
-use Rattle.listing.proofs.WalksBehind.{listed-walks}
-use Rattle.listing.proofs.ModelRecords.{RecordsOf, model-records}
-use Rattle.listing.proofs.GroupNumbers.{among-later}
-
--- ---- The definition of a model
-
--- Sound definitions, each.
-sound-one : (d : Definition) (ds : List Definition) → Each SoundDefinition ds → OneOf d ds → SoundDefinition d
-sound-one d (other ∷ ds) e here = e .0
-sound-one d (other ∷ ds) e (there o) = sound-one d ds (e .1) o
-
--- An id of a definition is among their ids.
-id-among : (d : Definition) (ds : List Definition) → OneOf d ds → among (d .id) (idsOf ds) ≡ true
-id-among d (other ∷ ds) here = rw (eq-eqb (d .id) (d .id) refl)
-id-among d (other ∷ ds) (there o) = among-later (d .id) (other .id) (idsOf ds) (id-among d ds o)
-
--- A model is read by the definition of its id: no other has that id.
-reading-known : (ds : List Definition) → Distinct (idsOf ds) → (d : Definition) → OneOf d ds → (m : Model) → d .id ≡ m .id
-    → reading ds m ≡ readBy (m .id) (d .top) (m .body)
-unfolding reading
-reading-known (other ∷ ds) distinct d here m e = rw (eq-eqb (d .id) (m .id) e, reading)
-reading-known (other ∷ ds) distinct d (there o) m e =
-    let differ : other .id ≡ m .id → ⊥ = λ q.
-    clash (sym (id-among d ds o) ∙ ap (λ n. among n (idsOf ds)) (e ∙ sym q) ∙ distinct .0) in
-    rw (ne-eqb (other .id) (m .id) differ, reading) (reading-known ds (distinct .1) d o m e)
-
--- What a definition reads is not unknown.
-not-unknown : (id : ℕ) (c : Content) (body : List ℕ) → readBy id c body ≡ unknown → ⊥
-unfolding readBy laidOut
-not-unknown id c body =
-    let W : Reading → Type 0 = λ r. r ≡ unknown → ⊥ in
-    by-test W (padLeftOut id c (length body)) (λ _ e. let z : _≡_ {A = ℕ} 0 1 = cc in absurd (omega arith)) (λ _.
-    by-test W (ltb (length body) (pointsSize (c .points))) (λ _ e. let z : _≡_ {A = ℕ} 0 1 = cc in absurd (omega arith)) (λ _.
-    by-test W (countUnimplemented (topScope (c .points) body) (c .groups))
-    (λ _ e. let z : _≡_ {A = ℕ} 0 1 = cc in absurd (omega arith)) (λ _.
-    by-test W (fits c body) (λ _ e. let z : _≡_ {A = ℕ} 0 1 = cc in absurd (omega arith))
-    (λ _ e. let z : _≡_ {A = ℕ} 0 1 = cc in absurd (omega arith)))))
-
--- ---- The points of one model
-
--- By an accepted catalog, a model's points, as they are read, fill its body.
-pub body-tiled : (catalog : List ℕ) (n : ℕ) → checked catalog ≡ accepted n
-    → (d : Definition) → OneOf d (definitions catalog) → (m : Model) → d .id ≡ m .id
-    → (ps : List ModelPoint) → reading (definitions catalog) m ≡ points ps → BodyTiled d (length (m .body)) ps
-body-tiled catalog n e d o m same ps r =
-    let ds = definitions catalog in
-    let s = accepted-is-sound catalog n e .0 in
-    read-tiled d (sound-one d ds (s .each) o) (m .id) (m .body) ps (sym (reading-known ds (s .distinct) d o m same) ∙ r)
-
--- ---- The records of a listing
-
--- The records of points that tile a body.
-records-tile : (i at : ℕ) (m : Model) (from to : ℕ) (ps : List ModelPoint) (qs : List Point)
-    → Tiles (λ p. p .offset) (λ p. p .number) from to ps qs
-    → Tiles (λ r. r .address) (λ r. r .point .number) (at + 2 + from) (at + 2 + to) (map (recordOf i at m) ps) qs
-records-tile i at m from to [] [] t = ap (λ n. at + 2 + n) t
-records-tile i at m from to [] (q ∷ qs) t = t
-records-tile i at m from to (p ∷ ps) [] t = t
-records-tile i at m from to (p ∷ ps) (q ∷ qs) t =
-    let r = records-tile i at m (from + q .size) to ps qs (t .3) in
-    let same : at + 2 + (from + q .size) ≡ at + 2 + from + q .size = omega arith in (
-      ap (λ n. at + 2 + n) (t .0),
-      t .1,
-      t .2,
-      subst (λ n. Tiles (λ r. r .address) (λ r. r .point .number) n (at + 2 + to) (map (recordOf i at m) ps) qs) same r,
-    )
-
--- They have the model's id.
-records-named : (i at : ℕ) (m : Model) (ps : List ModelPoint) (id : ℕ) → id ≡ m .id
-    → Each (λ r. r .id ≡ id) (map (recordOf i at m) ps)
-records-named i at m [] id e = tt
-records-named i at m (p ∷ ps) id e = (sym e, records-named i at m ps id e)
+use Rattle.listing.specs.Reading.{points, reading}
+use Rattle.listing.specs.Listing.{Record, listed, listing}
+use Rattle.listing.specs.Tiling.{BodyTiled, RecordsTiled, recordsWith}
+use Rattle.listing.proofs.RecordsTiling as steps
 
 module _ (catalog registers : List ℕ) (room : ℕ) (rs : List Record) (headers : ℕ)
     (accept : listing catalog registers room ≡ listed rs headers)
     (front : List Model) (m : Model) (behind : List Model) (stands : scan registers .models ≡ front ++ m ∷ behind) where
-  -- The records with the model's index, by how the catalog reads it.
-  records-of-model : RecordsOf (length front) (2 + totalSize front) m rs (reading (definitions catalog) m)
-  records-of-model =
-      let read = reading (definitions catalog) in
-      let ending = scan registers .ending in
-      let w = listed-walks catalog registers room rs headers accept .0 .walks in
-      let v = subst (λ ms. walk read ending 0 2 ms ≡ listed rs headers) stands w in
-      model-records read ending front m behind 0 2 rs headers v (length front) (2 + totalSize front) (omega arith) (omega arith)
-
   -- The records of a model that the catalog knows fill it, from the register behind its length to its last. (The first model's
   -- header has address 2.)
-  pub points-tile : (d : Definition) → OneOf d (definitions catalog) → d .id ≡ m .id
+  pub points-tile : (d : Definition) → In d (definitions catalog) → d .id ≡ m .id
       → RecordsTiled d (2 + totalSize front + 2) (2 + totalSize front + sizeOf m) (recordsWith (length front) rs)
-  points-tile d o same = go (reading (definitions catalog) m) refl records-of-model
-    where
-      i : ℕ
-      i = length front
-
-      at : ℕ
-      at = 2 + totalSize front
-
-      l : ℕ
-      l = length (m .body)
-
-      known : reading (definitions catalog) m ≡ unknown → ⊥
-      known q =
-          let w = listed-walks catalog registers room rs headers accept .0 in
-          let s = accepted-is-sound catalog (w .models) (w .accepted) .0 in
-          not-unknown (m .id) (d .top) (m .body) (sym (reading-known (definitions catalog) (s .distinct) d o m same) ∙ q)
-
-      go : (r : Reading) → reading (definitions catalog) m ≡ r → RecordsOf i at m rs r
-          → RecordsTiled d (at + 2) (at + sizeOf m) (recordsWith i rs)
-      go unknown q t = absurd (known q)
-      go (faulty fault) q t = absurd t
-      go (points ps) q t =
-          let w = listed-walks catalog registers room rs headers accept .0 in
-          let b = body-tiled catalog (w .models) (w .accepted) d o m same ps q in
-          let tiles = records-tile i at m 0 l ps (b .by) (b .tiles) in
-          let from : at + 2 + 0 ≡ at + 2 = omega arith in
-          let to : at + 2 + l ≡ at + sizeOf m = omega arith in
-          let own = map (recordOf i at m) ps in
-          let T : ℕ → ℕ → Type 0 = λ x y. Tiles (λ r. r .address) (λ r. r .point .number) x y own (b .by) in
-          subst (RecordsTiled d (at + 2) (at + sizeOf m)) (sym t)
-          (record {
-            by = b .by;
-            defined = b .defined;
-            tiles = subst (λ x. T x (at + sizeOf m)) from (subst (λ y. T (at + 2 + 0) y) to tiles);
-            ids = records-named i at m ps (d .id) same;
-          })
+  points-tile d o same = steps.model-filled catalog registers room rs headers accept front m behind stands d o same
 
   -- A model that the catalog does not know has no record.
-  pub unknown-has-none : among (m .id) (idsOf (definitions catalog)) ≡ false → recordsWith (length front) rs ≡ []
+  pub unknown-has-none : among (m .id) (modelIds (frames catalog)) ≡ false → recordsWith (length front) rs ≡ []
   unknown-has-none e =
-      subst (RecordsOf (length front) (2 + totalSize front) m rs) (unknown-left [] (definitions catalog) m e) records-of-model
+      steps.nothing-unknown catalog registers room rs headers accept front m behind stands
+      (ap (among (m .id)) (ids-of-model-frames catalog) ∙ e)
+
+-- By an accepted catalog, a model's points, as they are read, fill its body.
+pub body-tiled : (catalog : List ℕ) (n : ℕ) → checked catalog ≡ accepted n
+    → (d : Definition) → In d (definitions catalog) → (m : Model) → d .id ≡ m .id
+    → (ps : List ModelPoint) → reading (definitions catalog) m ≡ points ps → BodyTiled d (length (m .body)) ps
+body-tiled catalog n e d o m same ps r = steps.body-filled catalog n e d o m same ps r

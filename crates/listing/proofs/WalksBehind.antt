@@ -2,12 +2,13 @@
 use mathlib.Core.Path.{_≡_, subst}
 use mathlib.Core.List.{List}
 use mathlib.Core.Logic.{⊎-elim}
-use Prim.Native.Nat.{ℕ, _*_, _≤_, _<_}
+use Prim.Native.Nat.{ℕ, _+_, _*_, _-_, _/_, _≤_, _<_}
 use native.Mathlib.Nat.{eq-or-lt-of-le}
 use native.Mathlib.Omega.{arith}
 use lib.ListN.{length}
 use Rattle.catalog.specs.Definitions.{definitions}
 use Rattle.register_map.specs.Scan.{scan}
+use Rattle.register_map.proofs.MadeOfModels.{marked-count}
 use Rattle.listing.specs.Reading.{reading}
 use Rattle.listing.specs.Listing.{Record, recordWidth, Answer, refused, listed, listing}
 use Rattle.listing.proofs.RefusalNumbers.{Between, catalog-number, opening-number, ending-number}
@@ -20,6 +21,15 @@ module _ (catalog map : List ℕ) where
       → HeadersWalked (scan map .ending) 0 2 (scan map .models) answer
   headers-walked w =
       rw (w .walks) at (walk-headers (reading (definitions catalog)) (scan map .ending) 0 2 (scan map .models))
+
+  -- Those of a walk to the end marker: models + 1, at most (registers − 1) / 3.
+  pub headers-marked : {rs : List Record} {headers : ℕ} → Walks catalog map (listed rs headers)
+      → (headers ≡ length (scan map .models) + 1) × (headers ≤ (length map - 1) / 3)
+  headers-marked w =
+      let r = headers-walked w in
+      let counted = r .0 in
+      let bound = marked-count map (r .1) in
+      (omega arith, omega arith)
 
   -- A refusal of the walk has one of the numbers 22 to 29.
   pub walk-number : {n place headers : ℕ} → Walks catalog map (refused n place headers) → Between 22 29 n

@@ -52,8 +52,3 @@ pub record RecordsTiled (d : Definition) (from to : ℕ) (rs : List Record) : Ty
 unfoldable pub recordsWith : ℕ → List Record → List Record
 recordsWith index [] = []
 recordsWith index (r ∷ rs) = elim (eqb (r .index) index) [ true ↦ r ∷ recordsWith index rs | false ↦ recordsWith index rs ]
-
--- A definition is one of these.
-pub data OneOf (d : Definition) : List Definition → Type 0 where
-  here : {ds : List Definition} → OneOf d (d ∷ ds)
-  there : {other : Definition} {ds : List Definition} → OneOf d ds → OneOf d (other ∷ ds)

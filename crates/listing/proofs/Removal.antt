@@ -18,11 +18,16 @@ use Rattle.listing.proofs.ListingCases.{with-room, listing-walks}
 use Rattle.listing.proofs.WalksBehind.{listed-walks}
 use Rattle.listing.proofs.WalksLeft.{listed-left}
 
--- A catalog of which no model is removed lists the same.
-pub nothing-removed : (choice : List Bool) (catalog map : List ℕ) (room models : ℕ) → Each (λ c. c ≡ true) choice
-    → checked catalog ≡ accepted models → listing (keeping choice catalog) map room ≡ listing catalog map room
-nothing-removed choice catalog map room models all e =
-    ap (λ ws. listing ws map room) (catalogs.nothing-removed choice catalog models all e)
+-- For every map that the catalog accepts, every choice of its models and every list that has room for the records left: these
+-- records, with all their numbers and in their order, and the same headers.
+pub removal : (choice : List Bool) (catalog map : List ℕ) (room room′ : ℕ) (rs : List Record) (headers : ℕ)
+    → listing catalog map room ≡ listed rs headers
+    → recordWidth * length (recordsLeft choice (definitions catalog) rs) ≤ room′
+    → listing (keeping choice catalog) map room′ ≡ listed (recordsLeft choice (definitions catalog) rs) headers
+removal choice catalog map room room′ rs headers e fits =
+    let w = listed-walks catalog map room rs headers e .0 in
+    listing-walks (keeping choice catalog) map room′ (listed-left choice catalog map w)
+    ∙ with-room room′ (recordsLeft choice (definitions catalog) rs) headers fits
 
 -- With any list: the records left and the same headers, or 30 where there is no room for these.
 pub removal-any-room : (choice : List Bool) (catalog map : List ℕ) (room room′ : ℕ) (rs : List Record) (headers : ℕ)
@@ -37,29 +42,26 @@ pub removal-same-list : (choice : List Bool) (catalog map : List ℕ) (room : �
     → listing catalog map room ≡ listed rs headers
     → listing (keeping choice catalog) map room ≡ listed (recordsLeft choice (definitions catalog) rs) headers
 removal-same-list choice catalog map room rs headers e =
-    let left = recordsLeft choice (definitions catalog) rs in
     let fewer = fewer-left choice (definitions catalog) rs in
     let fits = listed-walks catalog map room rs headers e .1 in
-    removal-any-room choice catalog map room room rs headers e ∙ with-room room left headers (omega arith)
+    removal choice catalog map room room rs headers e (omega arith)
 
 -- The answer and the list behind it: the count is the number of the records left, and the rest of the list is as it was.
-pub removal-told : (choice : List Bool) (catalog map : List ℕ) (room : ℕ) (rs left : List Record) (headers : ℕ) (out : List ℕ)
-    → listing catalog map room ≡ listed rs headers → left ≡ recordsLeft choice (definitions catalog) rs
-    → recordWidth * length left ≤ length out
-    → (told (listing (keeping choice catalog) map (length out)) ≡ listedTold (length left) headers)
-    × (stored (listing (keeping choice catalog) map (length out)) out ≡ entries left ++ drop (recordWidth * length left) out)
+pub removal-told : (choice : List Bool) (catalog map : List ℕ) (room : ℕ) (rs : List Record) (headers : ℕ) (out : List ℕ)
+    → listing catalog map room ≡ listed rs headers
+    → recordWidth * length (recordsLeft choice (definitions catalog) rs) ≤ length out
+    → (told (listing (keeping choice catalog) map (length out))
+    ≡ listedTold (length (recordsLeft choice (definitions catalog) rs)) headers)
+    × (stored (listing (keeping choice catalog) map (length out)) out
+    ≡ entries (recordsLeft choice (definitions catalog) rs)
+    ++ drop (recordWidth * length (recordsLeft choice (definitions catalog) rs)) out)
 unfolding stored
-removal-told choice catalog map room rs left headers out e same fits =
-    let answer : listing (keeping choice catalog) map (length out) ≡ listed left headers =
-    removal-any-room choice catalog map room (length out) rs headers e
-    ∙ ap (λ ss. withRoom (length out) (listed ss headers)) (sym same) ∙ with-room (length out) left headers fits in
+removal-told choice catalog map room rs headers out e fits =
+    let answer = removal choice catalog map room (length out) rs headers e fits in
     (ap told answer, ap (λ a. stored a out) answer)
 
--- With any list that has room for the records left.
-pub removal : (choice : List Bool) (catalog map : List ℕ) (room room′ : ℕ) (rs : List Record) (headers : ℕ)
-    → listing catalog map room ≡ listed rs headers
-    → recordWidth * length (recordsLeft choice (definitions catalog) rs) ≤ room′
-    → listing (keeping choice catalog) map room′ ≡ listed (recordsLeft choice (definitions catalog) rs) headers
-removal choice catalog map room room′ rs headers e fits =
-    removal-any-room choice catalog map room room′ rs headers e
-    ∙ with-room room′ (recordsLeft choice (definitions catalog) rs) headers fits
+-- A catalog of which no model is removed lists the same.
+pub nothing-removed : (choice : List Bool) (catalog map : List ℕ) (room models : ℕ) → Each (λ c. c ≡ true) choice
+    → checked catalog ≡ accepted models → listing (keeping choice catalog) map room ≡ listing catalog map room
+nothing-removed choice catalog map room models all e =
+    ap (λ ws. listing ws map room) (catalogs.nothing-removed choice catalog models all e)
