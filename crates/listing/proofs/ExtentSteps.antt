@@ -14,7 +14,7 @@ use Rattle.catalog.proofs.TestLaws.{clash}
 use Rattle.listing.specs.Points.{Scope}
 use Rattle.listing.specs.Layout.{countOf, groupsSize, fillSize, countUnimplemented}
 use Rattle.listing.specs.Counts.{groupsPoints, fillPoints, sizeOr0}
-use Rattle.listing.specs.Answers.{ExtentOf, Capped, WithGroup}
+use Rattle.listing.specs.Promises.{ExtentOf, SameExtent, WithGroup}
 use Rattle.listing.specs.declared.extents.Run.{Run}
 use Rattle.listing.specs.declared.extents.Extent.{Extent}
 use Rattle.listing.proofs.Capping.{capped-factor}
@@ -105,7 +105,7 @@ module _ (top : Scope) (all : Groups) where
       not-yet (group h ps inside behind) = (fs, fp)
 
   -- All are met.
-  pub all-met : (sum r : Extent) → SummedUp top all noGroup sum → Capped sum r → ExtentOf top all r
+  pub all-met : (sum r : Extent) → SummedUp top all noGroup sum → SameExtent sum r → ExtentOf top all r
   unfolding groupsSize groupsPoints fillSize fillPoints countUnimplemented
   all-met sum r s c =
       record {

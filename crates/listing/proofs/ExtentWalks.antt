@@ -9,7 +9,7 @@ use Rattle.catalog.specs.Frames.{Point, Head, endFrame, fill}
 use Rattle.catalog.specs.Definitions.{Groups, noGroup, group, pointsSize, pointFrames, groupFrames}
 use Rattle.listing.specs.Points.{Scope}
 use Rattle.listing.specs.Walks.{heldAt, pastEnd, headOf, frameIn, AtGroups}
-use Rattle.listing.specs.Answers.{RunOf, ExtentOf, Capped, WithGroup}
+use Rattle.listing.specs.Promises.{RunOf, ExtentOf, SameExtent, WithGroup}
 use Rattle.listing.specs.declared.extents.Run.{Run}
 use Rattle.listing.specs.declared.extents.Extent.{Extent}
 use Rattle.listing.proofs.Standing as standing
@@ -108,7 +108,7 @@ module _ (ws : List ℕ) (top : Scope) (levels first : ℕ) (sum : Extent) (walk
       (there, omega (arith, next))
 
   -- The end.
-  pub walk-ends : headOf (frameIn ws (sum .next)) ≡ none → (r : Extent) → Capped sum r → r .next ≡ sum .next + 1
+  pub walk-ends : headOf (frameIn ws (sum .next)) ≡ none → (r : Extent) → SameExtent sum r → r .next ≡ sum .next + 1
       → ExtentOf top (heldAt ws first .groups) r × (r .next ≡ pastEnd ws first)
   walk-ends e r c n =
       let g = standing.no-group ws (sum .next) (walked .standing .stands) (walked .standing .noPoint) e in

@@ -17,7 +17,7 @@ use Rattle.listing.specs.Points.{ModelPoint, Scope}
 use Rattle.listing.specs.Layout.{withPoint, within, countOf, groupsSize, pointsAt, instances, groupsAt}
 use Rattle.listing.specs.Counts.{groupsPoints}
 use Rattle.listing.specs.Walks.{scopeIn, Elsewhere, IsTable}
-use Rattle.listing.specs.Answers.{written}
+use Rattle.listing.specs.Promises.{written}
 use Rattle.listing.specs.declared.records.Place.{Place}
 use Rattle.listing.proofs.GroupNumbers.{none-of-parts, NoneOf}
 use Rattle.listing.proofs.IntoGroups.{SoundBelow, beside}

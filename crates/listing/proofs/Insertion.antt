@@ -19,7 +19,7 @@ use Rattle.register_map.specs.Scan.{Model, totalSize, scan, WellFormed}
 use Rattle.register_map.specs.Insertion.{placed, lengthened, gapsBefore}
 use Rattle.register_map.proofs.PlacedModels.{placed-length}
 use Rattle.register_map.proofs.Lengthened.{lengthened-scan, lengthened-length, lengthened-none}
-use Rattle.listing.specs.Listing.{Record, numbersOf, Answer, refused, listed, listing, pointCount, stored, told}
+use Rattle.listing.specs.Listing.{Record, recordNumbers, Answer, refused, listed, listing, pointCount, stored, told}
 use Rattle.listing.specs.Stability.{MadeOfWholeModels, UnknownModel, shifted, movedAnswer, MovedByLower, refusalNumber}
 use Rattle.listing.proofs.EachLaws.{each-implied}
 use Rattle.listing.proofs.WholeMaps.{whole-ends, whole-models, lengthened-models}
@@ -53,7 +53,7 @@ insertion-told catalog map gaps out whole unknown short =
 -- ---- What it says, in part
 
 -- Of a record's ten numbers only the model's index and the address change.
-pub shifted-numbers : (ms : List Model) (r : Record) → numbersOf (shifted ms r)
+pub shifted-numbers : (ms : List Model) (r : Record) → recordNumbers (shifted ms r)
     ≡ (r .index + length ms)
     ∷ r .id
     ∷ r .point .number
@@ -65,7 +65,7 @@ pub shifted-numbers : (ms : List Model) (r : Record) → numbersOf (shifted ms r
     ∷ r .point .raw
     ∷ r .point .scale
     ∷ []
-unfolding numbersOf
+unfolding recordNumbers
 shifted-numbers ms r = refl
 
 -- The number of a refusal stays, and so does acceptance.

@@ -48,7 +48,7 @@ abbrev longer : List ℕ
 longer = 0x5375 ∷ 0x6E53 ∷ 1 ∷ 1 ∷ 40 ∷ 9 ∷ 2 ∷ 0 ∷ 0 ∷ 10 ∷ 1 ∷ 5 ∷ 7 ∷ 1 ∷ 50 ∷ 9 ∷ 3 ∷ 1 ∷ 2 ∷ 3 ∷ 0xFFFF ∷ 0 ∷ 77 ∷ []
 
 pub is-longer : lengthened plant gaps ≡ longer
-unfolding scanFrom scan placed lengthened Scan.registersOf
+unfolding scanFrom scan placed lengthened Scan.modelRegisters
 is-longer = refl
 
 abbrev point : ℕ → ModelPoint

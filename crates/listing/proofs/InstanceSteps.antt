@@ -12,7 +12,7 @@ use Rattle.listing.specs.Points.{Scope}
 use Rattle.listing.specs.Layout.{within, countOf, groupsSize, pointsAt, groupsAt}
 use Rattle.listing.specs.Counts.{groupsPoints}
 use Rattle.listing.specs.Walks.{heldAt, Stands, pastEnd, headOf, frameIn, levelOf, scopeIn, noted, Elsewhere, IsTable}
-use Rattle.listing.specs.Answers.{written, RunAsks, GroupsAsk, BehindRun, BehindGroups}
+use Rattle.listing.specs.Promises.{written, RunAsks, GroupsAsk, BehindRun, BehindGroups}
 use Rattle.listing.specs.declared.records.Place.{Place}
 use Rattle.listing.specs.declared.records.Progress.{Progress}
 use Rattle.listing.proofs.Standing as standing

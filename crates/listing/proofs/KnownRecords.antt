@@ -11,7 +11,7 @@ use Rattle.catalog.specs.Soundness.{idsOf}
 use Rattle.register_map.specs.Scan.{Model, sizeOf, Ending, marked, broken, scan}
 use Rattle.listing.specs.Points.{ModelPoint}
 use Rattle.listing.specs.Reading.{Reading, unknown, faulty, points, reading}
-use Rattle.listing.specs.Listing.{Record, recordOf, Answer, refused, listed, inFront, walk, listing}
+use Rattle.listing.specs.Listing.{Record, recordOf, Answer, refused, listed, withRecords, walk, listing}
 use Rattle.listing.proofs.EachLaws.{each-append}
 use Rattle.listing.proofs.WalkSteps.{walk-unknown, walk-faulty, walk-points}
 use Rattle.listing.proofs.ReadingLeft.{unknown-left}
@@ -27,7 +27,7 @@ module _ (ds : List Definition) where
   KnownIn (refused n place headers) = Unit {0}
   KnownIn (listed rs headers) = Each Known rs
 
-  known-in-front : (rs : List Record) (answer : Answer) → Each Known rs → KnownIn answer → KnownIn (inFront rs answer)
+  known-in-front : (rs : List Record) (answer : Answer) → Each Known rs → KnownIn answer → KnownIn (withRecords rs answer)
   known-in-front rs (refused n place headers) k l = tt
   known-in-front rs (listed ss headers) k l = each-append Known rs ss k l
 

@@ -15,7 +15,7 @@ use Rattle.listing.specs.Reading.{Reading, unknown, faulty, points}
 use Rattle.listing.specs.Listing as Listing
 use Rattle.listing.specs.Listing.{Record, recordWidth, recordOf, Answer, listed, walked, entries, stored}
 use Rattle.listing.specs.Walks.{pointsOf}
-use Rattle.listing.specs.Answers.{written, WalkFits}
+use Rattle.listing.specs.Promises.{written, WalkFits}
 use Rattle.listing.specs.declared.records.Place.{Place}
 use Rattle.listing.proofs.WrittenRecords.{sets-append, entries-length, entries-append, written-none}
 use Rattle.listing.proofs.WalkSteps.{not-listed, in-front-listed}

@@ -15,7 +15,7 @@ use Rattle.register_map.proofs.HeaderCases.{model-ends}
 use Rattle.listing.specs.Points.{ModelPoint}
 use Rattle.listing.specs.Reading.{Reading, unknown, faulty, points, Fault, faultNumber}
 use Rattle.listing.specs.Listing as Listing
-use Rattle.listing.specs.Listing.{recordOf, Answer, listed, inFront, walk, walked}
+use Rattle.listing.specs.Listing.{recordOf, Answer, listed, withRecords, walk, walked}
 use Rattle.listing.proofs.WalkSteps.{walk-unknown, walk-faulty, walk-points}
 
 -- The models from the header at an address on.
@@ -134,9 +134,9 @@ module _ (read : Model → Reading) (map : List ℕ) (index at : ℕ) where
     -- The records of the others stand in front of those behind them.
     pub walk-at-points : {ps : List ModelPoint} → read (modelAt map at id len) ≡ points ps
         → walkAt read map index at
-        ≡ inFront (Lists.map (recordOf index at (modelAt map at id len)) ps) (walkAt read map (index + 1) (at + (2 + len)))
+        ≡ withRecords (Lists.map (recordOf index at (modelAt map at id len)) ps) (walkAt read map (index + 1) (at + (2 + len)))
     walk-at-points {ps} e =
         let s = scanAt map (at + 2 + len) in
         by-scan (scan-at-model map at id len low h)
         ∙ walk-points read (s .ending) index at (modelAt map at id len) (s .models) e
-        ∙ ap (inFront (Lists.map (recordOf index at (modelAt map at id len)) ps)) behind
+        ∙ ap (withRecords (Lists.map (recordOf index at (modelAt map at id len)) ps)) behind

@@ -12,7 +12,7 @@ use Rattle.register_map.proofs.HeaderCases.{model-ends}
 use Rattle.listing.specs.Points.{ModelPoint}
 use Rattle.listing.specs.Reading.{Reading, unknown, faulty, points, Fault, faultNumber}
 use Rattle.listing.specs.Listing as Listing
-use Rattle.listing.specs.Listing.{Record, recordOf, Answer, listed, inFront, walked, Told, refusedTold, listedTold, told}
+use Rattle.listing.specs.Listing.{Record, recordOf, Answer, listed, withRecords, walked, Told, refusedTold, listedTold, told}
 use Rattle.listing.specs.Walks.{surveyedUnknown, surveyedRefused, surveyedPoints, surveyed, pointsOf, HasPoints}
 use Rattle.listing.proofs.MapSteps.{walkAt, modelAt, body-length, walk-starts, walk-at-end, walk-at-refused, walk-at-late, walk-at-unknown, walk-at-faulty, walk-at-points}
 
@@ -58,7 +58,7 @@ with-no-points (refusedTold number place headers) = refl
 with-no-points (listedTold k headers) = ap (λ n. listedTold n headers) (omega arith)
 
 with-more-points : (n : ℕ) (rs : List Record) (a : Answer)
-    → withPoints n (told (inFront rs a)) ≡ withPoints (n + length rs) (told a)
+    → withPoints n (told (withRecords rs a)) ≡ withPoints (n + length rs) (told a)
 with-more-points n rs (Listing.refused number place headers) = refl
 with-more-points n rs (listed ss headers) = ap (λ k. listedTold k headers) (omega (arith, length-append rs ss))
 

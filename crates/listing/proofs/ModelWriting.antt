@@ -20,7 +20,7 @@ use Rattle.listing.specs.Counts.{groupsPoints}
 use Rattle.listing.specs.Reading.{Reading, faulty, points, pad, endsWithPad, allButLast, padLeftOut, belowTopPoints, countPointUnimplemented, notTheSize, laidOut, readBy, reading}
 use Rattle.listing.specs.Listing.{recordWidth}
 use Rattle.listing.specs.Walks.{heldAt, Accepted, scopeIn, begun, IsTable, AtGroups, pointsOf, HasPoints, Ready}
-use Rattle.listing.specs.Answers.{written, RunAsks, BehindRun, GroupsAsk, BehindGroups}
+use Rattle.listing.specs.Promises.{written, RunAsks, BehindRun, GroupsAsk, BehindGroups}
 use Rattle.listing.specs.declared.records.Place.{Place}
 use Rattle.listing.specs.declared.records.Progress.{Progress}
 use Rattle.listing.proofs.Standing as standing

@@ -13,9 +13,9 @@ use Rattle.catalog.specs.Rules.{isSizeOf}
 use Rattle.catalog.specs.Definitions.{pointsSize}
 use Rattle.listing.specs.Points.{ModelPoint, registersAt, pointAt}
 use Rattle.listing.specs.Layout.{pointsAt}
-use Rattle.listing.specs.Listing.{numbersOf, recordWidth}
+use Rattle.listing.specs.Listing.{recordNumbers, recordWidth}
 use Rattle.listing.specs.Walks.{heldAt, pointOf, frameIn, scopeIn, begun}
-use Rattle.listing.specs.Answers.{ShownOf, recordAt, written, RunAsks, BehindRun}
+use Rattle.listing.specs.Promises.{ShownOf, recordAt, written, RunAsks, BehindRun}
 use Rattle.listing.specs.declared.points.Shown.{Shown}
 use Rattle.listing.specs.declared.records.Place.{Place}
 use Rattle.listing.specs.declared.records.Progress.{Progress}
@@ -28,8 +28,8 @@ pub shown-numbers : (place : Place) (body table path : List ℕ) (offset : ℕ) 
     → ShownOf p (registersAt body offset p) (scopeIn table (p .scale)) shown
     → place .index ∷ place .id ∷ p .number ∷ getD path 0 0 ∷ getD path 1 0 ∷ getD path 2 0 ∷ (place .address + 2 + offset)
     ∷ shown .status ∷ shown .raw ∷ shown .scale ∷ []
-    ≡ numbersOf (recordAt place (pointAt body (scopeIn table) path offset p))
-unfolding numbersOf pointAt
+    ≡ recordNumbers (recordAt place (pointAt body (scopeIn table) path offset p))
+unfolding recordNumbers pointAt
 shown-numbers place body table path offset p shown s = rw (s .status, s .raw, s .scale)
 
 -- The points that are left to write.
@@ -122,7 +122,7 @@ module _ {ws body table : List ℕ} {place : Place} {path out₀ : List ℕ} {at
     -- Once its record is written, the others are left.
     pub still-first : (out′ : List ℕ)
         → out′
-        ≡ sets out (recordWidth * at .records) (numbersOf (recordAt place (pointAt body (scopeIn table) path (at .offset) p)))
+        ≡ sets out (recordWidth * at .records) (recordNumbers (recordAt place (pointAt body (scopeIn table) path (at .offset) p)))
         → StillWrites ws body table place path out₀ at₀ out′ (pastPoint at p)
     unfolding pointsAt
     still-first out′ e =
@@ -140,7 +140,7 @@ module _ {ws body table : List ℕ} {place : Place} {path out₀ : List ℕ} {at
         ap (λ (ps : List Point). pointsAt body (scopeIn table) path (at .offset) ps) first-left in
         let one : written place k (x ∷ []) out ≡ out′ = written-one place k x out ∙ sym e in
         let same : length out′ ≡ length out =
-        ap length e ∙ length-sets out (recordWidth * k) (numbersOf (recordAt place x)) in
+        ap length e ∙ length-sets out (recordWidth * k) (recordNumbers (recordAt place x)) in
         record {
           asks = record {
             stands = next .2;

@@ -6,7 +6,7 @@ use native.Mathlib.Omega.{arith}
 use Rattle.register_map.specs.Scan.{Model, sizeOf, Ending, marked, broken}
 use Rattle.listing.specs.Points.{ModelPoint}
 use Rattle.listing.specs.Reading.{Reading, unknown, faulty, points}
-use Rattle.listing.specs.Listing.{Record, recordOf, Answer, refused, listed, inFront, walk}
+use Rattle.listing.specs.Listing.{Record, recordOf, Answer, refused, listed, withRecords, walk}
 use Rattle.listing.proofs.WalkSteps.{withModel}
 
 -- A record whose index is higher by n and whose address is higher by d.
@@ -21,7 +21,7 @@ raisedAnswer n d (listed rs headers) = listed (map (raised n d) rs) (headers + n
 module _ (n d : ℕ) where
   -- Records in front of an answer are raised with it.
   raised-in-front : (rs : List Record) (a : Answer)
-      → raisedAnswer n d (inFront rs a) ≡ inFront (map (raised n d) rs) (raisedAnswer n d a)
+      → raisedAnswer n d (withRecords rs a) ≡ withRecords (map (raised n d) rs) (raisedAnswer n d a)
   raised-in-front rs (refused number place headers) = refl
   raised-in-front rs (listed ss headers) = ap (λ ts. listed ts (headers + n)) (map-append (raised n d) rs ss)
 
@@ -39,7 +39,7 @@ module _ (n d : ℕ) where
   raised-model unknown index at m a = refl
   raised-model (faulty fault) index at m a = refl
   raised-model (points ps) index at m a =
-      ap (λ rs. inFront rs (raisedAnswer n d a)) (raised-records index at m ps)
+      ap (λ rs. withRecords rs (raisedAnswer n d a)) (raised-records index at m ps)
       ∙ sym (raised-in-front (map (recordOf index at m) ps) a)
 
   pub walk-raised : (read : Model → Reading) (ending : Ending) (index at : ℕ) (ms : List Model)

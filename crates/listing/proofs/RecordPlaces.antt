@@ -9,7 +9,7 @@ use Rattle.values.specs.Each.{Each}
 use Rattle.register_map.specs.Scan.{Model, sizeOf, totalSize, marked}
 use Rattle.listing.specs.Points.{ModelPoint}
 use Rattle.listing.specs.Reading.{Reading, unknown, faulty, points}
-use Rattle.listing.specs.Listing.{recordOf, Answer, refused, listed, inFront, walk}
+use Rattle.listing.specs.Listing.{recordOf, Answer, refused, listed, withRecords, walk}
 use Rattle.listing.proofs.PointsInside.{Inside}
 use Rattle.listing.proofs.WalkSteps.{withModel}
 use Rattle.listing.proofs.RaisedWalks.{raisedAnswer}
@@ -57,7 +57,7 @@ module _ (at : ℕ) (m : Model) (ms : List Model) where
 
   -- With the records of the first model in front, and with what is read of it.
   with-records : (ps : List ModelPoint) (a : Answer) → Each (λ p. p .offset ≤ length (m .body)) ps → AllInModels at (m ∷ ms) a
-      → AllInModels at (m ∷ ms) (inFront (map (recordOf 0 at m) ps) a)
+      → AllInModels at (m ∷ ms) (withRecords (map (recordOf 0 at m) ps) a)
   with-records ps (refused number place headers) h i = i
   with-records [] (listed rs headers) h i = i
   with-records (p ∷ ps) (listed rs headers) h i =

@@ -77,7 +77,7 @@ unfolding Headers.opening
 opening-number map n =
     let W : Option ℕ → Type 0 = λ o. o ≡ some n → Between 20 21 n in
     by-test W (ltb 65536 (length map)) (λ t e. let same : 20 ≡ n = cc in (omega arith, omega arith))
-    (λ t. by-test W (Headers.isMarked map) (λ u e. let z : _≡_ {A = ℕ} 0 1 = cc in absurd (omega arith))
+    (λ t. by-test W (Headers.beginsWithSunS map) (λ u e. let z : _≡_ {A = ℕ} 0 1 = cc in absurd (omega arith))
     (λ u e. let same : 21 ≡ n = cc in (omega arith, omega arith)))
 
 -- A header's refusal.

@@ -11,7 +11,7 @@ use Rattle.catalog.specs.Frames.{Point}
 use Rattle.catalog.specs.Definitions.{pointsSize}
 use Rattle.listing.specs.Reading.{pad, endsWithPad}
 use Rattle.listing.specs.Walks.{heldAt, Stands, pointOf, frameIn}
-use Rattle.listing.specs.Answers.{RunOf}
+use Rattle.listing.specs.Promises.{RunOf}
 use Rattle.listing.proofs.Standing as standing
 
 -- Is the last of these points a pad, or where there is none, was the one in front of them?

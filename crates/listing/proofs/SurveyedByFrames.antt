@@ -12,7 +12,8 @@ use Rattle.catalog.specs.Soundness.{SoundPoint, SoundGroups}
 use Rattle.listing.specs.Layout.{nothing, topScope, fits, fillOf, contentAt}
 use Rattle.listing.specs.Reading.{padLeftOut, readBy}
 use Rattle.listing.specs.Walks.{heldAt, Stands, Accepted, topOf, scopeIn, noted, begun, IsTable, surveyedRefused, surveyedPoints, surveyed, Ready, AtGroups}
-use Rattle.listing.specs.Answers.{RunOf, ExtentOf, fittedBy, surveyForm, ReadyBy}
+use Rattle.listing.specs.Answers.{surveyForm}
+use Rattle.listing.specs.Promises.{RunOf, ExtentOf, fittedBy, ReadyBy}
 use Rattle.listing.specs.declared.extents.Run.{Run}
 use Rattle.listing.specs.declared.extents.Extent.{Extent}
 use Rattle.listing.specs.declared.surveys.Survey.{Survey}

@@ -20,7 +20,8 @@ use Rattle.listing.specs.Layout.{topScope, countOf, groupsSize, fillSize
 use Rattle.listing.specs.Counts.{groupsPoints, fillPoints, sizeOr0}
 use Rattle.listing.specs.Reading.{faulty, points, belowTopPoints, countPointUnimplemented, notTheSize, allButLast, padLeftOut, laidOut, readBy}
 use Rattle.listing.specs.Walks.{surveyedRefused, surveyedPoints, surveyed, Ready}
-use Rattle.listing.specs.Answers.{ExtentOf, fittedBy, surveyForm, ReadyBy}
+use Rattle.listing.specs.Answers.{surveyForm}
+use Rattle.listing.specs.Promises.{ExtentOf, fittedBy, ReadyBy}
 use Rattle.listing.specs.declared.extents.Run.{Run}
 use Rattle.listing.specs.declared.extents.Extent.{Extent}
 use Rattle.listing.specs.declared.surveys.Survey.{Survey}

@@ -7,7 +7,7 @@ use native.Mathlib.Omega.{arith}
 use lib.ListN.{length, take}
 use Rattle.register_map.specs.Scan.{Model, sizeOf, totalSize, Ending, marked, broken}
 use Rattle.listing.specs.Reading.{Reading, unknown, faulty, points}
-use Rattle.listing.specs.Listing.{Record, recordOf, Answer, refused, listed, inFront, walk}
+use Rattle.listing.specs.Listing.{Record, recordOf, Answer, refused, listed, withRecords, walk}
 use Rattle.listing.proofs.WalkSteps.{walk-no-records, walk-faulty, walk-points}
 use Rattle.listing.proofs.RefusalNumbers.{Between, model-number}
 
@@ -28,7 +28,7 @@ HeadersWalked ending index at ms (listed rs headers) = (headers ≡ index + leng
 
 -- One model more.
 headers-in-front : (ending : Ending) (index at : ℕ) (m : Model) (ms : List Model) (rs : List Record) (answer : Answer)
-    → HeadersWalked ending (index + 1) (at + sizeOf m) ms answer → HeadersWalked ending index at (m ∷ ms) (inFront rs answer)
+    → HeadersWalked ending (index + 1) (at + sizeOf m) ms answer → HeadersWalked ending index at (m ∷ ms) (withRecords rs answer)
 headers-in-front ending index at m ms rs (refused n place headers) r =
     let within = r .within in
     let counted = r .counted in

@@ -7,7 +7,7 @@ use native.Mathlib.Omega.{arith}
 use Rattle.catalog.specs.Definitions.{Definition}
 use Rattle.register_map.specs.Scan.{Model, sizeOf, Ending, marked, broken}
 use Rattle.listing.specs.Reading.{Fault, faultNumber, Reading, unknown, faulty, points}
-use Rattle.listing.specs.Listing.{Record, recordOf, Answer, refused, listed, inFront, walk}
+use Rattle.listing.specs.Listing.{Record, recordOf, Answer, refused, listed, withRecords, walk}
 use Rattle.listing.specs.Removed.{keepsId, recordsLeft, keepsAt}
 use Rattle.listing.proofs.WalkSteps.{walk-no-records, walk-faulty, walk-points}
 use Rattle.listing.proofs.ReadingLeft.{readingIf}
@@ -34,10 +34,10 @@ module _ (choice : List Bool) (ds : List Definition) where
 
   -- Records in front, and what is left of them.
   leaves-in-front : (index : ℕ) (m : Model) (ms : List Model) (rs : List Record) (all left : Answer)
-      → Leaves (index + 1) ms all left → Leaves index (m ∷ ms) (inFront rs all) (inFront (recordsLeft choice ds rs) left)
+      → Leaves (index + 1) ms all left → Leaves index (m ∷ ms) (withRecords rs all) (withRecords (recordsLeft choice ds rs) left)
   unfolding keepsAt
   leaves-in-front index m ms rs (refused number place headers) left l =
-      let same = l .1 in (suc (l .0), omega arith, λ k. ap (inFront (recordsLeft choice ds rs)) (l .2 k))
+      let same = l .1 in (suc (l .0), omega arith, λ k. ap (withRecords (recordsLeft choice ds rs)) (l .2 k))
   leaves-in-front index m ms rs (listed ts headers) left l = rw (l, left-behind choice ds rs ts)
 
   module _ (read less : Model → Reading) (by-choice : (m : Model) → less m ≡ readingIf (keepsId choice ds (m .id)) (read m))
@@ -53,7 +53,7 @@ module _ (choice : List Bool) (ds : List Definition) where
 
       -- What stands in front of them.
       in-front : (rs ss : List Record) → recordsLeft choice ds rs ≡ ss → Leaves (index + 1) ms all left
-          → walk read ending index at (m ∷ ms) ≡ inFront rs all → walk less ending index at (m ∷ ms) ≡ inFront ss left
+          → walk read ending index at (m ∷ ms) ≡ withRecords rs all → walk less ending index at (m ∷ ms) ≡ withRecords ss left
           → Leaves index (m ∷ ms) (walk read ending index at (m ∷ ms)) (walk less ending index at (m ∷ ms))
       unfolding all left
       in-front rs ss e l f g = rw (f, g, ← e) (leaves-in-front index m ms rs all left l)

@@ -6,10 +6,10 @@ use native.Mathlib.Omega.{arith}
 use Rattle.register_map.specs.Scan.{Model, sizeOf, Ending}
 use Rattle.listing.specs.Points.{ModelPoint}
 use Rattle.listing.specs.Reading.{Reading, unknown, faulty, points, Fault, faultNumber}
-use Rattle.listing.specs.Listing.{Record, recordOf, Answer, refused, listed, inFront, walk}
+use Rattle.listing.specs.Listing.{Record, recordOf, Answer, refused, listed, withRecords, walk}
 
 -- With no records in front an answer is as it was.
-none-in-front : (answer : Answer) → inFront [] answer ≡ answer
+none-in-front : (answer : Answer) → withRecords [] answer ≡ answer
 none-in-front (refused number place headers) = refl
 none-in-front (listed rs headers) = refl
 
@@ -20,7 +20,7 @@ not-listed e = let z : _≡_ {A = ℕ} 0 1 = cc in absurd (omega arith)
 
 -- With records in front an answer lists these and what it lists.
 pub in-front-listed : (front : List Record) (answer : Answer) (rs : List Record) (headers : ℕ)
-    → inFront front answer ≡ listed rs headers
+    → withRecords front answer ≡ listed rs headers
     → (ss : List Record) × (answer ≡ listed ss headers) × (rs ≡ front ++ ss)
 in-front-listed front (refused number place models) rs headers e = not-listed e
 in-front-listed front (listed ss n) rs headers e = (ss, ap (λ k. listed ss k) cc, cc)
@@ -31,7 +31,7 @@ withModel r index at m behind =
     elim r [
       | unknown ↦ behind
       | faulty fault ↦ refused (faultNumber fault) at index
-      | points ps ↦ inFront (map (recordOf index at m) ps) behind
+      | points ps ↦ withRecords (map (recordOf index at m) ps) behind
     ]
 
 -- A walk is its first model in front of the walk behind it.
@@ -48,7 +48,7 @@ module _ (read : Model → Reading) (ending : Ending) (index at : ℕ) (m : Mode
       walk-model read ending index at m ms ∙ ap (λ r. withModel r index at m rest) e
 
   pub walk-no-records : read m ≡ unknown
-      → walk read ending index at (m ∷ ms) ≡ inFront [] (walk read ending (index + 1) (at + sizeOf m) ms)
+      → walk read ending index at (m ∷ ms) ≡ withRecords [] (walk read ending (index + 1) (at + sizeOf m) ms)
   walk-no-records e = walk-unknown e ∙ sym (none-in-front (walk read ending (index + 1) (at + sizeOf m) ms))
 
   -- A faulty one is refused.
@@ -61,7 +61,7 @@ module _ (read : Model → Reading) (ending : Ending) (index at : ℕ) (m : Mode
   -- The records of the others stand in front of those behind them.
   pub walk-points : {ps : List ModelPoint} → read m ≡ points ps
       → walk read ending index at (m ∷ ms)
-      ≡ inFront (map (recordOf index at m) ps) (walk read ending (index + 1) (at + sizeOf m) ms)
+      ≡ withRecords (map (recordOf index at m) ps) (walk read ending (index + 1) (at + sizeOf m) ms)
   walk-points e =
       let rest = walk read ending (index + 1) (at + sizeOf m) ms in
       walk-model read ending index at m ms ∙ ap (λ r. withModel r index at m rest) e

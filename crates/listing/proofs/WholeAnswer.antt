@@ -6,7 +6,7 @@ use native.Mathlib.Omega.{arith}
 use borrow.Author.Tests.{lt-ltb}
 use lib.ListN.{length}
 use Rattle.listing.specs.Listing.{recordWidth, Answer, refused, listed, withRoom, stored, Told, refusedTold, listedTold, told}
-use Rattle.listing.specs.Answers.{WalkFits}
+use Rattle.listing.specs.Promises.{WalkFits}
 use Rattle.listing.proofs.ListingCases.{with-room}
 
 -- What is told and what the list is then are those of an answer.

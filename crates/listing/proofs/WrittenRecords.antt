@@ -8,8 +8,8 @@ use native.Mathlib.Omega.{arith}
 use lib.ListN.{length, getD, drop, set, length-append, length-map}
 use lib.Seq.{sets, drop-cons, length-sets}
 use Rattle.listing.specs.Points.{ModelPoint}
-use Rattle.listing.specs.Listing.{Record, numbersOf, recordWidth, entries}
-use Rattle.listing.specs.Answers.{recordAt, written}
+use Rattle.listing.specs.Listing.{Record, recordNumbers, recordWidth, entries}
+use Rattle.listing.specs.Promises.{recordAt, written}
 use Rattle.listing.specs.declared.records.Place.{Place}
 
 -- ---- Runs of stores
@@ -30,20 +30,20 @@ sets-more l i k vs h =
 
 -- ---- The numbers of records
 
-numbers-length : (r : Record) → length (numbersOf r) ≡ recordWidth
-unfolding numbersOf
+numbers-length : (r : Record) → length (recordNumbers r) ≡ recordWidth
+unfolding recordNumbers
 numbers-length r = refl
 
 pub entries-length : (rs : List Record) → length (entries rs) ≡ recordWidth * length rs
 unfolding entries
 entries-length [] = refl
 entries-length (r ∷ rs) =
-    omega (arith, length-append (numbersOf r) (entries rs), numbers-length r, entries-length rs)
+    omega (arith, length-append (recordNumbers r) (entries rs), numbers-length r, entries-length rs)
 
 pub entries-append : (rs ss : List Record) → entries (rs ++ ss) ≡ entries rs ++ entries ss
 unfolding entries
 entries-append [] ss = refl
-entries-append (r ∷ rs) ss = rw (entries-append rs ss, append-assoc (numbersOf r) (entries rs) (entries ss))
+entries-append (r ∷ rs) ss = rw (entries-append rs ss, append-assoc (recordNumbers r) (entries rs) (entries ss))
 
 -- ---- Records written
 
@@ -57,8 +57,8 @@ module _ (place : Place) (k : ℕ) where
 
   -- The record of one point.
   pub written-one : (p : ModelPoint) (out : List ℕ)
-      → written place k (p ∷ []) out ≡ sets out (recordWidth * k) (numbersOf (recordAt place p))
-  unfolding entries numbersOf
+      → written place k (p ∷ []) out ≡ sets out (recordWidth * k) (recordNumbers (recordAt place p))
+  unfolding entries recordNumbers
   written-one p out = refl
 
   -- Writing the records of ps ++ qs is writing those of ps, and then those of qs behind them.

@@ -1,35 +1,17 @@
 -- What the code's types stand for.
-use mathlib.Core.Path.{_≡_}
-use mathlib.Core.Bool.{true, false, _&&_, _||_}
 use mathlib.Core.Option.{Option, none, some}
-use mathlib.Core.List.{List, map}
-use Prim.Native.Nat.{ℕ, _+_, _*_, _-_, _/_, _%_, _≤_, min}
-use lib.Dec.{eqb, ltb}
-use lib.ListN.{length}
-use lib.Seq.{sets}
-use Rattle.values.specs.Each.{Each}
-use Rattle.values.specs.Registers.{join, shownRaw}
-use Rattle.values.specs.Classes.{classified}
+use mathlib.Core.List.{List}
+use Prim.Native.Nat.{ℕ, _-_}
 use Rattle.catalog.specs.Frames as Frames
-use Rattle.catalog.specs.Rules.{isSizeOf}
 use Rattle.catalog.specs.Answers.{headForm, pointForm}
-use Rattle.catalog.specs.Definitions.{Groups, Content, pointsSize}
-use Rattle.listing.specs.Points.{ModelPoint, Scope, statusOf, scaleOf}
-use Rattle.listing.specs.Layout.{countOf, groupsSize, fillSize, countUnimplemented}
-use Rattle.listing.specs.Counts.{groupsPoints, fillPoints, sizeOr0}
-use Rattle.listing.specs.Reading.{endsWithPad}
+use Rattle.catalog.specs.Definitions.{Content}
 use Rattle.listing.specs.Listing as Listing
-use Rattle.listing.specs.Walks.{heldAt, Stands, Surveyed, surveyedUnknown, surveyedRefused, surveyedPoints, Ready, pastEnd, scopeIn, IsTable, AtGroups}
+use Rattle.listing.specs.Walks.{heldAt, Surveyed, surveyedUnknown, surveyedRefused, surveyedPoints}
 use Rattle.listing.specs.declared.Listing as Code
 use Rattle.listing.specs.declared.frames.PointOr.{PointOr}
 use Rattle.listing.specs.declared.frames.GroupOr.{GroupOr}
 use Rattle.listing.specs.declared.frames.Found.{Found}
-use Rattle.listing.specs.declared.extents.Run.{Run}
-use Rattle.listing.specs.declared.extents.Extent.{Extent}
 use Rattle.listing.specs.declared.surveys.Survey.{Survey}
-use Rattle.listing.specs.declared.points.Shown.{Shown}
-use Rattle.listing.specs.declared.records.Place.{Place}
-use Rattle.listing.specs.declared.records.Progress.{Progress}
 
 -- The answer of `list`.
 abbrev pub answer : Code.Listing → Listing.Told
@@ -51,124 +33,8 @@ abbrev pub foundForm : List ℕ → Found → Option Content
 foundForm ws (Found.At i) = some (heldAt ws i)
 foundForm ws Found.Nothing = none
 
--- The walk stands at the definition that was found.
-abbrev pub FoundStands : List ℕ → Found → Type 0
-FoundStands ws (Found.At i) = Stands ws i
-FoundStands ws Found.Nothing = Unit {0}
-
--- A run is that of the points of the group at frame `first`.
-pub record RunOf (ws : List ℕ) (first : ℕ) (r : Run) : Type 0 where
-  pub size : r .size ≡ pointsSize (heldAt ws first .points)
-  pub points : r .points ≡ length (heldAt ws first .points)
-  pub next : r .next ≡ first + length (heldAt ws first .points)
-  pub pad : r .«ends_with_pad» ≡ endsWithPad (heldAt ws first .points)
-
--- An extent is that of these groups, with counts from a scope, capped.
-pub record ExtentOf (top : Scope) (gs : Groups) (r : Extent) : Type 0 where
-  pub size : r .size ≡ min (groupsSize (countOf top 0) gs) 65536
-  pub points : r .points ≡ min (groupsPoints (countOf top 0) gs) 65536
-  pub fillSize : r .«fill_size» ≡ min (sizeOr0 (fillSize (countOf top 0) gs)) 65536
-  pub fillPoints : r .«fill_points» ≡ min (fillPoints (countOf top 0) gs) 65536
-  pub unimplemented : r .unimplemented ≡ countUnimplemented top gs
-
--- The same registers, points, fill and count points.
-pub record Capped (sum r : Extent) : Type 0 where
-  pub size : r .size ≡ sum .size
-  pub points : r .points ≡ sum .points
-  pub fillSize : r .«fill_size» ≡ sum .«fill_size»
-  pub fillPoints : r .«fill_points» ≡ sum .«fill_points»
-  pub unimplemented : r .unimplemented ≡ sum .unimplemented
-
--- The groups so far and one more, by its head, its points and the groups in it.
-pub record WithGroup (sum : Extent) (top : Scope) (h : Frames.Head) (run : Run) (inside r : Extent) : Type 0 where
-  pub size : r .size ≡ min (sum .size + countOf top 0 h * min (run .size + inside .size) 65536) 65536
-  pub points : r .points ≡ min (sum .points + countOf top 0 h * min (run .points + inside .points) 65536) 65536
-  pub fillSize : r .«fill_size»
-      ≡ elim (eqb (h .countKind) Frames.fill) [ true ↦ min (run .size + inside .size) 65536 | false ↦ sum .«fill_size» ]
-  pub fillPoints : r .«fill_points»
-      ≡ elim (eqb (h .countKind) Frames.fill) [ true ↦ min (run .points + inside .points) 65536 | false ↦ sum .«fill_points» ]
-  pub unimplemented : r .unimplemented
-      ≡ (sum .unimplemented
-      || (inside .unimplemented || (eqb (h .countKind) Frames.countByPoint && eqb (top (h .count)) 0xFFFF)))
-  pub next : r .next ≡ inside .next
-
 -- What a survey answers.
 abbrev pub surveyForm : Survey → Surveyed
 surveyForm Survey.Unknown = surveyedUnknown
 surveyForm (Survey.Refused number) = surveyedRefused number
 surveyForm (Survey.Points first points fill) = surveyedPoints points
-
--- 29 by the sizes, or the points.
-abbrev pub fittedBy : ℕ → Run → Extent → ℕ → Survey
-fittedBy first run groups len =
-    let rest = run .size + groups .size in
-    let points = run .points + groups .points in
-    elim (ltb len rest) [
-      | true ↦ Survey.Refused 29
-      | false ↦ elim (eqb (groups .«fill_size») 0) [
-        | true ↦ elim (eqb len rest) [ true ↦ Survey.Points first points 0 | false ↦ Survey.Refused 29 ]
-        | false ↦ elim (eqb ((len - rest) % groups .«fill_size») 0) [
-          | true ↦ Survey.Points first (points + (len - rest) / groups .«fill_size» * groups .«fill_points») ((len - rest) / groups .«fill_size»)
-          | false ↦ Survey.Refused 29
-        ]
-      ]
-    ]
-
--- Where a survey finds points, their definition is ready to be written by.
-abbrev pub ReadyBy : List ℕ → ℕ → List ℕ → List ℕ → Survey → Type 0
-ReadyBy ws id body table Survey.Unknown = Unit {0}
-ReadyBy ws id body table (Survey.Refused number) = Unit {0}
-ReadyBy ws id body table (Survey.Points first points fill) = Ready ws id body table first fill
-
--- What is shown of a point by its registers and the register of its scale point.
-pub record ShownOf (p : Frames.Point) (registers : List ℕ) (register : ℕ) (r : Shown) : Type 0 where
-  pub status : r .status ≡ statusOf p (classified (p .typeCode) (join registers)) register
-  pub raw : r .raw ≡ shownRaw registers
-  pub scale : r .scale ≡ scaleOf p (statusOf p (classified (p .typeCode) (join registers)) register) register
-
--- The record of a point of the model at a place.
-abbrev pub recordAt : Place → ModelPoint → Listing.Record
-recordAt place p =
-    record { index = place .index; id = place .id; address = place .address + 2 + p .offset; point = p }
-
--- A list behind records of the model at a place, the first of them as record number `count`.
-abbrev pub written : Place → ℕ → List ModelPoint → List ℕ → List ℕ
-written place count ps out = sets out (Listing.recordWidth * count) (Listing.entries (map (recordAt place) ps))
-
--- What writing the points of an instance asks for: they stand at the frame, lie in the body, and have room.
-pub record RunAsks (ws body out : List ℕ) (place : Place) (at : Progress) (ps : List Frames.Point) : Type 0 where
-  pub stands : Stands ws (at .frame)
-  pub few : length ws / 8 ≤ 4096
-  pub short : length body ≤ 65535
-  pub address : place .address ≤ 65536
-  pub sized : Each (λ p. isSizeOf (p .typeCode) (p .size) ≡ true) (heldAt ws (at .frame) .points)
-  pub inside : at .offset + pointsSize ps ≤ length body
-  pub room : Listing.recordWidth * (at .records + length ps) ≤ length out
-
--- How far writing has come behind points.
-pub record BehindRun (at : Progress) (ps : List Frames.Point) (r : Progress) : Type 0 where
-  pub records : r .records ≡ at .records + length ps
-  pub offset : r .offset ≡ at .offset + pointsSize ps
-  pub frame : r .frame ≡ at .frame + length ps
-
--- What writing groups asks for: the walk stands at them, they lie in the body, and have room.
-pub record GroupsAsk (ws body table out : List ℕ) (place : Place) (fill levels : ℕ) (path : List ℕ) (at : Progress) : Type 0 where
-  pub standing : AtGroups ws (at .frame) levels
-  pub isTable : IsTable table
-  pub threeLevels : length path ≡ 3
-  pub atMost3 : levels ≤ 3
-  pub filling : fill ≤ 65535
-  pub short : length body ≤ 65535
-  pub address : place .address ≤ 65536
-  pub inside : at .offset + groupsSize (countOf (scopeIn table) fill) (heldAt ws (at .frame) .groups) ≤ length body
-  pub room : Listing.recordWidth * (at .records + groupsPoints (countOf (scopeIn table) fill) (heldAt ws (at .frame) .groups)) ≤ length out
-
--- How far writing has come behind groups.
-pub record BehindGroups (gs : Groups) (count : Frames.Head → ℕ) (at r : Progress) : Type 0 where
-  pub records : r .records ≡ at .records + groupsPoints count gs
-  pub offset : r .offset ≡ at .offset + groupsSize count gs
-
--- The answer is no refusal, and its records have room in a list.
-abbrev pub WalkFits : Listing.Answer → List ℕ → Type 0
-WalkFits (Listing.refused number place headers) out = ⊥
-WalkFits (Listing.listed rs headers) out = Listing.recordWidth * length rs ≤ length out

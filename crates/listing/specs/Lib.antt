@@ -8,3 +8,4 @@ pub mod Removed
 pub mod Tiling
 pub mod Walks
 pub mod Answers
+pub mod Promises

@@ -25,8 +25,8 @@ abbrev pub recordWidth : ℕ
 recordWidth = 10
 
 -- The ten numbers of a record, in order.
-unfoldable pub numbersOf : Record → List ℕ
-numbersOf r =
+unfoldable pub recordNumbers : Record → List ℕ
+recordNumbers r =
     r .index
     ∷ r .id
     ∷ r .point .number
@@ -49,9 +49,9 @@ pub data Answer : Type 0 where
   listed : List Record → ℕ → Answer
 
 -- Records in front of those of an answer.
-abbrev pub inFront : List Record → Answer → Answer
-inFront rs (refused number place headers) = refused number place headers
-inFront rs (listed ss headers) = listed (rs ++ ss) headers
+abbrev pub withRecords : List Record → Answer → Answer
+withRecords rs (refused number place headers) = refused number place headers
+withRecords rs (listed ss headers) = listed (rs ++ ss) headers
 
 -- From the model with an index, at an address, on: header by header, the first fault decides. At the end the headers are the
 -- models and the end marker.
@@ -62,7 +62,7 @@ walk read ending index at (m ∷ ms) =
     elim (read m) [
       | unknown ↦ walk read ending (index + 1) (at + sizeOf m) ms
       | faulty fault ↦ refused (faultNumber fault) at index
-      | points ps ↦ inFront (map (recordOf index at m) ps) (walk read ending (index + 1) (at + sizeOf m) ms)
+      | points ps ↦ withRecords (map (recordOf index at m) ps) (walk read ending (index + 1) (at + sizeOf m) ms)
     ]
 
 -- 30: the list has fewer than 10 × points entries (place: points needed).
@@ -98,7 +98,7 @@ pointCount (listed rs headers) = length rs
 -- The numbers of records, one behind the other.
 unfoldable pub entries : List Record → List ℕ
 entries [] = []
-entries (r ∷ rs) = numbersOf r ++ entries rs
+entries (r ∷ rs) = recordNumbers r ++ entries rs
 
 -- The output list behind an answer: the records' numbers and the rest as it was; on a refusal all as it was.
 unfoldable pub stored : Answer → List ℕ → List ℕ

@@ -16,7 +16,7 @@ ghost use Rattle.catalog.specs.Frames.{countByPoint};
 ghost use Rattle.catalog.specs.Answers.{headForm};
 ghost use Rattle.listing.specs.Layout.{countOf};
 ghost use Rattle.listing.specs.Walks.{heldAt, Stands, pastEnd, scopeIn, IsTable, AtGroups};
-ghost use Rattle.listing.specs.Answers.{RunOf, ExtentOf, Capped, WithGroup};
+ghost use Rattle.listing.specs.Promises.{RunOf, ExtentOf, SameExtent, WithGroup};
 
 // Nested counts can make a size of more than 64 bits. No map has more registers than this, so sizes and
 // numbers of points are capped at it.
@@ -117,7 +117,7 @@ pub(crate) fn groups_extent(catalog: &[u16], table: &[u16], levels: usize, first
 // Past the end frame.
 fn at_end(sum: Extent) -> Extent
     requires { ⌜ sum .next ≤ 65536 ⌝ }
-    ensures { λ r. ⌜ Capped sum r × (r .next ≡ sum .next + 1) ⌝ }
+    ensures { λ r. ⌜ SameExtent sum r × (r .next ≡ sum .next + 1) ⌝ }
 {
     Extent {
         size: sum.size,

@@ -10,7 +10,8 @@ ghost use Rattle.catalog.specs.Frames.{groupFrame};
 ghost use Rattle.catalog.specs.Definitions.{definitions};
 ghost use Rattle.catalog.specs.Answers.{headForm};
 ghost use Rattle.listing.specs.Walks.{Stands, pastEnd, Accepted, pointOf, headOf, frameIn, topOf, openBehind, isModelOf};
-ghost use Rattle.listing.specs.Answers.{pointOrForm, groupOrForm, foundForm, FoundStands};
+ghost use Rattle.listing.specs.Answers.{pointOrForm, groupOrForm, foundForm};
+ghost use Rattle.listing.specs.Promises.{FoundStands};
 
 // A point frame, or any other.
 pub(crate) enum PointOr {

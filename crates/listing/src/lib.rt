@@ -29,7 +29,8 @@ ghost use Rattle.register_map.specs.Headers.{opening};
 ghost use Rattle.listing.specs.Reading.{reading};
 ghost use Rattle.listing.specs.Listing as Listings;
 ghost use Rattle.listing.specs.Walks.{Accepted, IsTable, pointsOf};
-ghost use Rattle.listing.specs.Answers.{answer, written, WalkFits};
+ghost use Rattle.listing.specs.Answers.{answer};
+ghost use Rattle.listing.specs.Promises.{written, WalkFits};
 
 // The address of the first header.
 const FIRST: usize = 2;

@@ -22,9 +22,9 @@ ghost use Rattle.catalog.specs.Answers.{pointForm};
 ghost use Rattle.listing.specs.Points.{pointAt};
 ghost use Rattle.listing.specs.Layout.{within, countOf, pointsAt, groupsAt};
 ghost use Rattle.listing.specs.Reading.{reading};
-ghost use Rattle.listing.specs.Listing.{numbersOf, recordWidth};
+ghost use Rattle.listing.specs.Listing.{recordNumbers, recordWidth};
 ghost use Rattle.listing.specs.Walks.{heldAt, Accepted, levelOf, scopeIn, noted, begun, IsTable, Elsewhere, pointsOf, HasPoints, Ready};
-ghost use Rattle.listing.specs.Answers.{recordAt, written, RunAsks, BehindRun, GroupsAsk, BehindGroups};
+ghost use Rattle.listing.specs.Promises.{recordAt, written, RunAsks, BehindRun, GroupsAsk, BehindGroups};
 
 // The numbers of a record.
 pub const WIDTH: usize = 10;
@@ -238,7 +238,7 @@ fn put_point(
     requires { ⌜ isSizeOf (pointForm point .typeCode) (pointForm point .size) ≡ true ⌝ }
     requires { ⌜ (at .offset + pointForm point .size ≤ length (now body)) × (length (now body) ≤ 65535) × (place .address ≤ 65536) ⌝ }
     requires { ⌜ recordWidth * (at .records + 1) ≤ length (now out) ⌝ }
-    ensures { λ _. ⌜ now (out .exit) ≡ sets (now (out .entry)) (recordWidth * at .records) (numbersOf (recordAt place (pointAt (now (body .entry)) (scopeIn (now (table .entry))) (path .instances) (at .offset) (pointForm point)))) ⌝ }
+    ensures { λ _. ⌜ now (out .exit) ≡ sets (now (out .entry)) (recordWidth * at .records) (recordNumbers (recordAt place (pointAt (now (body .entry)) (scopeIn (now (table .entry))) (path .instances) (at .offset) (pointForm point)))) ⌝ }
 {
     let registers = part(body, at.offset, point.size as usize);
     let shown = show(point, registers, table[point.scale as usize]);

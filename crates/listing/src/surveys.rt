@@ -15,7 +15,8 @@ ghost use lib.ListN.{length};
 ghost use Rattle.catalog.specs.Definitions.{definitions};
 ghost use Rattle.listing.specs.Reading.{reading, readBy, padLeftOut};
 ghost use Rattle.listing.specs.Walks.{heldAt, Stands, Accepted, IsTable, topOf, surveyed};
-ghost use Rattle.listing.specs.Answers.{RunOf, surveyForm, ReadyBy, fittedBy};
+ghost use Rattle.listing.specs.Answers.{surveyForm};
+ghost use Rattle.listing.specs.Promises.{RunOf, ReadyBy, fittedBy};
 
 // The levels of groups below the top group.
 pub(crate) const LOWER_LEVELS: usize = 3;

@@ -11,7 +11,7 @@ use borrow.Author.Tests.{eqb-true, eq-eqb, lt-ltb, le-ltb, ltb-false, not-false}
 use lib.Dec.{eqb, ltb}
 use lib.ListN.{length, drop, getD, length-drop}
 use lib.Seq.{drop-cons}
-use Rattle.register_map.specs.Headers.{isMarked, opening, refused, headerOf, headerAt}
+use Rattle.register_map.specs.Headers.{beginsWithSunS, opening, refused, headerOf, headerAt}
 
 -- No test comes out both ways.
 pub clash : {A : Type 0} → true ≡ false → A
@@ -34,25 +34,25 @@ module _ (map : List ℕ) where
   unfolding opening
   opening-long h = simp (opening, lt-ltb _ _ h)
 
-  pub opening-unmarked : length map ≤ 65536 → isMarked map ≡ false → opening map ≡ some 21
+  pub opening-unmarked : length map ≤ 65536 → beginsWithSunS map ≡ false → opening map ≡ some 21
   unfolding opening
   opening-unmarked h e = simp (opening, le-ltb _ _ h, e)
 
-  pub opening-marked : length map ≤ 65536 → isMarked map ≡ true → opening map ≡ none
+  pub opening-marked : length map ≤ 65536 → beginsWithSunS map ≡ true → opening map ≡ none
   unfolding opening
   opening-marked h e = simp (opening, le-ltb _ _ h, e)
 
   -- Where neither 20 nor 21 arises, the map is short enough and marked.
-  pub opening-none : opening map ≡ none → (length map ≤ 65536) × (isMarked map ≡ true)
+  pub opening-none : opening map ≡ none → (length map ≤ 65536) × (beginsWithSunS map ≡ true)
   unfolding opening
   opening-none e =
-      let Goal : Option ℕ → Type 0 = λ o. o ≡ none → (length map ≤ 65536) × (isMarked map ≡ true) in
+      let Goal : Option ℕ → Type 0 = λ o. o ≡ none → (length map ≤ 65536) × (beginsWithSunS map ≡ true) in
       by-test Goal (ltb 65536 (length map)) (λ t q. let z : _≡_ {A = ℕ} 0 1 = cc in absurd (omega arith)) (λ s.
-      by-test Goal (isMarked map) (λ t q. (ltb-false 65536 (length map) s, t))
+      by-test Goal (beginsWithSunS map) (λ t q. (ltb-false 65536 (length map) s, t))
       (λ f q. let z : _≡_ {A = ℕ} 0 1 = cc in absurd (omega arith))) e
 
 -- A map of under two registers does not begin with 5375 6E53.
-pub too-short : (map : List ℕ) → length map < 2 → isMarked map ≡ false
+pub too-short : (map : List ℕ) → length map < 2 → beginsWithSunS map ≡ false
 too-short [] h = refl
 too-short (a ∷ []) h = and-false (eqb a 0x5375)
 too-short (a ∷ b ∷ map) h = absurd (omega arith)

@@ -6,44 +6,44 @@ use native.Mathlib.Omega.{arith}
 use lib.ListN.{length, take, drop, getD, length-append}
 use lib.Seq.{drop-at, drop-drop}
 use Rattle.values.specs.Each.{Each}
-use Rattle.register_map.specs.Headers.{isMarked}
-use Rattle.register_map.specs.Scan.{Model, totalSize, marked, scan, registersOf, WellFormed}
+use Rattle.register_map.specs.Headers.{beginsWithSunS}
+use Rattle.register_map.specs.Scan.{Model, totalSize, marked, scan, modelRegisters, WellFormed}
 use Rattle.register_map.specs.Insertion.{allModels, placed, lengthened, gapsBefore}
 use Rattle.register_map.proofs.ScanBack.{scan-whole-back, length-registers}
 use Rattle.register_map.proofs.MadeOfModels.{made-of-models}
 use Rattle.register_map.proofs.PlacedModels.{placed-each, placed-begins, placed-size, placed-split, all-unchanged}
 
 -- The registers of models behind others.
-registers-append : (ms ns : List Model) → registersOf (ms ++ ns) ≡ registersOf ms ++ registersOf ns
-unfolding registersOf
+registers-append : (ms ns : List Model) → modelRegisters (ms ++ ns) ≡ modelRegisters ms ++ modelRegisters ns
+unfolding modelRegisters
 registers-append [] ns = refl
 registers-append (m ∷ ms) ns =
     ap {B = List ℕ} (λ l. m .id ∷ length (m .body) ∷ l)
-    (ap (λ l. m .body ++ l) (registers-append ms ns) ∙ sym (append-assoc (m .body) (registersOf ms) (registersOf ns)))
+    (ap (λ l. m .body ++ l) (registers-append ms ns) ∙ sym (append-assoc (m .body) (modelRegisters ms) (modelRegisters ns)))
 
 -- A model behind others, by its address.
-model-at : (ms : List Model) (m : Model) (ns : List Model) (tail : List ℕ) (at : ℕ) → length (registersOf ms) ≡ at
-    → drop at (registersOf (ms ++ m ∷ ns) ++ tail) ≡ m .id ∷ length (m .body) ∷ m .body ++ (registersOf ns ++ tail)
-unfolding registersOf
+model-at : (ms : List Model) (m : Model) (ns : List Model) (tail : List ℕ) (at : ℕ) → length (modelRegisters ms) ≡ at
+    → drop at (modelRegisters (ms ++ m ∷ ns) ++ tail) ≡ m .id ∷ length (m .body) ∷ m .body ++ (modelRegisters ns ++ tail)
+unfolding modelRegisters
 model-at ms m ns tail at e =
     rw (
       registers-append ms (m ∷ ns),
-      append-assoc (registersOf ms) (registersOf (m ∷ ns)) tail,
-      drop-at (registersOf ms) (registersOf (m ∷ ns) ++ tail) at e,
-      append-assoc (m .body) (registersOf ns) tail,
+      append-assoc (modelRegisters ms) (modelRegisters (m ∷ ns)) tail,
+      drop-at (modelRegisters ms) (modelRegisters (m ∷ ns) ++ tail) at e,
+      append-assoc (m .body) (modelRegisters ns) tail,
     )
 
 -- What is put together, where the map is made of models.
-put-together : (map : List ℕ) (ms ns : List Model) (a b : ℕ) (tail : List ℕ) → map ≡ a ∷ b ∷ registersOf ms ++ 65535 ∷ 0 ∷ tail
-    → take 2 map ++ registersOf ns ++ drop (totalSize ms) (drop 2 map) ≡ a ∷ b ∷ registersOf ns ++ 65535 ∷ 0 ∷ tail
-put-together map ms ns a b tail e = rw (e, drop-at (registersOf ms) (65535 ∷ 0 ∷ tail) (totalSize ms) (length-registers ms))
+put-together : (map : List ℕ) (ms ns : List Model) (a b : ℕ) (tail : List ℕ) → map ≡ a ∷ b ∷ modelRegisters ms ++ 65535 ∷ 0 ∷ tail
+    → take 2 map ++ modelRegisters ns ++ drop (totalSize ms) (drop 2 map) ≡ a ∷ b ∷ modelRegisters ns ++ 65535 ∷ 0 ∷ tail
+put-together map ms ns a b tail e = rw (e, drop-at (modelRegisters ms) (65535 ∷ 0 ∷ tail) (totalSize ms) (length-registers ms))
 
 module _ (map : List ℕ) (ends : scan map .ending ≡ marked) where
   -- The lengthened map is made of the models placed, with the same first two registers and the same registers behind the marker.
   pub lengthened-shape : (gaps : List (List Model))
       → let m = made-of-models map ends in
       lengthened map gaps
-      ≡ m .register0 ∷ m .register1 ∷ registersOf (allModels (placed (scan map .models) gaps)) ++ 65535 ∷ 0 ∷ m .tail
+      ≡ m .register0 ∷ m .register1 ∷ modelRegisters (allModels (placed (scan map .models) gaps)) ++ 65535 ∷ 0 ∷ m .tail
   unfolding lengthened
   lengthened-shape gaps =
       let m = made-of-models map ends in
@@ -58,7 +58,7 @@ module _ (map : List ℕ) (ends : scan map .ending ≡ marked) where
       let e = lengthened-shape gaps in
       (rw e (sym (ap (λ l. getD l 0 0) (m .shape))), rw e (sym (ap (λ l. getD l 1 0) (m .shape))))
 
-  pub lengthened-marked : (gaps : List (List Model)) → isMarked (lengthened map gaps) ≡ isMarked map
+  pub lengthened-marked : (gaps : List (List Model)) → beginsWithSunS (lengthened map gaps) ≡ beginsWithSunS map
   lengthened-marked gaps = let r = lengthened-registers gaps in rw (r .0, r .1)
 
   -- It is scanned as the models placed, up to the end marker.
@@ -81,8 +81,8 @@ module _ (map : List ℕ) (ends : scan map .ending ≡ marked) where
       let ns : List Model = allModels (placed ms gaps) in
       let old = ap length (m .shape) in
       let new = ap length (lengthened-shape gaps) in
-      let l = length-append (registersOf ms) (65535 ∷ 0 ∷ m .tail) in
-      let l′ = length-append (registersOf ns) (65535 ∷ 0 ∷ m .tail) in
+      let l = length-append (modelRegisters ms) (65535 ∷ 0 ∷ m .tail) in
+      let l′ = length-append (modelRegisters ns) (65535 ∷ 0 ∷ m .tail) in
       omega (arith, length-registers ms, length-registers ns, placed-size ms gaps)
 
   -- With no gaps the map is as it was.
@@ -91,7 +91,7 @@ module _ (map : List ℕ) (ends : scan map .ending ≡ marked) where
       let m = made-of-models map ends in
       let same = all-unchanged (scan map .models) in
       lengthened-shape []
-      ∙ ap {B = List ℕ} (λ ms. m .register0 ∷ m .register1 ∷ registersOf ms ++ 65535 ∷ 0 ∷ m .tail) same
+      ∙ ap {B = List ℕ} (λ ms. m .register0 ∷ m .register1 ∷ modelRegisters ms ++ 65535 ∷ 0 ∷ m .tail) same
       ∙ sym (m .shape)
 
   -- A model that was there has its header behind the models in front of it and those of their gaps.
@@ -100,19 +100,19 @@ module _ (map : List ℕ) (ends : scan map .ending ≡ marked) where
       → (behind : List ℕ)
       × (drop (2 + (totalSize front + totalSize (gapsBefore (length front) gaps))) (lengthened map gaps)
       ≡ m .id ∷ length (m .body) ∷ m .body ++ behind)
-  unfolding registersOf
+  unfolding modelRegisters
   lengthened-header front m rest gaps e =
       let made = made-of-models map ends in
       let s = placed-split front m rest gaps in
       let tail : List ℕ = 65535 ∷ 0 ∷ made .tail in
       let at = totalSize front + totalSize (gapsBefore (length front) gaps) in
-      let behind : List ℕ = registersOf (s .0) ++ tail in
+      let behind : List ℕ = modelRegisters (s .0) ++ tail in
       let before : List Model = allModels (placed front gaps) in
       let models : allModels (placed (scan map .models) gaps) ≡ before ++ m ∷ s .0 =
       ap (λ ms. allModels (placed ms gaps)) e ∙ s .1 in (
         behind,
         sym (drop-drop at 2 (lengthened map gaps))
             ∙ ap (λ l. drop at (drop 2 l)) (lengthened-shape gaps)
-            ∙ ap (λ ms. drop at (registersOf ms ++ tail)) models
+            ∙ ap (λ ms. drop at (modelRegisters ms ++ tail)) models
             ∙ model-at before m (s .0) tail at (length-registers before ∙ placed-size front gaps),
       )

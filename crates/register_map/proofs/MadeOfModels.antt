@@ -8,7 +8,7 @@ use lib.ListN.{length, take, drop, take-append-drop, length-append}
 use lib.Seq.{length-take-le}
 use Rattle.values.specs.Each.{Each}
 use Rattle.register_map.specs.Headers.{endId, Header, headerAt}
-use Rattle.register_map.specs.Scan.{Model, totalSize, marked, broken, Scan, scanFrom, scan, registersOf, WellFormed, BeginsWith1}
+use Rattle.register_map.specs.Scan.{Model, totalSize, marked, broken, Scan, scanFrom, scan, modelRegisters, WellFormed, BeginsWith1}
 use Rattle.register_map.proofs.HeaderCases.{HeaderCase, modelCase, endCase, refusedCase, header-case}
 use Rattle.register_map.proofs.ScanSteps.{scan-model, scan-end, scan-refused}
 use Rattle.register_map.proofs.ScanBack.{length-registers, length-total}
@@ -29,7 +29,7 @@ begins-end false id one e = tt
 -- Registers from a header on, taken apart into the models scanned and what is left behind them.
 record TakenApart (first : Bool) (rest : List ℕ) (s : Scan) : Type 0 where
   pub left : List ℕ
-  pub shape : rest ≡ registersOf (s .models) ++ left
+  pub shape : rest ≡ modelRegisters (s .models) ++ left
   pub wellFormed : Each WellFormed (s .models)
   pub ends : s .ending ≡ marked → left ≡ endId ∷ 0 ∷ drop 2 left
   pub begins : s .ending ≡ marked → BeginsWith1 first (s .models)
@@ -41,7 +41,7 @@ rejoined id len behind ms left l e = rw (l, append-assoc (take len behind) ms le
 
 scan-step : (k : ℕ) (first : Bool) (rest : List ℕ) (x : Header) → HeaderCase first rest x → headerAt first rest ≡ x
     → ((r : List ℕ) → TakenApart false r (scanFrom k false r)) → TakenApart first rest (scanFrom (suc k) first rest)
-unfolding registersOf
+unfolding modelRegisters
 scan-step k first rest x (modelCase {id = id} {len = len} {behind = behind} one notZero notMarker long fits) e later =
     let n : List Model = scanFrom k false (drop len behind) .models in
     let t = later (drop len behind) in
@@ -50,7 +50,7 @@ scan-step k first rest x (modelCase {id = id} {len = len} {behind = behind} one 
     let w : WellFormed m = record { notZero = notZero; notMarker = notMarker; notEmpty = omega (arith, long) } in
     rw (scan-model k first rest e) (record {
       left = t .left;
-      shape = rejoined id len behind (registersOf n) (t .left) l (t .shape);
+      shape = rejoined id len behind (modelRegisters n) (t .left) l (t .shape);
       wellFormed = (w, t .wellFormed);
       ends = t .ends;
       begins = λ h. begins-model first m n one;
@@ -73,7 +73,7 @@ scan-step k first rest x (refusedCase {number = number}) e later =
     })
 
 taken-apart : (k : ℕ) (first : Bool) (rest : List ℕ) → TakenApart first rest (scanFrom k first rest)
-unfolding scanFrom registersOf
+unfolding scanFrom modelRegisters
 taken-apart zero first rest = record {
   left = rest;
   shape = refl;
@@ -89,7 +89,7 @@ pub record MadeOf (map : List ℕ) (ms : List Model) : Type 0 where
   pub register0 : ℕ
   pub register1 : ℕ
   pub tail : List ℕ
-  pub shape : map ≡ register0 ∷ register1 ∷ registersOf ms ++ 65535 ∷ 0 ∷ tail
+  pub shape : map ≡ register0 ∷ register1 ∷ modelRegisters ms ++ 65535 ∷ 0 ∷ tail
   pub wellFormed : Each WellFormed ms
   pub begins : BeginsWith1 true ms
 
@@ -101,7 +101,7 @@ made-of-models (a ∷ []) h = unbroken 22 h
 made-of-models (a ∷ b ∷ rest) h =
     let t = taken-apart (length (a ∷ b ∷ rest)) true rest in
     let ms : List Model = scan (a ∷ b ∷ rest) .models in
-    let e : rest ≡ registersOf ms ++ 65535 ∷ 0 ∷ drop 2 (t .left) = t .shape ∙ ap (λ l. registersOf ms ++ l) (t .ends h) in
+    let e : rest ≡ modelRegisters ms ++ 65535 ∷ 0 ∷ drop 2 (t .left) = t .shape ∙ ap (λ l. modelRegisters ms ++ l) (t .ends h) in
     record {
       register0 = a;
       register1 = b;
@@ -122,7 +122,7 @@ marked-fit map h =
     let m = made-of-models map h in
     let ms : List Model = scan map .models in
     let e = ap length (m .shape) in
-    let l = length-append (registersOf ms) (65535 ∷ 0 ∷ m .tail) in
+    let l = length-append (modelRegisters ms) (65535 ∷ 0 ∷ m .tail) in
     omega (arith, length-registers ms)
 
 -- So models + 1 is at most (registers − 1) / 3.

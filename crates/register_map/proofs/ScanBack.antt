@@ -10,7 +10,7 @@ use lib.ListN.{length, length-append}
 use lib.Seq.{take-append-seam, drop-append-seam}
 use Rattle.values.specs.Each.{Each}
 use Rattle.register_map.specs.Headers.{model, headerOf, headerAt}
-use Rattle.register_map.specs.Scan.{Model, totalSize, marked, scanFrom, scan, registersOf, WellFormed, BeginsWith1}
+use Rattle.register_map.specs.Scan.{Model, totalSize, marked, scanFrom, scan, modelRegisters, WellFormed, BeginsWith1}
 use Rattle.register_map.proofs.HeaderLaws.{first-id}
 use Rattle.register_map.proofs.ScanSteps.{scan-model, scan-end}
 
@@ -19,8 +19,8 @@ pub well-formed : (m : Model) → 1 ≤ m .id → m .id ≤ 65534 → 1 ≤ leng
 well-formed m low high long = record { notZero = λ e. omega arith; notMarker = λ e. omega arith; notEmpty = long }
 
 -- Models take as many registers as their sizes add up to.
-pub length-registers : (ms : List Model) → length (registersOf ms) ≡ totalSize ms
-unfolding registersOf
+pub length-registers : (ms : List Model) → length (modelRegisters ms) ≡ totalSize ms
+unfolding modelRegisters
 length-registers [] = refl
 length-registers (m ∷ ms) = let e = length-registers ms in simp length-append (omega arith)
 
@@ -52,15 +52,15 @@ header-of-model first m ms rest b w =
 -- Models, the end marker and anything behind it are scanned as these models.
 pub scan-back : (k : ℕ) (first : Bool) (ms : List Model) (tail : List ℕ)
     → Each WellFormed ms → BeginsWith1 first ms → length ms < k
-    → scanFrom k first (registersOf ms ++ 65535 ∷ 0 ∷ tail) ≡ record { models = ms; ending = marked }
-unfolding registersOf
+    → scanFrom k first (modelRegisters ms ++ 65535 ∷ 0 ∷ tail) ≡ record { models = ms; ending = marked }
+unfolding modelRegisters
 scan-back zero first ms tail w b h = absurd (omega arith)
 scan-back (suc k) true [] tail w b h = absurd b
 scan-back (suc k) false [] tail w b h = scan-end k false (65535 ∷ 0 ∷ tail) refl
 scan-back (suc k) first (m ∷ ms) tail w b h =
-    let rest = registersOf ms ++ 65535 ∷ 0 ∷ tail in
+    let rest = modelRegisters ms ++ 65535 ∷ 0 ∷ tail in
     rw (
-      append-assoc (m .body) (registersOf ms) (65535 ∷ 0 ∷ tail),
+      append-assoc (m .body) (modelRegisters ms) (65535 ∷ 0 ∷ tail),
       scan-model k first (m .id ∷ length (m .body) ∷ m .body ++ rest) (header-of-model first m ms rest b (w .0)),
       take-append-seam (m .body) rest,
       drop-append-seam (m .body) rest,
@@ -69,11 +69,11 @@ scan-back (suc k) first (m ∷ ms) tail w b h =
 
 -- A whole map: its first two registers, models, the end marker and anything behind it.
 pub scan-whole-back : (a b : ℕ) (ms : List Model) (tail : List ℕ) → Each WellFormed ms → BeginsWith1 true ms
-    → scan (a ∷ b ∷ registersOf ms ++ 65535 ∷ 0 ∷ tail) ≡ record { models = ms; ending = marked }
+    → scan (a ∷ b ∷ modelRegisters ms ++ 65535 ∷ 0 ∷ tail) ≡ record { models = ms; ending = marked }
 unfolding scan
 scan-whole-back a b ms tail w begins =
-    let rest = registersOf ms ++ 65535 ∷ 0 ∷ tail in
+    let rest = modelRegisters ms ++ 65535 ∷ 0 ∷ tail in
     let n = length-total ms w in
     let l = length-registers ms in
-    let e = length-append (registersOf ms) (65535 ∷ 0 ∷ tail) in
+    let e = length-append (modelRegisters ms) (65535 ∷ 0 ∷ tail) in
     scan-back (length (a ∷ b ∷ rest)) true ms tail w begins (omega arith)

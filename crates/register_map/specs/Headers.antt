@@ -11,15 +11,15 @@ abbrev pub endId : ℕ
 endId = 0xFFFF
 
 -- Does the map begin with the registers 5375 6E53 ("SunS")? (One of fewer than two registers does not.)
-abbrev pub isMarked : List ℕ → Bool
-isMarked map = eqb (getD map 0 0) 0x5375 && eqb (getD map 1 0) 0x6E53
+abbrev pub beginsWithSunS : List ℕ → Bool
+beginsWithSunS map = eqb (getD map 0 0) 0x5375 && eqb (getD map 1 0) 0x6E53
 
 -- The refusals of a map as a whole. 20: over 65,536 registers. 21: it does not begin with 5375 6E53.
 unfoldable pub opening : List ℕ → Option ℕ
 opening map =
     elim (ltb 65536 (length map)) [
       | true ↦ some 20
-      | false ↦ elim (isMarked map) [ true ↦ none | false ↦ some 21 ]
+      | false ↦ elim (beginsWithSunS map) [ true ↦ none | false ↦ some 21 ]
     ]
 
 -- What stands at a header: a model with its id and length, the end marker, or a refusal.

@@ -4,7 +4,7 @@ use mathlib.Core.List.{List, [], _∷_, _++_}
 use Prim.Native.Nat.{ℕ, zero, suc, _+_}
 use lib.Dec.{leb}
 use lib.ListN.{take, drop}
-use Rattle.register_map.specs.Scan.{Model, sizeOf, totalSize, scan, registersOf}
+use Rattle.register_map.specs.Scan.{Model, sizeOf, totalSize, scan, modelRegisters}
 
 -- A model of the lengthened map: it was there, or it is inserted.
 pub data Placed : Type 0 where
@@ -33,7 +33,7 @@ placed (m ∷ ms) (gap ∷ gaps) = kept m ∷ insertedInFront gap (placed ms gap
 unfoldable pub lengthened : List ℕ → List (List Model) → List ℕ
 lengthened map gaps =
     take 2 map
-    ++ registersOf (allModels (placed (scan map .models) gaps))
+    ++ modelRegisters (allModels (placed (scan map .models) gaps))
     ++ drop (totalSize (scan map .models)) (drop 2 map)
 
 -- The inserted models whose addresses in the lengthened map are lower than an address, of those from address `at` on (document

@@ -49,9 +49,9 @@ unfoldable pub scan : List ℕ → Scan
 scan map = scanFrom (length map) true (drop 2 map)
 
 -- The registers of models, one behind the other.
-unfoldable pub registersOf : List Model → List ℕ
-registersOf [] = []
-registersOf (m ∷ ms) = m .id ∷ length (m .body) ∷ m .body ++ registersOf ms
+unfoldable pub modelRegisters : List Model → List ℕ
+modelRegisters [] = []
+modelRegisters (m ∷ ms) = m .id ∷ length (m .body) ∷ m .body ++ modelRegisters ms
 
 -- A model that may stand in a map: its id is neither 0 nor the end marker's, and its length is 1 or more. (As a register is at
 -- most 65535, these are document 01's well-formed models with ids of 1 to 65534.)

@@ -9,7 +9,8 @@ use Rattle.catalog.specs.Definitions.{definitions}
 use Rattle.listing.specs.Reading.{Reading, reading}
 use Rattle.listing.specs.Listing.{recordWidth}
 use Rattle.listing.specs.Walks.{pointsOf}
-use Rattle.listing.specs.Answers.{surveyForm, ReadyBy, written}
+use Rattle.listing.specs.Answers.{surveyForm}
+use Rattle.listing.specs.Promises.{ReadyBy, written}
 use Rattle.listing.proofs.MapSurvey.{no-points-unknown, no-points-refused, has-points}
 use Rattle.listing.proofs.MapRecords.{nothing-written}
 use borrow.Author.Needs.{needs}

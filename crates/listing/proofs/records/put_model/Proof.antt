@@ -7,7 +7,7 @@ use lib.ListN.{length, getD}
 use Rattle.catalog.specs.Definitions.{pointsSize}
 use Rattle.listing.specs.Layout.{noInstance}
 use Rattle.listing.specs.Walks.{heldAt, scopeIn, begun}
-use Rattle.listing.specs.Answers.{written}
+use Rattle.listing.specs.Promises.{written}
 use Rattle.listing.proofs.PointCounts as counts
 use Rattle.listing.proofs.ModelWriting as model
 use Rattle.listing.proofs.records.put_model.Statement.{statement}

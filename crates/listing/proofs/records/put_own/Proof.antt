@@ -8,7 +8,7 @@ use lib.ListN.{length, getD}
 use Rattle.catalog.specs.Frames.{Point}
 use Rattle.listing.specs.Points.{ModelPoint}
 use Rattle.listing.specs.Walks.{heldAt, noted, begun}
-use Rattle.listing.specs.Answers.{written, RunAsks, BehindRun}
+use Rattle.listing.specs.Promises.{written, RunAsks, BehindRun}
 use Rattle.listing.specs.declared.records.Progress.{Progress}
 use Rattle.listing.proofs.Standing.{stands-within}
 use Rattle.listing.proofs.NotedPoints.{noted-length, numbers-in-table, begun-all, own-points}

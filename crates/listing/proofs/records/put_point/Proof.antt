@@ -11,7 +11,7 @@ use Rattle.catalog.specs.Answers.{pointForm}
 use Rattle.listing.specs.Points.{registersAt}
 use Rattle.listing.specs.Listing.{recordWidth}
 use Rattle.listing.specs.Walks.{scopeIn}
-use Rattle.listing.specs.Answers.{ShownOf}
+use Rattle.listing.specs.Promises.{ShownOf}
 use Rattle.listing.proofs.PointRuns.{shown-numbers}
 use mir.Syntax.{w16, w64}
 use mir.Val.{Fits}

@@ -5,7 +5,7 @@ use native.Mathlib.Nat.{mul-le-mul, div-le-self}
 use native.Mathlib.Omega.{arith}
 use mathlib.Core.Path.{_≡_}
 use borrow.Author.Needs.{needs}
-use Rattle.listing.specs.Answers.{fittedBy}
+use Rattle.listing.specs.Promises.{fittedBy}
 use Rattle.listing.proofs.surveys.fitted.Statement.{statement}
 use Rattle.listing.proofs.surveys.fitted.Tie as tie
 

@@ -2,7 +2,8 @@
 use mathlib.Core.Path.{sym, ap, subst, _∙_}
 use Rattle.catalog.specs.Definitions.{definitions}
 use Rattle.listing.specs.Walks.{heldAt, surveyed}
-use Rattle.listing.specs.Answers.{foundForm, FoundStands}
+use Rattle.listing.specs.Answers.{foundForm}
+use Rattle.listing.specs.Promises.{FoundStands}
 use Rattle.listing.proofs.AcceptedModels.{read-known, read-unknown}
 use borrow.Author.Needs.{needs}
 use Rattle.listing.proofs.surveys.survey_model.Statement.{statement}
