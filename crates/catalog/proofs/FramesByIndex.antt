@@ -4,7 +4,7 @@ use Prim.Native.Nat.{ℕ, zero, suc, _+_, _/_, _≤_, _<_}
 use native.Mathlib.Omega.{arith}
 use mathlib.Core.List.{List}
 use lib.ListN.{length, getD}
-use Rattle.catalog.specs.Frames.{Frame, malformed, frameAt, framesFrom, frames}
+use Rattle.catalog.specs.Frames.{malformed, frameAt, framesFrom, frameIn}
 
 from-within : (ws : List ℕ) (i n j : ℕ) → j < n → getD (framesFrom ws i n) j malformed ≡ frameAt ws (i + j)
 unfolding framesFrom
@@ -21,11 +21,11 @@ from-beyond ws i (suc n) zero h = absurd (omega arith)
 from-beyond ws i (suc n) (suc j) h = from-beyond ws (suc i) n j (omega arith)
 
 -- Frame i, where there are more frames than i.
-pub frame-within : (ws : List ℕ) (i : ℕ) → i < length ws / 8 → getD (frames ws) i malformed ≡ frameAt ws i
+pub frame-within : (ws : List ℕ) (i : ℕ) → i < length ws / 8 → frameIn ws i ≡ frameAt ws i
 frame-within ws i h =
     let e : 0 + i ≡ i = omega arith in
     from-within ws 0 (length ws / 8) i h ∙ ap (λ k. frameAt ws k) e
 
 -- No frame, where there are not.
-pub frame-beyond : (ws : List ℕ) (i : ℕ) → length ws / 8 ≤ i → getD (frames ws) i malformed ≡ malformed
+pub frame-beyond : (ws : List ℕ) (i : ℕ) → length ws / 8 ≤ i → frameIn ws i ≡ malformed
 frame-beyond ws i h = from-beyond ws 0 (length ws / 8) i h

@@ -53,7 +53,11 @@ countByPoint = 1
 abbrev pub fill : ℕ
 fill = 2
 
--- The type codes that references ask for, and the access that a count point has (document 01: R).
+-- The type codes that rules ask for: a pad, a count point's, a scale factor's; and the access that a count point has (document
+-- 01: R).
+abbrev pub pad : ℕ
+pad = 6
+
 abbrev pub uint16 : ℕ
 uint16 = 2
 
@@ -101,6 +105,10 @@ framesFrom ws i (suc n) = frameAt ws i ∷ framesFrom ws (suc i) n
 -- All whole frames.
 abbrev pub frames : List ℕ → List Frame
 frames ws = framesFrom ws 0 (length ws / 8)
+
+-- Frame i of these; malformed where there are fewer.
+abbrev pub frameIn : List ℕ → ℕ → Frame
+frameIn ws i = getD (frames ws) i malformed
 
 -- The eight words of a frame; a malformed one is written with kind 0.
 abbrev pub wordsOf : Frame → List ℕ

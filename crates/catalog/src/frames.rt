@@ -1,8 +1,8 @@
 // The frames of a catalog: eight words each, of which word 0 is the kind.
 ghost use mathlib.Core.Path.{_≡_};
 ghost use Prim.Native.Nat.{_/_, _-_, _<_, _≤_};
-ghost use lib.ListN.{length, getD};
-ghost use Rattle.catalog.specs.Frames.{malformed, word, frameAt, frames};
+ghost use lib.ListN.{length};
+ghost use Rattle.catalog.specs.Frames.{word, frameAt, frameIn};
 ghost use Rattle.catalog.specs.Answers.{frameForm, headForm, pointForm};
 ghost use Rattle.catalog.specs.IdSets.{IdFits};
 ghost use Rattle.catalog.specs.Scans.{headWords, pointWords, zeroWords};
@@ -33,7 +33,9 @@ pub const COUNT_BY_POINT: u16 = 1;
 
 pub const FILL: u16 = 2;
 
-// The type codes that a reference asks for, and the access that a count point has.
+// The type codes that rules ask for, and the access that a count point has.
+pub const PAD: u16 = 6;
+
 pub(crate) const UINT16: u16 = 2;
 
 pub const SUNSSF: u16 = 8;
@@ -110,7 +112,7 @@ pub(crate) fn frame_at(catalog: &[u16], i: usize) -> Frame
 
 // Frame i; malformed where the catalog has no such whole frame.
 pub fn read_frame(catalog: &[u16], i: usize) -> Frame
-    ensures { λ r. ⌜ frameForm r ≡ getD (frames (now (catalog .entry))) i malformed ⌝ }
+    ensures { λ r. ⌜ frameForm r ≡ frameIn (now (catalog .entry)) i ⌝ }
 {
     if catalog.len() / WORDS <= i {
         return Frame::Malformed;

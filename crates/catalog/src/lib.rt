@@ -11,6 +11,7 @@ pub use frames::FILL;
 pub use frames::FIXED_SCALE;
 pub use frames::Frame;
 pub use frames::Head;
+pub use frames::PAD;
 pub use frames::Point;
 pub use frames::SCALE_BY_POINT;
 pub use frames::SUNSSF;

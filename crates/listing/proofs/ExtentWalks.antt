@@ -5,10 +5,10 @@ use mathlib.Core.Option.{none, some}
 use Prim.Native.Nat.{ℕ, _+_, _≤_, _<_}
 use native.Mathlib.Omega.{arith}
 use lib.ListN.{length, length-append}
-use Rattle.catalog.specs.Frames.{Point, Head, endFrame, fill}
+use Rattle.catalog.specs.Frames.{Point, Head, endFrame, fill, frameIn}
 use Rattle.catalog.specs.Definitions.{Groups, noGroup, group, pointsSize, pointFrames, groupFrames}
 use Rattle.listing.specs.Points.{Scope}
-use Rattle.listing.specs.Walks.{heldAt, pastEnd, headOf, frameIn, AtGroups}
+use Rattle.listing.specs.Walks.{heldAt, pastEnd, headOf, AtGroups}
 use Rattle.listing.specs.Promises.{RunOf, ExtentOf, SameExtent, WithGroup}
 use Rattle.listing.specs.declared.extents.Run.{Run}
 use Rattle.listing.specs.declared.extents.Extent.{Extent}

@@ -5,13 +5,13 @@ use mathlib.Core.Option.{none, some}
 use Prim.Native.Nat.{ℕ, suc, _+_, _-_, _≤_, _<_}
 use native.Mathlib.Omega.{arith}
 use lib.ListN.{length, getD, set, length-set}
-use Rattle.catalog.specs.Frames.{Point, Head}
+use Rattle.catalog.specs.Frames.{Point, Head, frameIn}
 use Rattle.catalog.specs.Definitions.{Groups, group, pointsSize, groupFrames}
 use Rattle.catalog.specs.Soundness.{numbersOf}
 use Rattle.listing.specs.Points.{Scope}
 use Rattle.listing.specs.Layout.{within, countOf, groupsSize, pointsAt, groupsAt}
 use Rattle.listing.specs.Counts.{groupsPoints}
-use Rattle.listing.specs.Walks.{heldAt, Stands, pastEnd, headOf, frameIn, levelOf, scopeIn, noted, Elsewhere, IsTable}
+use Rattle.listing.specs.Walks.{heldAt, Stands, pastEnd, headOf, levelOf, scopeIn, noted, Elsewhere, IsTable}
 use Rattle.listing.specs.Promises.{written, RunAsks, GroupsAsk, BehindRun, BehindGroups}
 use Rattle.listing.specs.declared.records.Place.{Place}
 use Rattle.listing.specs.declared.records.Progress.{Progress}

@@ -10,15 +10,15 @@ use lib.Dec.{eqb, leb}
 use lib.ListN.{length}
 use Rattle.values.specs.Each.{Each}
 use Rattle.values.specs.Rows.{rows, rowAmong, registersOf}
-use Rattle.catalog.specs.Frames.{Point, Head}
+use Rattle.catalog.specs.Frames.{Point, Head, frameIn, pad}
 use Rattle.catalog.specs.Rules.{isSizeOf}
 use Rattle.catalog.specs.Definitions.{Groups, noGroup, group, Content, pointsSize}
 use Rattle.catalog.specs.Soundness.{SoundPoint}
 use Rattle.catalog.proofs.TestLaws.{clash, both}
 use Rattle.catalog.proofs.GroupSizes.{point-size}
 use Rattle.listing.specs.Layout.{fillOf, fillSize}
-use Rattle.listing.specs.Reading.{pad, endsWithPad, allButLast, hasNoGroup, padLeftOut}
-use Rattle.listing.specs.Walks.{heldAt, Stands, headOf, frameIn, begun}
+use Rattle.listing.specs.Reading.{endsWithPad, allButLast, hasNoGroup, padLeftOut}
+use Rattle.listing.specs.Walks.{heldAt, Stands, headOf, begun}
 use Rattle.listing.proofs.Standing as standing
 
 -- A pad is one register.

@@ -7,13 +7,13 @@ use Prim.Native.Nat.{ℕ, zero, suc, _+_, _/_, _≤_, _<_}
 use native.Mathlib.Numerals.{add-one}
 use native.Mathlib.Omega.{arith}
 use lib.ListN.{length}
-use Rattle.catalog.specs.Frames.{Frame, modelFrame, groupFrame, pointFrame, endFrame, malformed}
+use Rattle.catalog.specs.Frames.{Frame, modelFrame, groupFrame, pointFrame, endFrame, malformed, frameIn}
 use Rattle.catalog.specs.Definitions.{Content, Definition, catalogFrames, parsed, inner, definitions}
 use Rattle.catalog.proofs.FramesByIndex.{frame-beyond}
 use Rattle.catalog.proofs.TestLaws.{clash}
 use Rattle.catalog.proofs.TreeFrames.{definition-frames}
 use Rattle.catalog.proofs.ModelFrames.{restFrames, frames-of-definitions}
-use Rattle.listing.specs.Walks.{onward, heldAt, Stands, Accepted, frameIn, isModelOf, topOf}
+use Rattle.listing.specs.Walks.{onward, heldAt, Stands, Accepted, isModelOf, topOf}
 use Rattle.listing.proofs.Standing.{length-onward, onward-more, onward-none, first-frame, placed}
 use Rattle.listing.proofs.PassedFrames.{passed}
 

@@ -10,14 +10,14 @@ use borrow.Author.Tests.{eqb-true, ltb-false}
 use lib.Dec.{ltb}
 use lib.ListN.{length, getD}
 use Rattle.values.specs.Each.{Each}
-use Rattle.catalog.specs.Frames.{Point, sunssf}
+use Rattle.catalog.specs.Frames.{Point, sunssf, pad}
 use Rattle.catalog.specs.Definitions.{Groups, Content, pointsSize, definitions}
 use Rattle.catalog.specs.Soundness.{In, first, later, SoundPoint, SoundGroups, ScaleResolves}
 use Rattle.catalog.proofs.References.{points-resolve}
 use Rattle.listing.specs.Points.{ModelPoint, Scope}
 use Rattle.listing.specs.Layout.{nothing, within, topScope, countOf, groupsSize, fillSizeOf, countUnimplemented, fits, fillOf, countsOf, pointsAt, groupsAt, noInstance, contentAt, restSize}
 use Rattle.listing.specs.Counts.{groupsPoints}
-use Rattle.listing.specs.Reading.{Reading, faulty, points, pad, endsWithPad, allButLast, padLeftOut, belowTopPoints, countPointUnimplemented, notTheSize, laidOut, readBy, reading}
+use Rattle.listing.specs.Reading.{Reading, faulty, points, endsWithPad, allButLast, padLeftOut, belowTopPoints, countPointUnimplemented, notTheSize, laidOut, readBy, reading}
 use Rattle.listing.specs.Listing.{recordWidth}
 use Rattle.listing.specs.Walks.{heldAt, Accepted, scopeIn, begun, IsTable, AtGroups, pointsOf, HasPoints, Ready}
 use Rattle.listing.specs.Promises.{written, RunAsks, BehindRun, GroupsAsk, BehindGroups}

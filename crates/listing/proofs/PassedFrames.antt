@@ -5,10 +5,10 @@ use mathlib.Core.List.{List, [], _∷_, _++_}
 use Prim.Native.Nat.{ℕ, _+_, _/_, _≤_, _<_}
 use native.Mathlib.Omega.{arith}
 use lib.ListN.{length, length-append}
-use Rattle.catalog.specs.Frames.{Point, Frame, endFrame}
+use Rattle.catalog.specs.Frames.{Point, Frame, endFrame, frameIn}
 use Rattle.catalog.specs.Definitions.{Groups, noGroup, group, Content, pointFrames, groupFrames}
 use Rattle.catalog.proofs.ModelFrames.{restFrames}
-use Rattle.listing.specs.Walks.{onward, heldAt, Stands, pastEnd, frameIn, openBehind, isModelOf}
+use Rattle.listing.specs.Walks.{onward, heldAt, Stands, pastEnd, openBehind, isModelOf}
 use Rattle.listing.proofs.Standing.{length-onward, at-point, at-group, at-end, rest-there, rest-within}
 
 -- What open groups still hold, behind a frame that is passed: its frames stand there, and it is no model frame.

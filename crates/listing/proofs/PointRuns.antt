@@ -8,13 +8,13 @@ use native.Mathlib.Omega.{arith}
 use lib.ListN.{length, getD}
 use lib.Seq.{sets, length-sets}
 use Rattle.values.specs.Each.{Each}
-use Rattle.catalog.specs.Frames.{Point}
+use Rattle.catalog.specs.Frames.{Point, frameIn}
 use Rattle.catalog.specs.Rules.{isSizeOf}
 use Rattle.catalog.specs.Definitions.{pointsSize}
 use Rattle.listing.specs.Points.{ModelPoint, registersAt, pointAt}
 use Rattle.listing.specs.Layout.{pointsAt}
 use Rattle.listing.specs.Listing.{recordNumbers, recordWidth}
-use Rattle.listing.specs.Walks.{heldAt, pointOf, frameIn, scopeIn, begun}
+use Rattle.listing.specs.Walks.{heldAt, pointOf, scopeIn, begun}
 use Rattle.listing.specs.Promises.{ShownOf, recordAt, written, RunAsks, BehindRun}
 use Rattle.listing.specs.declared.points.Shown.{Shown}
 use Rattle.listing.specs.declared.records.Place.{Place}

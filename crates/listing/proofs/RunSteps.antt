@@ -7,10 +7,10 @@ use Prim.Native.Nat.{ℕ, _+_, _-_, _*_, _≤_}
 use native.Mathlib.Omega.{arith}
 use lib.Dec.{eqb}
 use lib.ListN.{length}
-use Rattle.catalog.specs.Frames.{Point}
+use Rattle.catalog.specs.Frames.{Point, frameIn, pad}
 use Rattle.catalog.specs.Definitions.{pointsSize}
-use Rattle.listing.specs.Reading.{pad, endsWithPad}
-use Rattle.listing.specs.Walks.{heldAt, Stands, pointOf, frameIn}
+use Rattle.listing.specs.Reading.{endsWithPad}
+use Rattle.listing.specs.Walks.{heldAt, Stands, pointOf}
 use Rattle.listing.specs.Promises.{RunOf}
 use Rattle.listing.proofs.Standing as standing
 

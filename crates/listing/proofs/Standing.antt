@@ -7,11 +7,11 @@ use native.Mathlib.Numerals.{add-one}
 use native.Mathlib.Omega.{arith}
 use lib.ListN.{length, drop, getD, length-drop, drop-of-length-le}
 use lib.Seq.{drop-cons, getD-drop, drop-drop, drop-append-seam}
-use Rattle.catalog.specs.Frames.{Point, Head, Frame, groupFrame, pointFrame, endFrame, malformed, framesFrom, frames}
+use Rattle.catalog.specs.Frames.{Point, Head, Frame, groupFrame, pointFrame, endFrame, malformed, framesFrom, frames, frameIn}
 use Rattle.catalog.specs.Definitions.{Groups, noGroup, group, pointFrames, groupFrames, parsed, inner}
 use Rattle.catalog.proofs.TreeFrames.{contentFrames, group-frames}
 use Rattle.catalog.proofs.DefinitionsBack.{points-read, groups-read}
-use Rattle.listing.specs.Walks.{onward, heldAt, Stands, pastEnd, pointOf, headOf, frameIn}
+use Rattle.listing.specs.Walks.{onward, heldAt, Stands, pastEnd, pointOf, headOf}
 
 -- ---- Frames by their index
 

@@ -4,7 +4,7 @@ use mathlib.Core.List.{List, [], _∷_}
 use Prim.Native.Nat.{ℕ, _+_}
 use lib.Dec.{eqb, ltb}
 use lib.ListN.{length}
-use Rattle.catalog.specs.Frames.{Point}
+use Rattle.catalog.specs.Frames.{Point, pad}
 use Rattle.catalog.specs.Definitions.{Groups, noGroup, group, Content, Definition, pointsSize}
 use Rattle.register_map.specs.Scan.{Model}
 use Rattle.listing.specs.Points.{ModelPoint}
@@ -25,10 +25,6 @@ pub data Reading : Type 0 where
   unknown : Reading
   faulty : Fault → Reading
   points : List ModelPoint → Reading
-
--- The type code of a pad.
-abbrev pub pad : ℕ
-pad = 6
 
 -- Is the last of these points a pad?
 unfoldable pub endsWithPad : List Point → Bool

@@ -56,10 +56,6 @@ headOf (pointFrame p) = none
 headOf endFrame = none
 headOf malformed = none
 
--- Frame i.
-abbrev pub frameIn : List ℕ → ℕ → Frame
-frameIn ws i = getD (frames ws) i malformed
-
 -- How many groups are open behind a frame, from how many were in front of it.
 abbrev pub openBehind : Frame → ℕ → ℕ
 openBehind (groupFrame h) depth = depth + 1

@@ -7,6 +7,7 @@ use catalog::CONSTANT_COUNT;
 use catalog::COUNT_BY_POINT;
 use catalog::FILL;
 use catalog::Head;
+use catalog::PAD;
 ghost use mathlib.Core.Path.{_≡_};
 ghost use mathlib.Core.Bool.{_&&_};
 ghost use Prim.Native.Nat.{_+_, _*_, _/_, _≤_, min};
@@ -21,9 +22,6 @@ ghost use Rattle.listing.specs.Promises.{RunOf, ExtentOf, SameExtent, Wi
 // Nested counts can make a size of more than 64 bits. No map has more registers than this, so sizes and
 // numbers of points are capped at it.
 pub(crate) const CAP: usize = 65536;
-
-// The type code of a pad.
-const PAD: u16 = 6;
 
 // The points of a group: their registers, their number, the frame behind them, and whether the last is a pad.
 pub(crate) struct Run {

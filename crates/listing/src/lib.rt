@@ -11,6 +11,7 @@ use catalog::check;
 use records::Place;
 pub use records::WIDTH;
 use records::put_model;
+use register_map::FIRST_HEADER;
 use register_map::Header;
 use register_map::Opening;
 use register_map::header_at;
@@ -31,9 +32,6 @@ ghost use Rattle.listing.specs.Listing as Listings;
 ghost use Rattle.listing.specs.Walks.{Accepted, IsTable, pointsOf};
 ghost use Rattle.listing.specs.Answers.{answer};
 ghost use Rattle.listing.specs.Promises.{written, WalkFits};
-
-// The address of the first header.
-const FIRST: usize = 2;
 
 // What `list` answers: the points and the headers; or the number of a refusal, its place and the headers
 // before it.
@@ -126,7 +124,7 @@ fn survey_map(catalog: &[u16], map: &[u16], table: &mut [u16]) -> Listing
     ensures { λ r. ⌜ answer r ≡ Listings.told (Listings.walked (reading (definitions (now (catalog .entry)))) (now (map .entry))) ⌝ }
     ensures { λ _. ⌜ IsTable (now (table .exit)) ⌝ }
 {
-    let mut at = FIRST;
+    let mut at = FIRST_HEADER;
     let mut headers = 0usize;
     let mut points = 0usize;
     while at < map.len() {
@@ -178,7 +176,7 @@ fn put_map(catalog: &[u16], map: &[u16], table: &mut [u16], out: &mut [u64])
     requires { ⌜ WalkFits (Listings.walked (reading (definitions (now catalog))) (now map)) (now out) ⌝ }
     ensures { λ _. ⌜ now (out .exit) ≡ Listings.stored (Listings.walked (reading (definitions (now (catalog .entry)))) (now (map .entry))) (now (out .entry)) ⌝ }
 {
-    let mut at = FIRST;
+    let mut at = FIRST_HEADER;
     let mut index = 0usize;
     let mut records = 0usize;
     while at < map.len() {

@@ -14,7 +14,7 @@ const FIRST_REGISTER: u16 = 0x5375;
 const SECOND_REGISTER: u16 = 0x6E53;
 
 // The address of the first header.
-const FIRST_HEADER: usize = 2;
+pub const FIRST_HEADER: usize = 2;
 
 // The id of the end marker.
 const END_ID: u16 = 0xFFFF;
