@@ -38,7 +38,7 @@ module _ (ds : List Definition) where
   known-model m e false a = let u = unknown-left [] ds m a in let z : _≡_ {A = ℕ} 0 1 = cc in absurd (omega arith)
 
   known-points : (index at : ℕ) (m : Model) → among (m .id) (idsOf ds) ≡ true → (ps : List ModelPoint)
-      → Each Known (map (recordOf index at m) ps)
+      → Each Known (map (recordOf index at (m .id)) ps)
   known-points index at m e [] = tt
   known-points index at m e (p ∷ ps) = (e, known-points index at m e ps)
 
@@ -54,7 +54,7 @@ module _ (ds : List Definition) where
   known-step ending index at m ms (points ps) e later =
       let known = known-model m e (among (m .id) (idsOf ds)) refl in
       rw (walk-points (reading ds) ending index at m ms e)
-      (known-in-front (map (recordOf index at m) ps) (walk (reading ds) ending (index + 1) (at + sizeOf m) ms)
+      (known-in-front (map (recordOf index at (m .id)) ps) (walk (reading ds) ending (index + 1) (at + sizeOf m) ms)
       (known-points index at m known ps) later)
 
   known-walk : (ending : Ending) (index at : ℕ) (ms : List Model) → KnownIn (walk (reading ds) ending index at ms)

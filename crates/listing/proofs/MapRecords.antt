@@ -119,7 +119,7 @@ module _ {read : Model → Reading} {map before out : List ℕ} {at index record
         )
     by-reading (faulty fault) e = not-listed (sym (walk-at-faulty read map index at id len (here .low) h e) ∙ here .rest)
     by-reading (points ps) e =
-        let f = recordOf index at (modelAt map at id len) in
+        let f = recordOf index at id in
         let rs = Lists.map f ps in
         let i = recordWidth * records in
         let next = walkAt read map (index + 1) (at + (2 + len)) in

@@ -138,7 +138,7 @@ module _ {read : Model → Reading} {map : List ℕ} {at headers count : ℕ} (h
       survey-points =
           let r = points-surveyed (read (modelAt map at id len)) e in
           let ends = model-ends (eqb at 2) map at h in
-          let f = recordOf headers at (modelAt map at id len) in
+          let f = recordOf headers at id in
           let rs = Lists.map f (r .0) in
           let next = walkAt read map (headers + 1) (at + (2 + len)) in
           let total : count + more ≡ count + length rs = omega (arith, length-map (r .0) f, r .2) in

@@ -38,14 +38,14 @@ with-other i (r ∷ rs) e = rw (ne-eqb (r .index) i (e .0), recordsWith) (with-o
 
 -- The records of the model with an index are all with it.
 with-own : (i at : ℕ) (m : Model) (ps : List ModelPoint)
-    → recordsWith i (map (recordOf i at m) ps) ≡ map (recordOf i at m) ps
+    → recordsWith i (map (recordOf i at (m .id)) ps) ≡ map (recordOf i at (m .id)) ps
 unfolding recordsWith
 with-own i at m [] = refl
-with-own i at m (p ∷ ps) = rw (eq-eqb i i refl, recordsWith) (ap (λ rest. recordOf i at m p ∷ rest) (with-own i at m ps))
+with-own i at m (p ∷ ps) = rw (eq-eqb i i refl, recordsWith) (ap (λ rest. recordOf i at (m .id) p ∷ rest) (with-own i at m ps))
 
 -- Those of another model are not.
 others-own : (i j at : ℕ) (m : Model) (ps : List ModelPoint) → (j ≡ i → ⊥)
-    → Each (λ r. r .index ≡ i → ⊥) (map (recordOf j at m) ps)
+    → Each (λ r. r .index ≡ i → ⊥) (map (recordOf j at (m .id)) ps)
 others-own i j at m [] n = tt
 others-own i j at m (p ∷ ps) n = (n, others-own i j at m ps n)
 
@@ -55,7 +55,7 @@ others-own i j at m (p ∷ ps) n = (n, others-own i j at m ps n)
 abbrev pub RecordsOf : ℕ → ℕ → Model → List Record → Reading → Type 0
 RecordsOf i at m rs unknown = recordsWith i rs ≡ []
 RecordsOf i at m rs (faulty fault) = ⊥
-RecordsOf i at m rs (points ps) = recordsWith i rs ≡ map (recordOf i at m) ps
+RecordsOf i at m rs (points ps) = recordsWith i rs ≡ map (recordOf i at (m .id)) ps
 
 module _ (read : Model → Reading) (ending : Ending) where
   -- From a model on, by how it is read: what is listed is its records and what is listed behind it.
@@ -65,7 +65,7 @@ module _ (read : Model → Reading) (ending : Ending) where
   Listed i at m ms rs headers (points ps) =
       (ss : List Record)
       × (walk read ending (i + 1) (at + sizeOf m) ms ≡ listed ss headers)
-      × (rs ≡ map (recordOf i at m) ps ++ ss)
+      × (rs ≡ map (recordOf i at (m .id)) ps ++ ss)
 
   walk-listed : (i at : ℕ) (m : Model) (ms : List Model) (rs : List Record) (headers : ℕ)
       → walk read ending i at (m ∷ ms) ≡ listed rs headers → Listed i at m ms rs headers (read m)
@@ -75,7 +75,7 @@ module _ (read : Model → Reading) (ending : Ending) where
       go unknown q = sym (walk-unknown read ending i at m ms q) ∙ e
       go (faulty fault) q = not-listed (sym (walk-faulty read ending i at m ms q) ∙ e)
       go (points ps) q =
-          in-front-listed (map (recordOf i at m) ps) (walk read ending (i + 1) (at + sizeOf m) ms) rs headers
+          in-front-listed (map (recordOf i at (m .id)) ps) (walk read ending (i + 1) (at + sizeOf m) ms) rs headers
           (sym (walk-points read ending i at m ms q) ∙ e)
 
   -- At the end nothing is listed.
@@ -105,7 +105,7 @@ module _ (read : Model → Reading) (ending : Ending) where
       go (points ps) l behind =
           let own = others-own j i at m ps (λ q. absurd (omega arith)) in
           let P : Record → Type 0 = λ r. r .index ≡ j → ⊥ in
-          subst (Each P) (sym (l .2)) (each-append P (map (recordOf i at m) ps) (l .0) own (behind (l .0) (l .1)))
+          subst (Each P) (sym (l .2)) (each-append P (map (recordOf i at (m .id)) ps) (l .0) own (behind (l .0) (l .1)))
 
   -- Of a model without any in front of it.
   first-records : (m : Model) (behind : List Model) (i at : ℕ) (rs : List Record) (headers : ℕ)
@@ -120,7 +120,7 @@ module _ (read : Model → Reading) (ending : Ending) where
       go unknown l = none-behind rs l
       go (faulty fault) l = l
       go (points ps) l =
-          let own = map (recordOf i at m) ps in
+          let own = map (recordOf i at (m .id)) ps in
           ap (recordsWith i) (l .2)
           ∙ with-append i own (l .0)
           ∙ ap (λ ss. recordsWith i own ++ ss) (none-behind (l .0) (l .1))
@@ -160,5 +160,5 @@ module _ (read : Model → Reading) (ending : Ending) where
       go unknown l rest = rest rs l
       go (faulty fault) l rest = absurd l
       go (points ps) l rest =
-          behind-others j a m (map (recordOf i at f) ps) (l .0) rs (others-own j i at f ps (λ same. absurd (omega arith))) (l .2)
+          behind-others j a m (map (recordOf i at (f .id)) ps) (l .0) rs (others-own j i at f ps (λ same. absurd (omega arith))) (l .2)
           (read m) (rest (l .0) (l .1))

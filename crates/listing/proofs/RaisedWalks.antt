@@ -27,7 +27,7 @@ module _ (n d : ℕ) where
 
   -- The records of a model whose index and address are higher.
   raised-records : (index at : ℕ) (m : Model) (ps : List ModelPoint)
-      → map (recordOf (index + n) (at + d) m) ps ≡ map (raised n d) (map (recordOf index at m) ps)
+      → map (recordOf (index + n) (at + d) (m .id)) ps ≡ map (raised n d) (map (recordOf index at (m .id)) ps)
   raised-records index at m [] = refl
   raised-records index at m (p ∷ ps) =
       let e : at + d + 2 + p .offset ≡ at + 2 + p .offset + d = omega arith in
@@ -40,7 +40,7 @@ module _ (n d : ℕ) where
   raised-model (faulty fault) index at m a = refl
   raised-model (points ps) index at m a =
       ap (λ rs. withRecords rs (raisedAnswer n d a)) (raised-records index at m ps)
-      ∙ sym (raised-in-front (map (recordOf index at m) ps) a)
+      ∙ sym (raised-in-front (map (recordOf index at (m .id)) ps) a)
 
   pub walk-raised : (read : Model → Reading) (ending : Ending) (index at : ℕ) (ms : List Model)
       → walk read ending (index + n) (at + d) ms ≡ raisedAnswer n d (walk read ending index at ms)

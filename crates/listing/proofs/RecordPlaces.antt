@@ -57,7 +57,7 @@ module _ (at : ℕ) (m : Model) (ms : List Model) where
 
   -- With the records of the first model in front, and with what is read of it.
   with-records : (ps : List ModelPoint) (a : Answer) → Each (λ p. p .offset ≤ length (m .body)) ps → AllInModels at (m ∷ ms) a
-      → AllInModels at (m ∷ ms) (withRecords (map (recordOf 0 at m) ps) a)
+      → AllInModels at (m ∷ ms) (withRecords (map (recordOf 0 at (m .id)) ps) a)
   with-records ps (refused number place headers) h i = i
   with-records [] (listed rs headers) h i = i
   with-records (p ∷ ps) (listed rs headers) h i =

@@ -49,16 +49,16 @@ module _ (choice : List Bool) (ds : List Definition) where
   module _ (index at : ℕ) (m : Model) where
     -- The records of a model stay together, or go together.
     pub model-kept : keepsId choice ds (m .id) ≡ true → (ps : List ModelPoint)
-        → recordsLeft choice ds (map (recordOf index at m) ps) ≡ map (recordOf index at m) ps
+        → recordsLeft choice ds (map (recordOf index at (m .id)) ps) ≡ map (recordOf index at (m .id)) ps
     unfolding recordsLeft
     model-kept e [] = refl
     model-kept e (p ∷ ps) =
-        record-kept (recordOf index at m p) (map (recordOf index at m) ps) e
-        ∙ ap {B = List Record} (λ xs. recordOf index at m p ∷ xs) (model-kept e ps)
+        record-kept (recordOf index at (m .id) p) (map (recordOf index at (m .id)) ps) e
+        ∙ ap {B = List Record} (λ xs. recordOf index at (m .id) p ∷ xs) (model-kept e ps)
 
     pub model-removed : keepsId choice ds (m .id) ≡ false → (ps : List ModelPoint)
-        → recordsLeft choice ds (map (recordOf index at m) ps) ≡ []
+        → recordsLeft choice ds (map (recordOf index at (m .id)) ps) ≡ []
     unfolding recordsLeft
     model-removed e [] = refl
     model-removed e (p ∷ ps) =
-        record-removed (recordOf index at m p) (map (recordOf index at m) ps) e ∙ model-removed e ps
+        record-removed (recordOf index at (m .id) p) (map (recordOf index at (m .id)) ps) e ∙ model-removed e ps

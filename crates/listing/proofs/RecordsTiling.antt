@@ -78,7 +78,7 @@ body-filled catalog n e d o m same ps r =
 -- The records of points that tile a body.
 records-tile : (i at : ℕ) (m : Model) (from to : ℕ) (ps : List ModelPoint) (qs : List Point)
     → Tiles (λ p. p .offset) (λ p. p .number) from to ps qs
-    → Tiles (λ r. r .address) (λ r. r .point .number) (at + 2 + from) (at + 2 + to) (map (recordOf i at m) ps) qs
+    → Tiles (λ r. r .address) (λ r. r .point .number) (at + 2 + from) (at + 2 + to) (map (recordOf i at (m .id)) ps) qs
 records-tile i at m from to [] [] t = ap (λ n. at + 2 + n) t
 records-tile i at m from to [] (q ∷ qs) t = t
 records-tile i at m from to (p ∷ ps) [] t = t
@@ -88,12 +88,12 @@ records-tile i at m from to (p ∷ ps) (q ∷ qs) t =
       ap (λ n. at + 2 + n) (t .0),
       t .1,
       t .2,
-      subst (λ n. Tiles (λ r. r .address) (λ r. r .point .number) n (at + 2 + to) (map (recordOf i at m) ps) qs) same r,
+      subst (λ n. Tiles (λ r. r .address) (λ r. r .point .number) n (at + 2 + to) (map (recordOf i at (m .id)) ps) qs) same r,
     )
 
 -- They have the model's id.
 records-named : (i at : ℕ) (m : Model) (ps : List ModelPoint) (id : ℕ) → id ≡ m .id
-    → Each (λ r. r .id ≡ id) (map (recordOf i at m) ps)
+    → Each (λ r. r .id ≡ id) (map (recordOf i at (m .id)) ps)
 records-named i at m [] id e = tt
 records-named i at m (p ∷ ps) id e = (sym e, records-named i at m ps id e)
 
@@ -140,7 +140,7 @@ module _ (catalog registers : List ℕ) (room : ℕ) (rs : List Record) (headers
           let tiles = records-tile i at m 0 l ps (b .by) (b .tiles) in
           let from : at + 2 + 0 ≡ at + 2 = omega arith in
           let to : at + 2 + l ≡ at + sizeOf m = omega arith in
-          let own = map (recordOf i at m) ps in
+          let own = map (recordOf i at (m .id)) ps in
           let T : ℕ → ℕ → Type 0 = λ x y. Tiles (λ r. r .address) (λ r. r .point .number) x y own (b .by) in
           subst (RecordsTiled d (at + 2) (at + sizeOf m)) (sym t)
           (record {

@@ -75,7 +75,7 @@ module _ (read : Model → Reading) where
       })
   headers-model ending index at m ms (points ps) e later =
       rw (walk-points read ending index at m ms e)
-      (headers-in-front ending index at m ms (map (recordOf index at m) ps) (walk read ending (index + 1) (at + sizeOf m) ms)
+      (headers-in-front ending index at m ms (map (recordOf index at (m .id)) ps) (walk read ending (index + 1) (at + sizeOf m) ms)
       later)
 
   -- All models from one on.

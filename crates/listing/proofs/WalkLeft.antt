@@ -72,10 +72,10 @@ module _ (choice : List Bool) (ds : List Definition) where
       leaves-model l (faulty fault) e b k =
           rw (walk-faulty read ending index at m ms e) (0, omega arith, λ t. fault-stays fault e t)
       leaves-model l (points ps) e true k =
-          in-front (map (recordOf index at m) ps) (map (recordOf index at m) ps) (model-kept choice ds index at m k ps) l
+          in-front (map (recordOf index at (m .id)) ps) (map (recordOf index at (m .id)) ps) (model-kept choice ds index at m k ps) l
           (walk-points read ending index at m ms e) (walk-points less ending index at m ms {ps = ps} (by-choice m ∙ rw (k, e)))
       leaves-model l (points ps) e false k =
-          in-front (map (recordOf index at m) ps) [] (model-removed choice ds index at m k ps) l
+          in-front (map (recordOf index at (m .id)) ps) [] (model-removed choice ds index at m k ps) l
           (walk-points read ending index at m ms e) (walk-no-records less ending index at m ms (by-choice m ∙ rw k))
 
     -- All models from one on.

@@ -91,7 +91,7 @@ module _ (gap : List Model) (gaps : List (List Model)) where
 
   -- The first model itself does not move.
   first-stays : (a : ℕ) (m : Model) (ps : List ModelPoint)
-      → map (λ r. shifted (gapsBefore (r .index) (gap ∷ gaps)) r) (map (recordOf 0 a m) ps) ≡ map (recordOf 0 a m) ps
+      → map (λ r. shifted (gapsBefore (r .index) (gap ∷ gaps)) r) (map (recordOf 0 a (m .id)) ps) ≡ map (recordOf 0 a (m .id)) ps
   unfolding gapsBefore
   first-stays a m [] = refl
   first-stays a m (p ∷ ps) = rw (first-stays a m ps) (simp add-zero)
@@ -102,7 +102,7 @@ module _ (gap : List Model) (gaps : List (List Model)) where
   moved-first a n unknown m b = refl
   moved-first a n (faulty fault) m b = simp add-zero
   moved-first a n (points ps) m (listed rs headers) =
-      let own = map (recordOf 0 a m) ps in
+      let own = map (recordOf 0 a (m .id)) ps in
       rw (map-append (λ r. shifted (gapsBefore (r .index) (gap ∷ gaps)) r) own rs, first-stays a m ps)
   moved-first a n (points ps) m (refused number place headers) = refl
 

@@ -31,7 +31,7 @@ withModel r index at m behind =
     elim r [
       | unknown ↦ behind
       | faulty fault ↦ refused (faultNumber fault) at index
-      | points ps ↦ withRecords (map (recordOf index at m) ps) behind
+      | points ps ↦ withRecords (map (recordOf index at (m .id)) ps) behind
     ]
 
 -- A walk is its first model in front of the walk behind it.
@@ -61,7 +61,7 @@ module _ (read : Model → Reading) (ending : Ending) (index at : ℕ) (m : Mode
   -- The records of the others stand in front of those behind them.
   pub walk-points : {ps : List ModelPoint} → read m ≡ points ps
       → walk read ending index at (m ∷ ms)
-      ≡ withRecords (map (recordOf index at m) ps) (walk read ending (index + 1) (at + sizeOf m) ms)
+      ≡ withRecords (map (recordOf index at (m .id)) ps) (walk read ending (index + 1) (at + sizeOf m) ms)
   walk-points e =
       let rest = walk read ending (index + 1) (at + sizeOf m) ms in
       walk-model read ending index at m ms ∙ ap (λ r. withModel r index at m rest) e

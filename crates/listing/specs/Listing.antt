@@ -39,9 +39,9 @@ recordNumbers r =
     ∷ r .point .scale
     ∷ []
 
--- The record of a point, in the model with an index whose header has an address.
-abbrev pub recordOf : ℕ → ℕ → Model → ModelPoint → Record
-recordOf index at m p = record { index = index; id = m .id; address = at + 2 + p .offset; point = p }
+-- The record of a point, in the model with an index and an id whose header has an address.
+abbrev pub recordOf : ℕ → ℕ → ℕ → ModelPoint → Record
+recordOf index at id p = record { index = index; id = id; address = at + 2 + p .offset; point = p }
 
 -- What listing finds: a refusal with its number, its place and the headers before it; or the records and the headers.
 pub data Answer : Type 0 where
@@ -62,7 +62,7 @@ walk read ending index at (m ∷ ms) =
     elim (read m) [
       | unknown ↦ walk read ending (index + 1) (at + sizeOf m) ms
       | faulty fault ↦ refused (faultNumber fault) at index
-      | points ps ↦ withRecords (map (recordOf index at m) ps) (walk read ending (index + 1) (at + sizeOf m) ms)
+      | points ps ↦ withRecords (map (recordOf index at (m .id)) ps) (walk read ending (index + 1) (at + sizeOf m) ms)
     ]
 
 -- 30: the list has fewer than 10 × points entries (place: points needed).

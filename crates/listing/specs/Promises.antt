@@ -97,8 +97,7 @@ pub record ShownOf (p : Frames.Point) (registers : List ℕ) (register : ℕ) (r
 
 -- The record of a point of the model at a place.
 abbrev pub recordAt : Place → ModelPoint → Listing.Record
-recordAt place p =
-    record { index = place .index; id = place .id; address = place .address + 2 + p .offset; point = p }
+recordAt place = Listing.recordOf (place .index) (place .address) (place .id)
 
 -- A list behind records of the model at a place, the first of them as record number `count`.
 abbrev pub written : Place → ℕ → List ModelPoint → List ℕ → List ℕ
