@@ -2,7 +2,7 @@
 use mathlib.Core.Path.{_≡_, refl, ap, subst, _∙_}
 use mathlib.Core.Bool.{Bool, true, false}
 use mathlib.Core.List.{List, [], _∷_}
-use mathlib.Core.Option.{Option, none, some}
+use mathlib.Core.Option.{none, some}
 use Prim.Native.Nat.{ℕ, _/_, _≤_}
 use native.Mathlib.Omega.{arith}
 use borrow.Author.Tests.{eqb-true}
@@ -14,8 +14,8 @@ use Rattle.catalog.specs.Soundness.{SoundPoint, SoundGroups, SoundDefinition}
 use Rattle.catalog.proofs.AcceptedSteps.{accepted-start}
 use Rattle.catalog.proofs.AcceptedIsSound.{accepted-is-sound}
 use Rattle.register_map.specs.Scan.{Model}
-use Rattle.listing.specs.Reading.{Reading, unknown, readBy, reading}
-use Rattle.listing.specs.Walks.{Accepted, topOf}
+use Rattle.listing.specs.Reading.{unknown, readBy, reading, topOf}
+use Rattle.listing.specs.Walks.{Accepted}
 
 -- An accepted catalog has at most 4,096 frames.
 pub accepted-few : (ws : List ℕ) → Accepted ws → length ws / 8 ≤ 4096
@@ -53,18 +53,8 @@ top-groups-sound ws id c a e =
 -- How a model is read, by what is found by its id.
 reading-top : (ds : List Definition) (m : Model)
     → reading ds m ≡ elim (topOf (m .id) ds) [ none ↦ unknown | some c ↦ readBy (m .id) c (m .body) ]
-unfolding topOf reading
-reading-top [] m = refl
-reading-top (d ∷ ds) m = go (eqb (d .id) (m .id)) (reading-top ds m)
-  where
-    by : Option Content → Reading
-    by o = elim o [ none ↦ unknown | some c ↦ readBy (m .id) c (m .body) ]
-
-    go : (b : Bool) → reading ds m ≡ by (topOf (m .id) ds)
-        → elim b [ true ↦ readBy (m .id) (d .top) (m .body) | false ↦ reading ds m ]
-        ≡ by (elim b [ true ↦ some (d .top) | false ↦ topOf (m .id) ds ])
-    go true e = refl
-    go false e = e
+unfolding reading
+reading-top ds m = refl
 
 -- A model is read by the definition that is found by its id,
 pub read-known : (ds : List Definition) (id : ℕ) (body : List ℕ) (c : Content) → topOf id ds ≡ some c

@@ -1,26 +1,25 @@
 -- Insertion on an example.
 use mathlib.Core.Path.{_≡_, refl, sym, ap, _∙_}
-use mathlib.Core.Bool.{Bool, true, false}
 use mathlib.Core.List.{List, [], _∷_}
-use Prim.Native.Nat.{ℕ, _*_, _≤_}
+use Prim.Native.Nat.{ℕ, _≤_}
 use native.Mathlib.Omega.{arith}
 use lib.ListN.{length}
 use Rattle.values.specs.Rows.{rows, rowAmong, registersOf}
 use Rattle.values.specs.Registers.{join, shownRaw, tooWide}
 use Rattle.values.specs.Classes.{inRange, classOf, classified}
 use Rattle.values.specs.Each.{Each}
-use Rattle.catalog.specs.Frames.{frameOf, framesFrom, frames}
-use Rattle.catalog.specs.Rules.{isSizeOf, among}
+use Rattle.catalog.specs.Frames.{frameOf, framesFrom}
+use Rattle.catalog.specs.Rules.{isSizeOf}
 use Rattle.catalog.specs.Checking.{checkFrom, checked}
-use Rattle.catalog.specs.Definitions.{parsed, definitions, modelIds}
+use Rattle.catalog.specs.Definitions.{parsed}
 use Rattle.register_map.specs.Headers.{opening}
 use Rattle.register_map.specs.Scan as Scan
-use Rattle.register_map.specs.Scan.{Model, WellFormed, scanFrom, scan, totalSize}
-use Rattle.register_map.specs.Insertion.{placed, lengthened, gapsBefore, before}
+use Rattle.register_map.specs.Scan.{Model, WellFormed, scanFrom, scan}
+use Rattle.register_map.specs.Insertion.{placed, lengthened, gapsBefore}
 use Rattle.listing.specs.Points.{ModelPoint, pointAt}
 use Rattle.listing.specs.Layout.{within, groupsSize, fillSize, countUnimplemented, fits, fillOf, pointsAt, groupsAt, contentAt}
-use Rattle.listing.specs.Reading.{endsWithPad, laidOut, readBy, reading}
-use Rattle.listing.specs.Listing.{Record, listed, refused, walk, withRoom, listedBy, listing}
+use Rattle.listing.specs.Reading.{endsWithPad, laidOut, readBy, topOf, reading}
+use Rattle.listing.specs.Listing.{Record, listed, walk, withRoom, listedBy, listing}
 use Rattle.listing.specs.Stability.{MadeOfWholeModels, UnknownModel, movedAnswer, MovedByLower}
 use Rattle.listing.proofs.Insertion.{insertion}
 
@@ -62,11 +61,11 @@ pub old : listing catalog plant 20
 unfolding rows rowAmong registersOf join shownRaw tooWide inRange classOf classified
     frameOf framesFrom isSizeOf checkFrom checked parsed opening scanFrom scan
     pointAt within groupsSize fillSize countUnimplemented fits fillOf pointsAt groupsAt contentAt
-    endsWithPad laidOut readBy reading walk withRoom listedBy listing
+    endsWithPad laidOut readBy topOf reading walk withRoom listedBy listing
 old = refl
 
 whole : MadeOfWholeModels plant
-unfolding MadeOfWholeModels frameOf framesFrom checkFrom checked parsed opening scanFrom scan reading walk withRoom listedBy listing
+unfolding MadeOfWholeModels frameOf framesFrom checkFrom checked parsed opening scanFrom scan topOf reading walk withRoom listedBy listing
 whole = (3, refl)
 
 well : (id : ℕ) (x : ℕ) (xs : List ℕ) → (id ≡ 0 → ⊥) → (id ≡ 65535 → ⊥) → WellFormed (record { id = id; body = x ∷ xs })

@@ -10,7 +10,8 @@ use Rattle.catalog.specs.Frames.{Point, Head, endFrame, frameIn}
 use Rattle.catalog.specs.Rules.{among}
 use Rattle.catalog.specs.Definitions.{Groups, group, Definition, pointFrames, groupFrames, definitionFrames, definitions}
 use Rattle.catalog.specs.Soundness.{Distinct, numbersOf, In, SoundGroups, SoundDefinition}
-use Rattle.listing.specs.Walks.{heldAt, Stands, pastEnd, Accepted, headOf, topOf, levelOf, SoundAt, AtGroups}
+use Rattle.listing.specs.Reading.{topOf}
+use Rattle.listing.specs.Walks.{heldAt, Stands, pastEnd, Accepted, headOf, levelOf, SoundAt, AtGroups}
 use Rattle.listing.proofs.GroupNumbers.{point-among, numbers-append, distinct-parts, among-neither, apart, none-of-parts}
 use Rattle.listing.proofs.Standing as standing
 use Rattle.listing.proofs.AcceptedModels as models

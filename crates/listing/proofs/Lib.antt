@@ -31,6 +31,7 @@ pub mod ListingCases
 pub mod WalksBehind
 pub mod ModelRecords
 -- With definitions removed
+pub mod ReadingSteps
 pub mod ReadingLeft
 pub mod RecordsLeft
 pub mod KnownRecords

@@ -13,7 +13,8 @@ use Rattle.catalog.proofs.FramesByIndex.{frame-beyond}
 use Rattle.catalog.proofs.TestLaws.{clash}
 use Rattle.catalog.proofs.TreeFrames.{definition-frames}
 use Rattle.catalog.proofs.ModelFrames.{restFrames, frames-of-definitions}
-use Rattle.listing.specs.Walks.{onward, heldAt, Stands, Accepted, isModelOf, topOf}
+use Rattle.listing.specs.Reading.{topOf}
+use Rattle.listing.specs.Walks.{onward, heldAt, Stands, Accepted, isModelOf}
 use Rattle.listing.proofs.Standing.{length-onward, onward-more, onward-none, first-frame, placed}
 use Rattle.listing.proofs.PassedFrames.{passed}
 

@@ -1,5 +1,5 @@
 -- The points of a model, as an accepted catalog reads them, lie in the model and are no more than its registers.
-use mathlib.Core.Path.{_≡_}
+use mathlib.Core.Path.{_≡_, sym, _∙_}
 use mathlib.Core.List.{List, [], _∷_}
 use Prim.Native.Nat.{ℕ, _+_, _≤_}
 use native.Mathlib.Omega.{arith}
@@ -17,17 +17,17 @@ use Rattle.listing.specs.Points.{ModelPoint}
 use Rattle.listing.specs.Reading.{Reading, points, reading}
 use Rattle.listing.specs.Walks.{Accepted}
 use Rattle.listing.specs.Tiling.{Tiles, BodyTiled}
+use Rattle.listing.proofs.ReadingSteps.{reading-none, reading-first}
 use Rattle.listing.proofs.BodyTiling.{read-tiled}
 use Rattle.listing.proofs.TiledApart.{upward}
 
 -- What sound definitions read fills the body, by one of them.
 reading-tiled : (ds : List Definition) → Each SoundDefinition ds → (m : Model) (ps : List ModelPoint)
     → reading ds m ≡ points ps → (d : Definition) × BodyTiled d (length (m .body)) ps
-unfolding reading
-reading-tiled [] s m ps = λ e. let z : _≡_ {A = ℕ} 0 1 = cc in absurd (omega arith)
-reading-tiled (d ∷ ds) s m ps =
+reading-tiled [] s m ps e = let n = sym (reading-none m) ∙ e in let z : _≡_ {A = ℕ} 0 1 = cc in absurd (omega arith)
+reading-tiled (d ∷ ds) s m ps e =
     by-test (λ r. r ≡ points ps → (d : Definition) × BodyTiled d (length (m .body)) ps) (eqb (d .id) (m .id))
-    (λ t e. (d, read-tiled d (s .0) (m .id) (m .body) ps e)) (λ t. reading-tiled ds (s .1) m ps)
+    (λ t e. (d, read-tiled d (s .0) (m .id) (m .body) ps e)) (λ t. reading-tiled ds (s .1) m ps) (sym (reading-first d ds m) ∙ e)
 
 -- So does what an accepted catalog reads.
 accepted-tiled : (catalog : List ℕ) (n : ℕ) → checked catalog ≡ accepted n → (m : Model) (ps : List ModelPoint)

@@ -1,5 +1,5 @@
 -- What the definitions left say of a model: what all of them say, if the choice keeps its definition, else nothing.
-use mathlib.Core.Path.{_≡_, refl, sym, _∙_}
+use mathlib.Core.Path.{_≡_, refl, sym, ap, _∙_}
 use mathlib.Core.Bool.{Bool, true, false}
 use mathlib.Core.List.{List, [], _∷_}
 use Prim.Native.Nat.{ℕ}
@@ -12,27 +12,21 @@ use Rattle.catalog.specs.Removal.{keptBy}
 use Rattle.catalog.proofs.TestLaws.{neither}
 use Rattle.register_map.specs.Scan.{Model}
 use Rattle.listing.specs.Reading.{Reading, unknown, readBy, reading}
+use Rattle.listing.proofs.ReadingSteps.{reading-none, reading-first, reading-later}
 use Rattle.listing.specs.Removed.{keepsId}
 
 -- A test of two numbers comes out as the other way round.
 other-way : (a b : ℕ) → eqb a b ≡ false → eqb b a ≡ false
 other-way a b e = ne-eqb b a (λ q. eqb-false a b e (sym q))
 
--- A model is not read by a first definition of another id.
-reading-later : (d : Definition) (ds : List Definition) (m : Model) → eqb (d .id) (m .id) ≡ false
-    → reading (d ∷ ds) m ≡ reading ds m
-unfolding reading
-reading-later d ds m e = rw (e, reading)
-
 -- A model whose id no definition has is unknown, whatever is kept.
 pub unknown-left : (choice : List Bool) (ds : List Definition) (m : Model) → among (m .id) (idsOf ds) ≡ false
     → reading (keptBy choice ds) m ≡ unknown
-unfolding reading
-unknown-left [] [] m e = refl
+unknown-left [] [] m e = reading-none m
 unknown-left [] (d ∷ ds) m e =
     let h = neither (eqb (m .id) (d .id)) (among (m .id) (idsOf ds)) .0 e in
     reading-later d ds m (other-way (m .id) (d .id) (h .0)) ∙ unknown-left [] ds m (h .1)
-unknown-left (c ∷ choice) [] m e = refl
+unknown-left (c ∷ choice) [] m e = reading-none m
 unknown-left (true ∷ choice) (d ∷ ds) m e =
     let h = neither (eqb (m .id) (d .id)) (among (m .id) (idsOf ds)) .0 e in
     reading-later d (keptBy choice ds) m (other-way (m .id) (d .id) (h .0)) ∙ unknown-left choice ds m (h .1)
@@ -47,10 +41,13 @@ readingIf false r = unknown
 -- The definitions left read a model as all of them do, if the choice keeps the definition of its id; else it is unknown.
 pub reading-left : (choice : List Bool) (ds : List Definition) (m : Model) → Distinct (idsOf ds)
     → reading (keptBy choice ds) m ≡ readingIf (keepsId choice ds (m .id)) (reading ds m)
-unfolding keepsId reading
+unfolding keepsId
 reading-left [] ds m distinct = refl
 reading-left (c ∷ choice) [] m distinct = refl
-reading-left (true ∷ choice) (d ∷ ds) m distinct = go (eqb (d .id) (m .id)) (reading-left choice ds m (distinct .1))
+reading-left (true ∷ choice) (d ∷ ds) m distinct =
+    reading-first d (keptBy choice ds) m
+    ∙ go (eqb (d .id) (m .id)) (reading-left choice ds m (distinct .1))
+    ∙ sym (ap (readingIf (keepsId (true ∷ choice) (d ∷ ds) (m .id))) (reading-first d ds m))
   where
     go : (b : Bool) → reading (keptBy choice ds) m ≡ readingIf (keepsId choice ds (m .id)) (reading ds m)
         → elim b [ true ↦ readBy (m .id) (d .top) (m .body) | false ↦ reading (keptBy choice ds) m ]
@@ -60,6 +57,7 @@ reading-left (true ∷ choice) (d ∷ ds) m distinct = go (eqb (d .id) (m .id)) 
     go false h = h
 reading-left (false ∷ choice) (d ∷ ds) m distinct =
     go (eqb (d .id) (m .id)) refl (reading-left choice ds m (distinct .1))
+    ∙ sym (ap (readingIf (keepsId (false ∷ choice) (d ∷ ds) (m .id))) (reading-first d ds m))
   where
     go : (b : Bool) → eqb (d .id) (m .id) ≡ b
         → reading (keptBy choice ds) m ≡ readingIf (keepsId choice ds (m .id)) (reading ds m)

@@ -23,6 +23,7 @@ use Rattle.listing.specs.Reading.{Reading, unknown, faulty, points, padL
 use Rattle.listing.specs.Listing.{Record, recordOf, listed, walk, listing}
 use Rattle.listing.specs.Tiling.{Tiles, BodyTiled, RecordsTiled, recordsWith}
 use Rattle.listing.proofs.BodyTiling.{read-tiled}
+use Rattle.listing.proofs.ReadingSteps.{reading-here, reading-later}
 use Rattle.listing.proofs.ReadingLeft.{unknown-left}
 use Rattle.listing.proofs.WalksBehind.{listed-walks}
 use Rattle.listing.proofs.ModelRecords.{RecordsOf, model-records}
@@ -43,12 +44,11 @@ id-among d (other ∷ ds) (later o) = among-later (d .id) (other .id) (idsOf ds)
 -- A model is read by the definition of its id: no other has that id.
 reading-known : (ds : List Definition) → Distinct (idsOf ds) → (d : Definition) → In d ds → (m : Model) → d .id ≡ m .id
     → reading ds m ≡ readBy (m .id) (d .top) (m .body)
-unfolding reading
-reading-known (other ∷ ds) distinct d first m e = rw (eq-eqb (d .id) (m .id) e, reading)
+reading-known (other ∷ ds) distinct d first m e = reading-here d ds m (eq-eqb (d .id) (m .id) e)
 reading-known (other ∷ ds) distinct d (later o) m e =
     let differ : other .id ≡ m .id → ⊥ = λ q.
     clash (sym (id-among d ds o) ∙ ap (λ n. among n (idsOf ds)) (e ∙ sym q) ∙ distinct .0) in
-    rw (ne-eqb (other .id) (m .id) differ, reading) (reading-known ds (distinct .1) d o m e)
+    reading-later other ds m (ne-eqb (other .id) (m .id) differ) ∙ reading-known ds (distinct .1) d o m e
 
 -- What a definition reads is not unknown.
 not-unknown : (id : ℕ) (c : Content) (body : List ℕ) → readBy id c body ≡ unknown → ⊥

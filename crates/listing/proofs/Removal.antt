@@ -1,6 +1,6 @@
 -- Removing models from a catalog (document 01, "The map", on striking out): a map that the catalog accepts is accepted by what is
 -- left of it, with the records of the models left, as they were and in their order, and the same headers.
-use mathlib.Core.Path.{_≡_, sym, ap, _∙_}
+use mathlib.Core.Path.{_≡_, ap, _∙_}
 use mathlib.Core.Bool.{Bool, true}
 use mathlib.Core.List.{List, _++_}
 use Prim.Native.Nat.{ℕ, _*_, _≤_}

@@ -16,7 +16,7 @@ use Rattle.register_map.specs.Headers.{opening}
 use Rattle.register_map.specs.Scan.{scanFrom, scan}
 use Rattle.listing.specs.Points.{ModelPoint, pointAt}
 use Rattle.listing.specs.Layout.{within, groupsSize, fillSize, countUnimplemented, fits, fillOf, pointsAt, groupsAt, contentAt}
-use Rattle.listing.specs.Reading.{endsWithPad, laidOut, readBy, reading}
+use Rattle.listing.specs.Reading.{endsWithPad, laidOut, readBy, topOf, reading}
 use Rattle.listing.specs.Listing.{Record, recordWidth, listed, walk, withRoom, listedBy, listing}
 use Rattle.listing.specs.Removed.{keepsId, recordsLeft}
 use Rattle.listing.proofs.Removal.{removal}
@@ -51,7 +51,7 @@ pub both-listed : listing catalog plant 20 ≡ listed (model1 ∷ model7 ∷ [])
 unfolding rows rowAmong registersOf join shownRaw tooWide inRange classOf classified
     frameOf framesFrom isSizeOf checkFrom checked parsed opening scanFrom scan
     pointAt within groupsSize fillSize countUnimplemented fits fillOf pointsAt groupsAt contentAt
-    endsWithPad laidOut readBy reading walk withRoom listedBy listing
+    endsWithPad laidOut readBy topOf reading walk withRoom listedBy listing
 both-listed = refl
 
 -- What is left of it without model 1.

@@ -10,8 +10,8 @@ use Rattle.values.specs.Each.{Each}
 use Rattle.catalog.specs.Definitions.{Content, definitions, pointsSize}
 use Rattle.catalog.specs.Soundness.{SoundPoint, SoundGroups}
 use Rattle.listing.specs.Layout.{nothing, topScope, fits, fillOf, contentAt}
-use Rattle.listing.specs.Reading.{padLeftOut, readBy}
-use Rattle.listing.specs.Walks.{heldAt, Stands, Accepted, topOf, scopeIn, noted, begun, IsTable, surveyedRefused, surveyedPoints, surveyed, Ready, AtGroups}
+use Rattle.listing.specs.Reading.{padLeftOut, readBy, topOf}
+use Rattle.listing.specs.Walks.{heldAt, Stands, Accepted, scopeIn, noted, begun, IsTable, surveyedRefused, surveyedPoints, surveyed, Ready, AtGroups}
 use Rattle.listing.specs.Answers.{surveyForm}
 use Rattle.listing.specs.Promises.{RunOf, ExtentOf, fittedBy, ReadyBy}
 use Rattle.listing.specs.declared.extents.Run.{Run}

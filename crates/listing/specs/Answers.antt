@@ -1,7 +1,7 @@
 -- What the code's types stand for.
 use mathlib.Core.Option.{Option, none, some}
 use mathlib.Core.List.{List}
-use Prim.Native.Nat.{ℕ, _-_}
+use Prim.Native.Nat.{ℕ}
 use Rattle.catalog.specs.Frames as Frames
 use Rattle.catalog.specs.Answers.{headForm, pointForm}
 use Rattle.catalog.specs.Definitions.{Content}

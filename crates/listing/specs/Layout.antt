@@ -1,10 +1,10 @@
 -- How a definition lays out a model (document 01, "The map"): sizes, counts, and where each point of each instance lies.
-use mathlib.Core.Bool.{Bool, true, false, not, _&&_, _||_}
+use mathlib.Core.Bool.{Bool, true, false, _&&_, _||_}
 use mathlib.Core.List.{List, [], _∷_, _++_}
 use mathlib.Core.Option.{Option, none, some}
 use Prim.Native.Nat.{ℕ, zero, suc, _+_, _*_, _-_, _/_, _%_}
 use lib.Dec.{eqb, leb}
-use lib.ListN.{length, take, drop, getD, set}
+use lib.ListN.{length, getD, set}
 use Rattle.catalog.specs.Frames.{Point, Head, constantCount, countByPoint, fill}
 use Rattle.catalog.specs.Definitions.{Groups, noGroup, group, Content, pointsSize}
 use Rattle.listing.specs.Points.{ModelPoint, Scope, pointAt}

@@ -1,6 +1,7 @@
 -- What a definition says of one model's body, alone (document 01, "Listing", 27 to 29): a fault, or its points.
-use mathlib.Core.Bool.{Bool, true, false, not, _&&_}
+use mathlib.Core.Bool.{Bool, true, false, _&&_}
 use mathlib.Core.List.{List, [], _∷_}
+use mathlib.Core.Option.{Option, none, some}
 use Prim.Native.Nat.{ℕ, _+_}
 use lib.Dec.{eqb, ltb}
 use lib.ListN.{length}
@@ -67,7 +68,11 @@ readBy id c body =
       | false ↦ laidOut c body
     ]
 
--- A model by the definitions of a catalog: the first of its id, if there is one.
+-- The top group of the first definition of an id, if there is one.
+unfoldable pub topOf : ℕ → List Definition → Option Content
+topOf id [] = none
+topOf id (d ∷ ds) = elim (eqb (d .id) id) [ true ↦ some (d .top) | false ↦ topOf id ds ]
+
+-- A model by the definitions of a catalog.
 unfoldable pub reading : List Definition → Model → Reading
-reading [] m = unknown
-reading (d ∷ ds) m = elim (eqb (d .id) (m .id)) [ true ↦ readBy (m .id) (d .top) (m .body) | false ↦ reading ds m ]
+reading ds m = elim (topOf (m .id) ds) [ none ↦ unknown | some c ↦ readBy (m .id) c (m .body) ]

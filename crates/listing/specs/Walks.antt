@@ -1,20 +1,19 @@
 -- What the private functions promise: where a walk over the frames of a catalog stands, and what it gives from there on.
 use mathlib.Core.Path.{_≡_}
 use mathlib.Core.Bool.{Bool, true, false}
-use mathlib.Core.List.{List, [], _∷_, _++_, map}
+use mathlib.Core.List.{List, [], _∷_, _++_}
 use mathlib.Core.Option.{Option, none, some}
-use Prim.Native.Nat.{ℕ, suc, _+_, _*_, _-_, _/_, _≤_, _<_, min}
+use Prim.Native.Nat.{ℕ, _+_, _-_, _/_, _≤_}
 use lib.Dec.{eqb, ltb}
 use lib.ListN.{length, drop, getD, set}
 use Rattle.catalog.specs.Frames.{Point, Head, Frame, modelFrame, groupFrame, pointFrame, endFrame, malformed, frames}
 use Rattle.catalog.specs.Rules.{among}
 use Rattle.catalog.specs.Checking as Checking
-use Rattle.catalog.specs.Definitions.{Groups, Content, Definition, pointFrames, groupFrames, parsed, inner, definitions}
+use Rattle.catalog.specs.Definitions.{Content, pointFrames, groupFrames, parsed, inner, definitions}
 use Rattle.catalog.specs.Soundness.{Distinct, numbersOf, In, SoundGroups}
 use Rattle.listing.specs.Points.{ModelPoint, Scope}
 use Rattle.listing.specs.Layout.{fillOf}
-use Rattle.listing.specs.Reading.{Reading, unknown, faulty, points, faultNumber}
-use Rattle.listing.specs.Listing.{Record}
+use Rattle.listing.specs.Reading.{topOf, Reading, unknown, faulty, points, faultNumber}
 
 -- ---- Frames
 
@@ -71,11 +70,6 @@ isModelOf id (groupFrame h) = false
 isModelOf id (pointFrame p) = false
 isModelOf id endFrame = false
 isModelOf id malformed = false
-
--- The top group of the first definition of an id.
-unfoldable pub topOf : ℕ → List Definition → Option Content
-topOf id [] = none
-topOf id (d ∷ ds) = elim (eqb (d .id) id) [ true ↦ some (d .top) | false ↦ topOf id ds ]
 
 -- ---- The table of the points in reach
 

@@ -4,9 +4,6 @@ use mathlib.Core.Path.{sym, _∙_}
 use native.Mathlib.Omega.{arith}
 use Rattle.catalog.proofs.frames.read_frame.Statement.{statement}
 use Rattle.catalog.proofs.frames.read_frame.Tie as tie
-use Rattle.catalog.proofs.frames.read_frame.Reads as reads
-use Rattle.catalog.proofs.frames.read_frame.Lts as lts
-use Rattle.catalog.proofs.frames.frame_at.Reads as frame-at-reads
 use Rattle.catalog.proofs.FramesByIndex as frames
 
 -- src/frames.rt:116:9
