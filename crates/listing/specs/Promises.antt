@@ -4,7 +4,7 @@ use mathlib.Core.Bool.{true, false, _&&_, _||_}
 use mathlib.Core.List.{List, map}
 use Prim.Native.Nat.{ℕ, _+_, _*_, _-_, _/_, _%_, _≤_, min}
 use lib.Dec.{eqb, ltb}
-use lib.ListN.{length}
+use lib.ListN.{length, take, drop}
 use lib.Seq.{sets}
 use Rattle.values.specs.Each.{Each}
 use Rattle.values.specs.Registers.{join, shownRaw}
@@ -98,6 +98,10 @@ pub record ShownOf (p : Frames.Point) (registers : List ℕ) (register : ℕ) (r
 -- The record of a point of the model at a place.
 abbrev pub recordAt : Place → ModelPoint → Listing.Record
 recordAt place = Listing.recordOf (place .index) (place .address) (place .id)
+
+-- The body of a length of the model at a place.
+abbrev pub bodyAt : List ℕ → Place → ℕ → List ℕ
+bodyAt registers place len = take len (drop (place .address + 2) registers)
 
 -- A list behind records of the model at a place, the first of them as record number `count`.
 abbrev pub written : Place → ℕ → List ModelPoint → List ℕ → List ℕ

@@ -13,7 +13,7 @@ use Rattle.catalog.specs.Definitions.{Content, pointFrames, groupFrames, parsed
 use Rattle.catalog.specs.Soundness.{Distinct, numbersOf, In, SoundGroups}
 use Rattle.listing.specs.Points.{ModelPoint, Scope}
 use Rattle.listing.specs.Layout.{fillOf}
-use Rattle.listing.specs.Reading.{topOf, Reading, unknown, faulty, points, faultNumber}
+use Rattle.listing.specs.Reading.{topOf, Reading, unknown, faulty, points, faultNumber, reading}
 
 -- ---- Frames
 
@@ -87,6 +87,10 @@ unfoldable pub begun : ℕ → ℕ → List Point → List Point
 begun len offset [] = []
 begun len offset (p ∷ ps) = elim (ltb offset len) [ true ↦ p ∷ begun len (offset + p .size) ps | false ↦ [] ]
 
+-- Those of the group at a frame, in a body.
+abbrev pub begunAt : List ℕ → List ℕ → ℕ → ℕ → List Point
+begunAt ws body offset frame = begun (length body) offset (heldAt ws frame .points)
+
 -- A table of all numbers.
 abbrev pub IsTable : List ℕ → Type 0
 IsTable table = length table ≡ 65536
@@ -118,6 +122,10 @@ pub record AtGroups (ws : List ℕ) (i levels : ℕ) : Type 0 where
   pub few : length ws / 8 ≤ 4096
 
 -- ---- Readings
+
+-- A model by the definitions of a catalog.
+abbrev pub readIn : List ℕ → ℕ → List ℕ → Reading
+readIn ws id body = reading (definitions ws) (record { id = id; body = body })
 
 -- The points of a reading.
 abbrev pub pointsOf : Reading → List ModelPoint

@@ -23,15 +23,15 @@ use values::part;
 ghost use mathlib.Core.Path.{_≡_};
 ghost use mathlib.Core.Option.{none};
 ghost use Prim.Native.Nat.{_+_, _*_, _≤_};
-ghost use lib.ListN.{length, take, drop};
+ghost use lib.ListN.{length};
 ghost use lib.ListN as Lists;
 ghost use Rattle.catalog.specs.Definitions.{definitions};
 ghost use Rattle.register_map.specs.Headers.{opening};
 ghost use Rattle.listing.specs.Reading.{reading};
 ghost use Rattle.listing.specs.Listing as Listings;
-ghost use Rattle.listing.specs.Walks.{Accepted, IsTable, pointsOf};
+ghost use Rattle.listing.specs.Walks.{Accepted, IsTable, pointsOf, readIn};
 ghost use Rattle.listing.specs.Answers.{answer};
-ghost use Rattle.listing.specs.Promises.{written, WalkFits};
+ghost use Rattle.listing.specs.Promises.{written, WalkFits, bodyAt};
 
 // What `list` answers: the points and the headers; or the number of a refusal, its place and the headers
 // before it.
@@ -211,9 +211,9 @@ fn put_known(
     requires { ⌜ Accepted (now catalog) ⌝ }
     requires { ⌜ IsTable (now table) ⌝ }
     requires { ⌜ (place .address + 2 + length ≤ Lists.length (now map)) × (length ≤ 65535) × (Lists.length (now map) ≤ 65536) ⌝ }
-    requires { ⌜ Listings.recordWidth * (records + Lists.length (pointsOf (reading (definitions (now catalog)) (record { id = place .id; body = take length (drop (place .address + 2) (now map)) })))) ≤ Lists.length (now out) ⌝ }
-    ensures { λ r. ⌜ r ≡ records + Lists.length (pointsOf (reading (definitions (now (catalog .entry))) (record { id = place .id; body = take length (drop (place .address + 2) (now (map .entry))) }))) ⌝ }
-    ensures { λ _. ⌜ now (out .exit) ≡ written place records (pointsOf (reading (definitions (now (catalog .entry))) (record { id = place .id; body = take length (drop (place .address + 2) (now (map .entry))) }))) (now (out .entry)) ⌝ }
+    requires { ⌜ Listings.recordWidth * (records + Lists.length (pointsOf (readIn (now catalog) (place .id) (bodyAt (now map) place length)))) ≤ Lists.length (now out) ⌝ }
+    ensures { λ r. ⌜ r ≡ records + Lists.length (pointsOf (readIn (now (catalog .entry)) (place .id) (bodyAt (now (map .entry)) place length))) ⌝ }
+    ensures { λ _. ⌜ now (out .exit) ≡ written place records (pointsOf (readIn (now (catalog .entry)) (place .id) (bodyAt (now (map .entry)) place length))) (now (out .entry)) ⌝ }
     ensures { λ _. ⌜ IsTable (now (table .exit)) ⌝ }
 {
     let body = part(map, place.address + 2, length);

@@ -16,14 +16,13 @@ ghost use Prim.Native.Nat.{_+_, _*_, _-_, _≤_, _<_};
 ghost use lib.ListN.{length, set};
 ghost use lib.Seq.{sets};
 ghost use Rattle.catalog.specs.Rules.{isSizeOf};
-ghost use Rattle.catalog.specs.Definitions.{definitions, groupFrames};
+ghost use Rattle.catalog.specs.Definitions.{groupFrames};
 ghost use Rattle.catalog.specs.Soundness as Soundness;
 ghost use Rattle.catalog.specs.Answers.{pointForm};
 ghost use Rattle.listing.specs.Points.{pointAt};
 ghost use Rattle.listing.specs.Layout.{within, countOf, pointsAt, groupsAt};
-ghost use Rattle.listing.specs.Reading.{reading};
 ghost use Rattle.listing.specs.Listing.{recordNumbers, recordWidth};
-ghost use Rattle.listing.specs.Walks.{heldAt, Accepted, levelOf, scopeIn, noted, begun, IsTable, Elsewhere, pointsOf, HasPoints, Ready};
+ghost use Rattle.listing.specs.Walks.{heldAt, Accepted, levelOf, scopeIn, noted, IsTable, Elsewhere, pointsOf, HasPoints, Ready, readIn, begunAt};
 ghost use Rattle.listing.specs.Promises.{recordAt, written, RunAsks, BehindRun, GroupsAsk, BehindGroups};
 
 // The numbers of a record.
@@ -67,11 +66,11 @@ pub(crate) fn put_model(
 ) -> usize
     requires { ⌜ Accepted (now catalog) ⌝ }
     requires { ⌜ Ready (now catalog) (place .id) (now body) (now table) first fill ⌝ }
-    requires { ⌜ HasPoints (reading (definitions (now catalog)) (record { id = place .id; body = now body })) ⌝ }
+    requires { ⌜ HasPoints (readIn (now catalog) (place .id) (now body)) ⌝ }
     requires { ⌜ (length (now body) ≤ 65535) × (place .address ≤ 65536) ⌝ }
-    requires { ⌜ recordWidth * (records + length (pointsOf (reading (definitions (now catalog)) (record { id = place .id; body = now body })))) ≤ length (now out) ⌝ }
-    ensures { λ r. ⌜ r ≡ records + length (pointsOf (reading (definitions (now (catalog .entry))) (record { id = place .id; body = now (body .entry) }))) ⌝ }
-    ensures { λ _. ⌜ now (out .exit) ≡ written place records (pointsOf (reading (definitions (now (catalog .entry))) (record { id = place .id; body = now (body .entry) }))) (now (out .entry)) ⌝ }
+    requires { ⌜ recordWidth * (records + length (pointsOf (readIn (now catalog) (place .id) (now body)))) ≤ length (now out) ⌝ }
+    ensures { λ r. ⌜ r ≡ records + length (pointsOf (readIn (now (catalog .entry)) (place .id) (now (body .entry)))) ⌝ }
+    ensures { λ _. ⌜ now (out .exit) ≡ written place records (pointsOf (readIn (now (catalog .entry)) (place .id) (now (body .entry)))) (now (out .entry)) ⌝ }
     ensures { λ _. ⌜ IsTable (now (table .exit)) ⌝ }
 {
     let path = InstancePath {
@@ -112,9 +111,9 @@ fn put_run(
     start: Progress,
 ) -> Progress
     requires { ⌜ IsTable (now table) × (length (path .instances) ≡ 3) ⌝ }
-    requires { ⌜ RunAsks (now catalog) (now body) (now out) place start (begun (length (now body)) (start .offset) (heldAt (now catalog) (start .frame) .points)) ⌝ }
-    ensures { λ r. ⌜ BehindRun start (begun (length (now (body .entry))) (start .offset) (heldAt (now (catalog .entry)) (start .frame) .points)) r ⌝ }
-    ensures { λ _. ⌜ now (out .exit) ≡ written place (start .records) (pointsAt (now (body .entry)) (scopeIn (now (table .entry))) (path .instances) (start .offset) (begun (length (now (body .entry))) (start .offset) (heldAt (now (catalog .entry)) (start .frame) .points))) (now (out .entry)) ⌝ }
+    requires { ⌜ RunAsks (now catalog) (now body) (now out) place start (begunAt (now catalog) (now body) (start .offset) (start .frame)) ⌝ }
+    ensures { λ r. ⌜ BehindRun start (begunAt (now (catalog .entry)) (now (body .entry)) (start .offset) (start .frame)) r ⌝ }
+    ensures { λ _. ⌜ now (out .exit) ≡ written place (start .records) (pointsAt (now (body .entry)) (scopeIn (now (table .entry))) (path .instances) (start .offset) (begunAt (now (catalog .entry)) (now (body .entry)) (start .offset) (start .frame))) (now (out .entry)) ⌝ }
 {
     let mut at = start;
     while at.offset < body.len() {

@@ -5,7 +5,7 @@ use crate::frames::point_at;
 ghost use mathlib.Core.Path.{_≡_};
 ghost use Prim.Native.Nat.{_/_, _≤_};
 ghost use lib.ListN.{length};
-ghost use Rattle.listing.specs.Walks.{heldAt, Stands, IsTable, noted, begun};
+ghost use Rattle.listing.specs.Walks.{Stands, IsTable, noted, begunAt};
 
 // The entries of the table: a number is 16 bits.
 pub(crate) const NUMBERS: usize = 65536;
@@ -22,7 +22,7 @@ pub(crate) fn note_run(
     requires { ⌜ Stands (now catalog) first × (length (now catalog) / 8 ≤ 4096) ⌝ }
     requires { ⌜ IsTable (now table) ⌝ }
     requires { ⌜ length (now body) ≤ 65535 ⌝ }
-    ensures { λ _. ⌜ now (table .exit) ≡ noted (now (body .entry)) offset (begun (length (now (body .entry))) offset (heldAt (now (catalog .entry)) first .points)) (now (table .entry)) ⌝ }
+    ensures { λ _. ⌜ now (table .exit) ≡ noted (now (body .entry)) offset (begunAt (now (catalog .entry)) (now (body .entry)) offset first) (now (table .entry)) ⌝ }
 {
     let mut i = first;
     let mut at = offset;

@@ -13,8 +13,8 @@ ghost use mathlib.Core.Option.{some};
 ghost use Prim.Native.Nat.{_+_, _/_, _≤_};
 ghost use lib.ListN.{length};
 ghost use Rattle.catalog.specs.Definitions.{definitions};
-ghost use Rattle.listing.specs.Reading.{reading, readBy, padLeftOut, topOf};
-ghost use Rattle.listing.specs.Walks.{heldAt, Stands, Accepted, IsTable, surveyed};
+ghost use Rattle.listing.specs.Reading.{readBy, padLeftOut, topOf};
+ghost use Rattle.listing.specs.Walks.{heldAt, Stands, Accepted, IsTable, surveyed, readIn};
 ghost use Rattle.listing.specs.Answers.{surveyForm};
 ghost use Rattle.listing.specs.Promises.{RunOf, ReadyBy, fittedBy};
 
@@ -37,7 +37,7 @@ pub(crate) enum Survey {
 pub(crate) fn survey_model(catalog: &[u16], table: &mut [u16], id: u16, body: &[u16]) -> Survey
     requires { ⌜ Accepted (now catalog) ⌝ }
     requires { ⌜ IsTable (now table) × (length (now body) ≤ 65535) ⌝ }
-    ensures { λ r. ⌜ surveyForm r ≡ surveyed (reading (definitions (now (catalog .entry))) (record { id = id; body = now (body .entry) })) ⌝ }
+    ensures { λ r. ⌜ surveyForm r ≡ surveyed (readIn (now (catalog .entry)) id (now (body .entry))) ⌝ }
     ensures { λ r. ⌜ ReadyBy (now (catalog .entry)) id (now (body .entry)) (now (table .exit)) r ⌝ }
     ensures { λ _. ⌜ IsTable (now (table .exit)) ⌝ }
 {
