@@ -53,8 +53,8 @@ countByPoint = 1
 abbrev pub fill : ℕ
 fill = 2
 
--- The type codes that rules ask for: a pad, a count point's, a scale factor's; and the access that a count point has (document
--- 01: R).
+-- The type codes that checking and listing ask for: a pad, a count point's, a scale factor's; and the access that a count point
+-- has (document 01: R).
 abbrev pub pad : ℕ
 pad = 6
 

@@ -33,7 +33,7 @@ pub const COUNT_BY_POINT: u16 = 1;
 
 pub const FILL: u16 = 2;
 
-// The type codes that rules ask for, and the access that a count point has.
+// The type codes that checking and listing ask for, and the access that a count point has.
 pub const PAD: u16 = 6;
 
 pub(crate) const UINT16: u16 = 2;

@@ -1,5 +1,5 @@
 -- The headers that listing answers (document 01, "Listing"): on acceptance and on 30 models + 1, at most (registers − 1) / 3; on
--- any other refusal those before the header at its place.
+-- 22 to 29 those before the header at its place, else none.
 use mathlib.Core.Path.{_≡_, ap, _∙_}
 use mathlib.Core.List.{List}
 use mathlib.Core.Logic.{⊎-elim}

@@ -8,8 +8,8 @@ use Rattle.values.specs.Each.{Each}
 use Rattle.register_map.specs.Headers.{opening}
 use Rattle.register_map.specs.Scan.{Model, marked, Scan, scan, WellFormed}
 use Rattle.register_map.specs.Insertion.{allModels, placed, lengthened}
-use Rattle.register_map.proofs.HeaderLaws.{opening-none, opening-marked}
-use Rattle.register_map.proofs.Lengthened.{lengthened-marked, lengthened-scan}
+use Rattle.register_map.proofs.HeaderLaws.{opening-none, opening-with-SunS}
+use Rattle.register_map.proofs.Lengthened.{lengthened-begins, lengthened-scan}
 use Rattle.listing.specs.Stability.{MadeOfWholeModels}
 use Rattle.listing.proofs.WalksBehind.{headers-walked, listed-walks}
 
@@ -34,5 +34,5 @@ module _ (map : List ℕ) (whole : MadeOfWholeModels map) where
   pub lengthened-models : (gaps : List (List Model)) → Each (Each WellFormed) gaps → length (lengthened map gaps) ≤ 65536
       → HasModels (lengthened map gaps) (allModels (placed (scan map .models) gaps))
   lengthened-models gaps f l =
-      let begins = lengthened-marked map whole-ends gaps ∙ opening-none map (whole-models .opens) .1 in
-      record { opens = opening-marked (lengthened map gaps) l begins; scanned = lengthened-scan map whole-ends gaps f }
+      let begins = lengthened-begins map whole-ends gaps ∙ opening-none map (whole-models .opens) .1 in
+      record { opens = opening-with-SunS (lengthened map gaps) l begins; scanned = lengthened-scan map whole-ends gaps f }

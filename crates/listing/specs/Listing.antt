@@ -65,7 +65,7 @@ walk read ending index at (m ∷ ms) =
       | points ps ↦ withRecords (map (recordOf index at (m .id)) ps) (walk read ending (index + 1) (at + sizeOf m) ms)
     ]
 
--- 30: the list has fewer than 10 × points entries (place: points needed).
+-- 30: the list has fewer than ten entries a point; its place is the number of points.
 unfoldable pub withRoom : ℕ → Answer → Answer
 withRoom room (refused number place headers) = refused number place headers
 withRoom room (listed rs headers) =

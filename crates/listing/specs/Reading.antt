@@ -44,7 +44,8 @@ abbrev pub hasNoGroup : Groups → Bool
 hasNoGroup noGroup = true
 hasNoGroup (group h ps inside behind) = false
 
--- Is the last pad left out? In model 1 without groups whose last point is a pad, the length may be one short of the top size.
+-- Is the last pad left out? Document 01 allows it in a model of id 1 that has no groups and is one register shorter than its
+-- points.
 abbrev pub padLeftOut : ℕ → Content → ℕ → Bool
 padLeftOut id c len =
     eqb id 1 && (hasNoGroup (c .groups) && (endsWithPad (c .points) && eqb (len + 1) (pointsSize (c .points))))

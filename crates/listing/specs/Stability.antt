@@ -31,7 +31,7 @@ shifted ms r =
 
 -- The answer for the lengthened map, by the answer for the map, which has n models. Acceptance: each record is shifted by the
 -- models inserted before it, and the headers rise by the number inserted. 30: so do its headers, and its place stays. 27 to 29:
--- the headers rise by the number inserted before that header, the place by the sum of 2 + length over these. Else both stay.
+-- the headers rise by the number inserted before that header, the place by the registers of these. Else both stay.
 unfoldable pub movedAnswer : ℕ → List (List Model) → Answer → Answer
 movedAnswer n gaps (listed rs headers) =
     listed (map (λ r. shifted (gapsBefore (r .index) gaps) r) rs) (headers + length (gapsBefore n gaps))

@@ -1,4 +1,4 @@
--- What the private functions promise: where a walk over the frames of a catalog stands, and what it gives from there on.
+-- Where a walk over the frames of a catalog stands, and what it gives from there on.
 use mathlib.Core.Path.{_≡_}
 use mathlib.Core.Bool.{Bool, true, false}
 use mathlib.Core.List.{List, [], _∷_, _++_}

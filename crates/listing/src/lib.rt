@@ -48,9 +48,9 @@ pub enum Listing {
 }
 
 // Lists the points of a map into `out`, ten numbers a record. All refusals and the count of points are decided
-// before anything is written. The time is at most the registers of the map times the frames of the catalog: each
-// model's id is searched for in the catalog, each instance takes the frames of its group anew, and nothing is
-// searched for each point.
+// before anything is written. Beside checking the catalog, the time grows at most with the registers of the map
+// times the frames of the catalog: each model's id is searched for in the catalog, each instance takes the
+// frames of its group anew, and nothing is searched for each point.
 pub fn list(catalog: &[u16], map: &[u16], out: &mut [u64]) -> Listing
     ensures { λ r. ⌜ answer r ≡ Listings.told (Listings.listing (now (catalog .entry)) (now (map .entry)) (length (now (out .entry)))) ⌝ }
     ensures { λ _. ⌜ now (out .exit) ≡ Listings.stored (Listings.listing (now (catalog .entry)) (now (map .entry)) (length (now (out .entry)))) (now (out .entry)) ⌝ }
@@ -83,7 +83,7 @@ fn list_checked(catalog: &[u16], map: &[u16], out: &mut [u64]) -> Listing
     }
 }
 
-// Lists a map that is marked and not too long: a first walk over its headers decides, a second one writes.
+// Lists a map that begins with 5375 6E53 and is not too long: a first walk over its headers decides, a second one writes.
 fn list_opened(catalog: &[u16], map: &[u16], out: &mut [u64]) -> Listing
     requires { ⌜ Accepted (now catalog) ⌝ }
     requires { ⌜ opening (now map) ≡ none ⌝ }

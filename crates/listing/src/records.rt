@@ -133,8 +133,8 @@ fn put_run(
     at
 }
 
-// Writes the records of the groups side by side from a frame on, each instance's own points first, then the
-// groups in it, which may have so many levels. An instance takes the frames of its group anew.
+// Writes the records of the groups side by side from a frame on, in a group that may hold groups of so many
+// levels: each instance's own points first, then the groups in it. An instance takes the frames of its group anew.
 fn put_groups(
     catalog: &[u16],
     table: &mut [u16],

@@ -77,7 +77,8 @@ fn survey_known(catalog: &[u16], table: &mut [u16], id: u16, body: &[u16], first
     fitted(first, run, groups, body.len())
 }
 
-// In model 1 without groups whose last point is a pad, the length may be one short of the top size.
+// May the last pad be missing? Only in a model of id 1 that has no groups and is one register shorter than its
+// points.
 fn is_pad_left_out(catalog: &[u16], id: u16, first: usize, run: Run, length: usize) -> bool
     requires { ⌜ Stands (now catalog) first × RunOf (now catalog) first run ⌝ }
     requires { ⌜ length ≤ 65535 ⌝ }

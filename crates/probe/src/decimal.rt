@@ -29,7 +29,7 @@ pub(crate) fn run(line: &[u8], at: usize) -> bool {
     true
 }
 
-// Writes what `decimal` answers when it is lent `out`.
+// Writes what `decimal` answers when it is given `out`.
 fn write_decimal(quantity: Quantity, out: &mut [u8]) {
     let written = display::decimal(quantity.type_code, quantity.raw, quantity.scale, out);
     match written {

@@ -39,7 +39,7 @@ pub(crate) fn run(line: &[u8], at: usize) -> bool {
     true
 }
 
-// Writes what `list` answers when it is lent `out`.
+// Writes what `list` answers when it is given `out`.
 fn write_listing(catalog: &[u16], map: &[u16], out: &mut [u64]) {
     let listing = listing::list(catalog, map, out);
     match listing {

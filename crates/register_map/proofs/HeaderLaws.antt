@@ -34,13 +34,13 @@ module _ (map : List ℕ) where
   unfolding opening
   opening-long h = simp (opening, lt-ltb _ _ h)
 
-  pub opening-unmarked : length map ≤ 65536 → beginsWithSunS map ≡ false → opening map ≡ some 21
+  pub opening-without-SunS : length map ≤ 65536 → beginsWithSunS map ≡ false → opening map ≡ some 21
   unfolding opening
-  opening-unmarked h e = simp (opening, le-ltb _ _ h, e)
+  opening-without-SunS h e = simp (opening, le-ltb _ _ h, e)
 
-  pub opening-marked : length map ≤ 65536 → beginsWithSunS map ≡ true → opening map ≡ none
+  pub opening-with-SunS : length map ≤ 65536 → beginsWithSunS map ≡ true → opening map ≡ none
   unfolding opening
-  opening-marked h e = simp (opening, le-ltb _ _ h, e)
+  opening-with-SunS h e = simp (opening, le-ltb _ _ h, e)
 
   -- Where neither 20 nor 21 arises, the map is short enough and marked.
   pub opening-none : opening map ≡ none → (length map ≤ 65536) × (beginsWithSunS map ≡ true)

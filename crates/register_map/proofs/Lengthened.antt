@@ -50,7 +50,7 @@ module _ (map : List ℕ) (ends : scan map .ending ≡ marked) where
       let ms : List Model = scan map .models in
       put-together map ms (allModels (placed ms gaps)) (m .register0) (m .register1) (m .tail) (m .shape)
 
-  -- Its first two registers are the map's, so that it is marked where the map is.
+  -- Its first two registers are the map's, so that it begins with 5375 6E53 where the map does.
   pub lengthened-registers : (gaps : List (List Model))
       → (getD (lengthened map gaps) 0 0 ≡ getD map 0 0) × (getD (lengthened map gaps) 1 0 ≡ getD map 1 0)
   lengthened-registers gaps =
@@ -58,8 +58,8 @@ module _ (map : List ℕ) (ends : scan map .ending ≡ marked) where
       let e = lengthened-shape gaps in
       (rw e (sym (ap (λ l. getD l 0 0) (m .shape))), rw e (sym (ap (λ l. getD l 1 0) (m .shape))))
 
-  pub lengthened-marked : (gaps : List (List Model)) → beginsWithSunS (lengthened map gaps) ≡ beginsWithSunS map
-  lengthened-marked gaps = let r = lengthened-registers gaps in rw (r .0, r .1)
+  pub lengthened-begins : (gaps : List (List Model)) → beginsWithSunS (lengthened map gaps) ≡ beginsWithSunS map
+  lengthened-begins gaps = let r = lengthened-registers gaps in rw (r .0, r .1)
 
   -- It is scanned as the models placed, up to the end marker.
   pub lengthened-scan : (gaps : List (List Model)) → Each (Each WellFormed) gaps

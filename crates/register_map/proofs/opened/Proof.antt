@@ -4,7 +4,7 @@ use mathlib.Core.Bool.{and-false}
 use borrow.Author.Tests.{eq-eqb, ne-eqb}
 use lib.Dec.{eqb}
 use lib.ListN.{getD}
-use Rattle.register_map.proofs.HeaderLaws.{opening-long, opening-unmarked, opening-marked, too-short}
+use Rattle.register_map.proofs.HeaderLaws.{opening-long, opening-without-SunS, opening-with-SunS, too-short}
 use borrow.Author.Needs.{needs}
 use Rattle.register_map.proofs.opened.Statement.{statement}
 use Rattle.register_map.proofs.opened.Tie as tie
@@ -15,7 +15,7 @@ returns c = sym (opening-long (c .before .args .map .now) (c .if1 .taken))
 returns-2 : tie.Need-returns-2
 returns-2 c =
     let map = c .before .before .args .map .now in
-    sym (opening-unmarked map (c .before .if1 .left) (too-short map (c .if2 .taken)))
+    sym (opening-without-SunS map (c .before .if1 .left) (too-short map (c .if2 .taken)))
 
 shared-slice-read-if3 : tie.Need-shared-slice-read-if3
 shared-slice-read-if3 c = search needs
@@ -24,7 +24,7 @@ returns-3 : tie.Need-returns-3
 returns-3 c =
     let map = c .before .before .before .before .args .map .now in
     let wrong = ne-eqb _ _ (c .if3 .taken) in
-    sym (opening-unmarked map (c .before .before .before .if1 .left) (rw wrong))
+    sym (opening-without-SunS map (c .before .before .before .if1 .left) (rw wrong))
 
 shared-slice-read-if4 : tie.Need-shared-slice-read-if4
 shared-slice-read-if4 c = search needs
@@ -34,14 +34,14 @@ returns-4 c =
     let map = c .before .before .before .before .before .before .args .map .now in
     let wrong = ne-eqb _ _ (c .if4 .taken) in
     let short = c .before .before .before .before .before .if1 .left in
-    sym (opening-unmarked map short (rw wrong (and-false (eqb (getD map 0 0) 0x5375))))
+    sym (opening-without-SunS map short (rw wrong (and-false (eqb (getD map 0 0) 0x5375))))
 
 returns-5 : tie.Need-returns-5
 returns-5 c =
     let map = c .before .before .before .before .before .before .args .map .now in
     let right = eq-eqb _ _ (c .before .before .if3 .left) in
     let right-too = eq-eqb _ _ (c .if4 .left) in
-    sym (opening-marked map (c .before .before .before .before .before .if1 .left) (rw (right, right-too)))
+    sym (opening-with-SunS map (c .before .before .before .before .before .if1 .left) (rw (right, right-too)))
 
 pub opened-spec : {M : Type 1} → statement M
 opened-spec =
