@@ -20,7 +20,7 @@ pub record Record : Type 0 where
   pub address : ℕ
   pub point : ModelPoint
 
--- The numbers of a record.
+-- How many numbers a record has.
 abbrev pub recordWidth : ℕ
 recordWidth = 10
 

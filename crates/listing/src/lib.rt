@@ -135,11 +135,7 @@ fn survey_map(catalog: &[u16], map: &[u16], table: &mut [u16]) -> Listing
                 match survey {
                     Survey::Unknown => {}
                     Survey::Refused(number) => {
-                        return Listing::Refused {
-                            number,
-                            place: at,
-                            headers,
-                        };
+                        return refused(number, at, headers);
                     }
                     Survey::Points { points: more, .. } => points += more,
                 }
@@ -153,17 +149,20 @@ fn survey_map(catalog: &[u16], map: &[u16], table: &mut [u16]) -> Listing
                 };
             }
             Header::Refused(number) => {
-                return Listing::Refused {
-                    number,
-                    place: at,
-                    headers,
-                };
+                return refused(number, at, headers);
             }
         }
     }
+    refused(22, at, headers)
+}
+
+// A refusal at a header.
+fn refused(number: u16, place: usize, headers: usize) -> Listing
+    ensures { λ r. ⌜ answer r ≡ Listings.refusedTold number place headers ⌝ }
+{
     Listing::Refused {
-        number: 22,
-        place: at,
+        number,
+        place,
         headers,
     }
 }

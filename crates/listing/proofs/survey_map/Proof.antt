@@ -67,9 +67,12 @@ enum-known-survey c = search needs
 same-length : tie.Need-same-length Inv-loop μ-loop
 same-length c = search needs
 
+refused-requires : tie.Need-refused-requires Inv-loop μ-loop
+refused-requires c κs = search needs
+
 returns : tie.Need-returns Inv-loop μ-loop
 returns c =
-    let m = c .before .before .before .before .before in
+    let m = c .before .before .before .before .before .before in
     let k = m .before .before .before .before in
     let s = k .before .before .before .before .before .before .before .before in
     let l = k .before .before .before .before .loop in
@@ -79,8 +82,8 @@ returns c =
     let read = reading (definitions (s .args .catalog .now)) in
     let seen = m .survey-model .ensures .0
     ∙ ap (λ body. surveyed (read (record { id = g .0 .0; body = body }))) (m .before .part .ensures) in
-    let e = sym (ap surveyForm (c .before .survey .given .1)) ∙ seen in
-    (survey-faulty (l .inv .0) short h e, m .survey-model .ensures .1 .1)
+    let e = sym (ap surveyForm (c .before .before .survey .given .1)) ∙ seen in
+    (c .refused .ensures ∙ survey-faulty (l .inv .0) short h e, m .survey-model .ensures .1 .1)
 
 enum-known-survey-2 : tie.Need-enum-known-survey-2 Inv-loop μ-loop
 enum-known-survey-2 c = search needs
@@ -158,17 +161,25 @@ enum-known-header-2 c = search needs
 same-length-3 : tie.Need-same-length-3 Inv-loop μ-loop
 same-length-3 c = search needs
 
+refused-requires-2 : tie.Need-refused-requires-2 Inv-loop μ-loop
+refused-requires-2 c κs = search needs
+
 returns-3 : tie.Need-returns-3 Inv-loop μ-loop
 returns-3 c =
-    let l = c .before .before .before .before .before .loop in
-    let h = sym (c .before .before .before .header-at .ensures) ∙ ap headerForm (c .before .header2 .given .1) in
-    (survey-refused (l .inv .0) (omega arith) h, l .inv .1)
+    let l = c .before .before .before .before .before .before .loop in
+    let h = sym (c .before .before .before .before .header-at .ensures) ∙ ap headerForm (c .before .before .header2 .given .1) in
+    (c .refused2 .ensures ∙ survey-refused (l .inv .0) (omega arith) h, l .inv .1)
 
 same-length-4 : tie.Need-same-length-4 Inv-loop μ-loop
 same-length-4 c = search needs
 
+refused-requires-3 : tie.Need-refused-requires-3 Inv-loop μ-loop
+refused-requires-3 c κs = search needs
+
 returns-4 : tie.Need-returns-4 Inv-loop μ-loop
-returns-4 c = (survey-late (c .before .loop .inv .0) (omega arith), c .before .loop .inv .1)
+returns-4 c =
+    let l = c .before .before .loop in
+    (c .refused3 .ensures ∙ survey-late (l .inv .0) (omega arith), l .inv .1)
 
 pub survey-map-spec : {M : Type 1} → statement M
 survey-map-spec =
@@ -185,6 +196,7 @@ survey-map-spec =
     survey-model-requires
     enum-told
     enum-known-survey
+    refused-requires
     same-length
     returns
     enum-known-survey-2
@@ -200,7 +212,9 @@ survey-map-spec =
     same-length-2
     returns-2
     enum-known-header-2
+    refused-requires-2
     same-length-3
     returns-3
+    refused-requires-3
     same-length-4
     returns-4)
