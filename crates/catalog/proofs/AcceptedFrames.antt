@@ -13,7 +13,8 @@ use Rattle.catalog.specs.State.{OpenGroup, State, opened, withPoint, wit
 use Rattle.catalog.specs.Rules.{among, noModel, inTop, afterGroup, run, inReach, lacksContent, rules}
 use Rattle.catalog.specs.Checking.{accepted, checkFrom}
 use Rattle.catalog.specs.Soundness.{SoundPoint}
-use Rattle.catalog.proofs.TestLaws.{clash, none-broken}
+use Rattle.values.proofs.TestOutcomes.{clash}
+use Rattle.catalog.proofs.TestLaws.{none-broken}
 use Rattle.catalog.proofs.AcceptedSteps.{accepted-step, accepted-end}
 use Rattle.catalog.proofs.SoundFrames.{sound-point, HeadUnbroken}
 

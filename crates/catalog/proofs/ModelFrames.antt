@@ -11,7 +11,8 @@ use Rattle.catalog.specs.State.{OpenGroup, State, start, opened, withPoi
 use Rattle.catalog.specs.Rules.{noModel, inTop, afterGroup, run, isMalformed, rules}
 use Rattle.catalog.specs.Checking.{accepted, checkFrom, checked}
 use Rattle.catalog.specs.Definitions.{Content, Definition, catalogFrames, Parsed, inFront, parsed, definitions}
-use Rattle.catalog.proofs.TestLaws.{clash, neither, none-broken}
+use Rattle.values.proofs.TestOutcomes.{clash}
+use Rattle.catalog.proofs.TestLaws.{neither, none-broken}
 use Rattle.catalog.proofs.AcceptedSteps.{accepted-start, accepted-step}
 use Rattle.catalog.proofs.AcceptedFrames.{Standing, accepted-frames}
 use Rattle.catalog.proofs.TreeFrames.{contentFrames, group-frames, definition-frames}

@@ -13,7 +13,8 @@ use Rattle.catalog.specs.Checking.{accepted, checked}
 use Rattle.catalog.specs.Definitions.{Definition, definitionFrames, catalogFrames, definitions}
 use Rattle.catalog.specs.Soundness.{Distinct, SoundDefinition, SoundCatalog, idsOf}
 use Rattle.catalog.specs.Removal.{keptBy, keeping, allButOne}
-use Rattle.catalog.proofs.TestLaws.{clash, neither}
+use Rattle.values.proofs.TestOutcomes.{clash}
+use Rattle.catalog.proofs.TestLaws.{neither}
 use Rattle.catalog.proofs.FrameWords.{frames-words}
 use Rattle.catalog.proofs.DefinitionsBack.{definitions-back}
 use Rattle.catalog.proofs.ModelFrames.{frames-of-definitions, words-of-definitions}

@@ -15,7 +15,8 @@ use Rattle.catalog.specs.State.{OpenGroup}
 use Rattle.catalog.specs.Rules.{inTop, topPoints, hasScaleFactor, hasCountPoint, isSizeOf, oneHolds, isMistyped, scaleFaults, countFaults}
 use Rattle.catalog.specs.Definitions.{Groups, noGroup}
 use Rattle.catalog.specs.Soundness.{SoundPoint, SoundHead}
-use Rattle.catalog.proofs.TestLaws.{clash, neither, excludes, clause, none-of}
+use Rattle.values.proofs.TestOutcomes.{clash}
+use Rattle.catalog.proofs.TestLaws.{neither, excludes, clause, none-of}
 
 -- A point frame breaks neither rule 7 nor rule 8 just where the point is sound.
 pub sound-point : (reach : List Point) (p : Point)

@@ -21,7 +21,8 @@ use Rattle.catalog.specs.declared.state.State.{State}
 use Rattle.catalog.proofs.FrameWords.{eight-back}
 use Rattle.catalog.proofs.IdSetLaws.{none-in, in-with, length-with}
 use Rattle.catalog.proofs.OpenGroups.{one-deeper}
-use Rattle.catalog.proofs.TestLaws.{none-broken, clash, neither}
+use Rattle.values.proofs.TestOutcomes.{clash}
+use Rattle.catalog.proofs.TestLaws.{none-broken, neither}
 use Rattle.catalog.proofs.TrackedRules.{no-point-ahead}
 
 -- Of four numbers, all but the first 0, none is over a bound on the first.

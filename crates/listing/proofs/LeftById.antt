@@ -10,7 +10,8 @@ use Rattle.catalog.specs.Rules.{among}
 use Rattle.catalog.specs.Definitions.{Definition, definitions}
 use Rattle.catalog.specs.Soundness.{Distinct, idsOf}
 use Rattle.catalog.specs.Removal.{keptBy, keeping}
-use Rattle.catalog.proofs.TestLaws.{clash, neither}
+use Rattle.values.proofs.TestOutcomes.{clash}
+use Rattle.catalog.proofs.TestLaws.{neither}
 use Rattle.catalog.proofs.ModelIds.{ids-distinct}
 use Rattle.catalog.proofs.Removal as catalogs
 use Rattle.listing.specs.Listing.{Record, listed, listing}

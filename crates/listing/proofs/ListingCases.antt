@@ -8,7 +8,7 @@ use lib.Dec.{ltb}
 use lib.ListN.{length}
 use Rattle.catalog.specs.Checking as Checking
 use Rattle.catalog.specs.Definitions.{definitions}
-use Rattle.catalog.proofs.TestLaws.{by-test}
+use Rattle.values.proofs.TestOutcomes.{by-test}
 use Rattle.register_map.specs.Headers.{opening}
 use Rattle.register_map.specs.Scan.{Model}
 use Rattle.listing.specs.Reading.{Reading, reading}

@@ -13,7 +13,7 @@ use Rattle.values.specs.Registers.{allZero}
 use Rattle.catalog.specs.Frames.{Point, Frame, modelFrame, groupFrame, pointFrame, endFrame, malformed, frameOf, word, frameAt, framesFrom, frames}
 use Rattle.catalog.specs.Rules.{isSizeOf}
 use Rattle.catalog.specs.Definitions.{pointsSize, pointFrames, groupFrames}
-use Rattle.catalog.proofs.TestLaws.{by-test}
+use Rattle.values.proofs.TestOutcomes.{by-test}
 use Rattle.catalog.proofs.GroupSizes.{type-size}
 use Rattle.listing.specs.Points.{Scope}
 use Rattle.listing.specs.Layout.{withPoint, within, pointsAt}

@@ -11,7 +11,7 @@ use Rattle.catalog.specs.Checking.{accepted, checked}
 use Rattle.catalog.specs.Definitions.{Definition, definitions}
 use Rattle.catalog.specs.Soundness.{SoundDefinition}
 use Rattle.catalog.proofs.AcceptedIsSound.{accepted-is-sound}
-use Rattle.catalog.proofs.TestLaws.{by-test}
+use Rattle.values.proofs.TestOutcomes.{by-test}
 use Rattle.register_map.specs.Scan.{Model}
 use Rattle.listing.specs.Points.{ModelPoint}
 use Rattle.listing.specs.Reading.{Reading, points, reading}

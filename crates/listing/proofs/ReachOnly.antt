@@ -14,7 +14,7 @@ use Rattle.catalog.specs.Frames.{Point, fixedScale, scaleByPoint, sunssf}
 use Rattle.catalog.specs.Rules.{among}
 use Rattle.catalog.specs.Definitions.{Groups, noGroup, group, pointsSize, pointFrames}
 use Rattle.catalog.specs.Soundness.{In, numbersOf, SoundGroups, ScaleResolves}
-use Rattle.catalog.proofs.TestLaws.{clash}
+use Rattle.values.proofs.TestOutcomes.{clash}
 use Rattle.catalog.proofs.References.{points-resolve}
 use Rattle.listing.specs.Points.{ModelPoint, Scope, statusOf, scaleOf, scaleStatus, registersAt, statusAt, pointAt}
 use Rattle.listing.specs.Layout.{withPoint, within, countOf, groupsSize, pointsAt, instances, groupsAt}

@@ -14,7 +14,7 @@ use Rattle.catalog.specs.Rules.{among}
 use Rattle.catalog.specs.Checking.{accepted, checked}
 use Rattle.catalog.specs.Definitions.{Content, Definition, definitions, pointsSize}
 use Rattle.catalog.specs.Soundness.{SoundDefinition, Distinct, idsOf, In, first, later}
-use Rattle.catalog.proofs.TestLaws.{clash, by-test}
+use Rattle.values.proofs.TestOutcomes.{clash, by-test}
 use Rattle.catalog.proofs.AcceptedIsSound.{accepted-is-sound}
 use Rattle.register_map.specs.Scan.{Model, sizeOf, totalSize, scan}
 use Rattle.listing.specs.Points.{ModelPoint}

@@ -11,17 +11,8 @@ use borrow.Author.Tests.{eqb-true, eq-eqb, lt-ltb, le-ltb, ltb-false, not-false}
 use lib.Dec.{eqb, ltb}
 use lib.ListN.{length, drop, getD, length-drop}
 use lib.Seq.{drop-cons}
+use Rattle.values.proofs.TestOutcomes.{clash, by-test}
 use Rattle.register_map.specs.Headers.{beginsWithSunS, opening, refused, headerOf, headerAt}
-
--- No test comes out both ways.
-pub clash : {A : Type 0} → true ≡ false → A
-clash e = let z : _≡_ {A = ℕ} 0 1 = cc in absurd (omega arith)
-
--- What holds of both outcomes of a test holds of the one that it picks.
-pub by-test : {A : Type 0} (P : A → Type 0) (b : Bool) {x y : A} → (b ≡ true → P x) → (b ≡ false → P y)
-    → P (elim b [ true ↦ x | false ↦ y ])
-by-test P true t f = t refl
-by-test P false t f = f refl
 
 -- 23 does not arise where the first header's id is 1.
 pub first-id : (first : Bool) (id : ℕ) → (first && not (eqb id 1) ≡ false) ↔ (first ≡ true → id ≡ 1)

@@ -21,3 +21,4 @@ pub mod DecodedCases
 pub mod UnscaledCases
 pub mod FoundRow
 pub mod ListTests
+pub mod TestOutcomes

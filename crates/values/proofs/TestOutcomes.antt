@@ -1,0 +1,15 @@
+-- A test by its two outcomes.
+use mathlib.Core.Path.{_≡_, refl}
+use mathlib.Core.Bool.{Bool, true, false}
+use Prim.Native.Nat.{ℕ}
+use native.Mathlib.Omega.{arith}
+
+-- No test comes out both ways.
+pub clash : {A : Type 0} → true ≡ false → A
+clash e = let z : _≡_ {A = ℕ} 0 1 = cc in absurd (omega arith)
+
+-- What holds of both outcomes of a test holds of the one that it picks.
+pub by-test : {A : Type 0} (P : A → Type 0) (b : Bool) {x y : A} → (b ≡ true → P x) → (b ≡ false → P y)
+    → P (elim b [ true ↦ x | false ↦ y ])
+by-test P true t f = t refl
+by-test P false t f = f refl
