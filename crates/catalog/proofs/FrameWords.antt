@@ -12,8 +12,7 @@ use Rattle.values.specs.Each.{Each}
 use Rattle.values.specs.Registers.{allZero}
 use Rattle.catalog.specs.Frames.{Frame, modelFrame, groupFrame, pointFrame, endFrame, malformed, ifZero, frameOf, word, frameAt, framesFrom, frames, wordsOf, wordsOfAll}
 use Rattle.catalog.specs.Rules.{isMalformed}
-use Rattle.values.proofs.TestOutcomes.{by-test}
-use Rattle.catalog.proofs.TestLaws.{both}
+use Rattle.values.proofs.TestOutcomes.{by-test, both}
 
 -- A word of a later frame is one of the words behind the first frame.
 word-later : (ws : List ℕ) (i k : ℕ) → word ws (suc i) k ≡ word (drop 8 ws) i k

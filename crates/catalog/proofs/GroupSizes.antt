@@ -16,8 +16,7 @@ use Rattle.catalog.specs.Rules.{isSizeOf}
 use Rattle.catalog.specs.Checking.{accepted, checked}
 use Rattle.catalog.specs.Definitions.{Groups, pointsSize, definitions}
 use Rattle.catalog.specs.Soundness.{SoundPoint, EachLowerGroup}
-use Rattle.values.proofs.TestOutcomes.{clash}
-use Rattle.catalog.proofs.TestLaws.{both}
+use Rattle.values.proofs.TestOutcomes.{clash, both}
 use Rattle.catalog.proofs.EveryGroup.{of-lower-groups, of-models}
 
 -- A size of a type is 1 to 64 registers.

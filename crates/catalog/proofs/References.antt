@@ -11,8 +11,7 @@ use Rattle.catalog.specs.Rules.{hasPoint, isScaleFactorPoint, hasScaleFa
 use Rattle.catalog.specs.Checking.{accepted, checked}
 use Rattle.catalog.specs.Definitions.{Groups, Definition, definitions}
 use Rattle.catalog.specs.Soundness.{SoundPoint, EachLowerGroup, In, first, later, ScaleResolves, CountResolves}
-use Rattle.values.proofs.TestOutcomes.{clash}
-use Rattle.catalog.proofs.TestLaws.{both}
+use Rattle.values.proofs.TestOutcomes.{clash, both}
 use Rattle.catalog.proofs.EveryGroup.{of-lower-groups, of-models}
 
 -- Where the test finds such a point among these, here it is.

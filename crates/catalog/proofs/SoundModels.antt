@@ -14,8 +14,8 @@ use Rattle.catalog.specs.State.{OpenGroup, opened}
 use Rattle.catalog.specs.Rules.{noModel, inTop, run, pointsOf, topPoints, noPoint}
 use Rattle.catalog.specs.Definitions.{Groups, noGroup, group, Definition, pointFrames, groupFrames, definitionFrames, catalogFrames}
 use Rattle.catalog.specs.Soundness.{SoundPoint, SoundGroups, SoundDefinition, numbersOf, idsOf}
-use Rattle.values.proofs.TestOutcomes.{clash}
-use Rattle.catalog.proofs.TestLaws.{both, excludes}
+use Rattle.values.proofs.TestOutcomes.{clash, both}
+use Rattle.catalog.proofs.TestLaws.{excludes}
 use Rattle.catalog.proofs.AcceptedFrames.{Standing, Numbered}
 use Rattle.catalog.proofs.SoundFrames.{sound-head}
 use Rattle.catalog.proofs.TreeFrames.{contentFrames, group-frames, definition-frames, run-points, run-groups}

@@ -12,11 +12,6 @@ use Rattle.values.proofs.TestOutcomes.{clash, by-test}
 use Rattle.values.specs.Each.{Each}
 use Rattle.catalog.specs.Rules.{oneHolds, firstBroken}
 
--- Where two tests hold together, each holds.
-pub both : (a b : Bool) → a && b ≡ true → (a ≡ true) × (b ≡ true)
-both true b e = (refl, e)
-both false b e = clash (sym e)
-
 -- Neither of two tests holds.
 pub neither : (a b : Bool) → (a || b ≡ false) ↔ ((a ≡ false) × (b ≡ false))
 neither true b = (λ e. clash e, λ h. h .0)

@@ -14,8 +14,7 @@ use Rattle.catalog.specs.Frames.{Point, Head, frameIn, pad}
 use Rattle.catalog.specs.Rules.{isSizeOf}
 use Rattle.catalog.specs.Definitions.{Groups, noGroup, group, Content, pointsSize}
 use Rattle.catalog.specs.Soundness.{SoundPoint}
-use Rattle.values.proofs.TestOutcomes.{clash}
-use Rattle.catalog.proofs.TestLaws.{both}
+use Rattle.values.proofs.TestOutcomes.{clash, both}
 use Rattle.catalog.proofs.GroupSizes.{point-size}
 use Rattle.listing.specs.Layout.{fillOf, fillSize}
 use Rattle.listing.specs.Reading.{endsWithPad, allButLast, hasNoGroup, padLeftOut}

@@ -18,8 +18,7 @@ use Rattle.values.proofs.Splitting.{join-bound}
 use Rattle.values.proofs.Table.{no-row-outside, four-registers}
 use Rattle.values.proofs.ClassCases.{in-range, of-class}
 use Rattle.catalog.specs.Rules.{isSizeOf}
-use Rattle.values.proofs.TestOutcomes.{clash}
-use Rattle.catalog.proofs.TestLaws.{both}
+use Rattle.values.proofs.TestOutcomes.{clash, both}
 
 -- The row of a type and its size by it.
 row-of-size : (code size : ℕ) → isSizeOf code size ≡ true → (r : TypeRow) × (rowOf code ≡ some r) × (size ≤ r .most)

@@ -11,12 +11,12 @@ use borrow.Author.Tests.{eqb-true, eqb-false, eq-eqb, leb-true, le-leb}
 use lib.Dec.{eqb, leb}
 use lib.ListN.{length}
 use Rattle.values.specs.Each.{Each}
+use Rattle.values.proofs.TestOutcomes.{both}
 use Rattle.catalog.specs.Frames.{Point, Head, constantCount, countByPoint, fill}
 use Rattle.catalog.specs.Rules.{isSizeOf}
 use Rattle.catalog.specs.Checking.{accepted, checked}
 use Rattle.catalog.specs.Definitions.{Groups, noGroup, group, Content, Definition, definitions, pointsSize}
 use Rattle.catalog.specs.Soundness.{SoundPoint, SoundGroups}
-use Rattle.catalog.proofs.TestLaws.{both}
 use Rattle.catalog.proofs.GroupSizes.{point-size}
 use Rattle.catalog.proofs.EveryGroup.{of-models}
 use Rattle.listing.specs.Points.{Scope}

@@ -1,6 +1,6 @@
--- A test by its two outcomes.
-use mathlib.Core.Path.{_≡_, refl}
-use mathlib.Core.Bool.{Bool, true, false}
+-- A test by its two outcomes, and two tests together.
+use mathlib.Core.Path.{_≡_, refl, sym}
+use mathlib.Core.Bool.{Bool, true, false, _&&_}
 use Prim.Native.Nat.{ℕ}
 use native.Mathlib.Omega.{arith}
 
@@ -13,3 +13,8 @@ pub by-test : {A : Type 0} (P : A → Type 0) (b : Bool) {x y : A} → (b ≡ tr
     → P (elim b [ true ↦ x | false ↦ y ])
 by-test P true t f = t refl
 by-test P false t f = f refl
+
+-- Where two tests hold together, each holds.
+pub both : (a b : Bool) → a && b ≡ true → (a ≡ true) × (b ≡ true)
+both true b e = (refl, e)
+both false b e = clash (sym e)

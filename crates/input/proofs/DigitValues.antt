@@ -1,0 +1,113 @@
+-- The digits by their codes: which bytes have a value, and that it is under 16. Whether all bytes of a line are digits.
+use mathlib.Core.Path.{_≡_, refl, sym}
+use mathlib.Core.Bool.{Bool, true, false, _&&_}
+use mathlib.Core.List.{List}
+use mathlib.Core.Option.{Option, none, some}
+use Prim.Native.Nat.{ℕ, _+_, _-_, _≤_, _<_}
+use native.Mathlib.Numerals.{add-one}
+use native.Mathlib.Omega.{arith}
+use borrow.Author.Tests.{le-leb, lt-leb, leb-true}
+use lib.Dec.{leb}
+use lib.ListN.{length, getD, drop, drop-of-length-le}
+use lib.Seq.{drop-cons}
+use Rattle.values.proofs.TestOutcomes.{clash, by-test}
+use Rattle.input.specs.Digits.{digitValue, isDigit, digitOr0, areDigits}
+
+module _ (b : ℕ) where
+  within : (first last : ℕ) → first ≤ b → b ≤ last → (leb first b && leb b last) ≡ true
+  within first last h k = simp (le-leb first b h, le-leb b last k)
+
+  below : (first last : ℕ) → b < first → (leb first b && leb b last) ≡ false
+  below first last h = simp (lt-leb first b h)
+
+  above : (first last : ℕ) → last < b → (leb first b && leb b last) ≡ false
+  above first last h = go (leb first b)
+    where
+      go : (t : Bool) → (t && leb b last) ≡ false
+      go true = lt-leb b last h
+      go false = refl
+
+  pub decimal-digit : 48 ≤ b → b ≤ 57 → digitValue b ≡ some (b - 48)
+  unfolding digitValue
+  decimal-digit h k = simp (digitValue, within 48 57 h k)
+
+  pub upper-digit : 65 ≤ b → b ≤ 70 → digitValue b ≡ some (b - 65 + 10)
+  unfolding digitValue
+  upper-digit h k = let l : 57 < b = omega arith in simp (digitValue, above 48 57 l, within 65 70 h k)
+
+  pub lower-digit : 97 ≤ b → b ≤ 102 → digitValue b ≡ some (b - 97 + 10)
+  unfolding digitValue
+  lower-digit h k =
+      let l : 57 < b = omega arith in
+      let m : 70 < b = omega arith in
+      simp (digitValue, above 48 57 l, above 65 70 m, within 97 102 h k)
+
+  -- Below the digits, between them, and above them stand other bytes.
+  pub below-decimal : b < 48 → digitValue b ≡ none
+  unfolding digitValue
+  below-decimal h =
+      let l : b < 65 = omega arith in
+      let m : b < 97 = omega arith in
+      simp (digitValue, below 48 57 h, below 65 70 l, below 97 102 m)
+
+  pub below-upper : 57 < b → b < 65 → digitValue b ≡ none
+  unfolding digitValue
+  below-upper k h = let m : b < 97 = omega arith in simp (digitValue, above 48 57 k, below 65 70 h, below 97 102 m)
+
+  pub below-lower : 70 < b → b < 97 → digitValue b ≡ none
+  unfolding digitValue
+  below-lower k h = let m : 57 < b = omega arith in simp (digitValue, above 48 57 m, above 65 70 k, below 97 102 h)
+
+  pub above-lower : 102 < b → digitValue b ≡ none
+  unfolding digitValue
+  above-lower h =
+      let l : 57 < b = omega arith in
+      let m : 70 < b = omega arith in
+      simp (digitValue, above 48 57 l, above 65 70 m, above 97 102 h)
+
+-- Both tests hold of a byte in the range.
+inside : (b first last : ℕ) → (leb first b && leb b last) ≡ true → (first ≤ b) × (b ≤ last)
+inside b first last e = go (leb first b) refl (leb b last) refl e
+  where
+    go : (s : Bool) → leb first b ≡ s → (t : Bool) → leb b last ≡ t → (s && t) ≡ true → (first ≤ b) × (b ≤ last)
+    go true h true k e = (leb-true first b h, leb-true b last k)
+    go true h false k e = clash (sym e)
+    go false h t k e = clash (sym e)
+
+pub value-small : (b v : ℕ) → digitValue b ≡ some v → v < 16
+unfolding digitValue
+value-small b v =
+    let Small : Option ℕ → Type 0 = λ x. x ≡ some v → v < 16 in
+    by-test Small (leb 48 b && leb b 57) (λ t e. let q : b - 48 ≡ v = cc in omega (arith, inside b 48 57 t))
+    (λ _. by-test Small (leb 65 b && leb b 70) (λ t e. let q : b - 65 + 10 ≡ v = cc in omega (arith, inside b 65 70 t))
+    (λ _. by-test Small (leb 97 b && leb b 102) (λ t e. let q : b - 97 + 10 ≡ v = cc in omega (arith, inside b 97 102 t))
+    (λ _ e. let z : _≡_ {A = ℕ} 0 1 = cc in absurd (omega arith))))
+
+-- A byte with a value is a digit of that value, and one without is none.
+module _ (b : ℕ) where
+  pub is-digit : (v : ℕ) → digitValue b ≡ some v → isDigit b ≡ true
+  unfolding isDigit
+  is-digit v e = simp (isDigit, e)
+
+  pub is-no-digit : digitValue b ≡ none → isDigit b ≡ false
+  unfolding isDigit
+  is-no-digit e = simp (isDigit, e)
+
+  pub digit-of-value : (v : ℕ) → digitValue b ≡ some v → digitOr0 b ≡ v
+  unfolding digitOr0
+  digit-of-value v e = simp (digitOr0, e)
+
+  pub digit-of-none : digitValue b ≡ none → digitOr0 b ≡ 0
+  unfolding digitOr0
+  digit-of-none e = simp (digitOr0, e)
+
+-- From the byte at i on.
+module _ (bs : List ℕ) (i : ℕ) (h : i < length bs) where
+  pub digits-on : isDigit (getD bs i 0) ≡ true → areDigits (drop i bs) ≡ areDigits (drop (i + 1) bs)
+  digits-on e = rw (drop-cons bs i 0 h, add-one i) (simp e)
+
+  pub digits-not : isDigit (getD bs i 0) ≡ false → areDigits (drop i bs) ≡ false
+  digits-not e = rw (drop-cons bs i 0 h) (simp e)
+
+pub digits-end : (bs : List ℕ) (i : ℕ) → length bs ≤ i → areDigits (drop i bs) ≡ true
+digits-end bs i h = rw (drop-of-length-le bs h)

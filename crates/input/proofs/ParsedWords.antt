@@ -1,0 +1,95 @@
+-- The words that a text gives are those of its digits, line feeds passed over: what is stored is what was found.
+use mathlib.Core.Path.{_≡_, refl, sym, ap, _∙_}
+use mathlib.Core.Bool.{Bool, true, false}
+use mathlib.Core.List.{List, [], _∷_, _++_, append-nil}
+use Prim.Native.Nat.{ℕ, _+_, _-_, _*_, _/_, _≤_, _<_}
+use native.Mathlib.Nat.{add-zero}
+use native.Mathlib.Omega.{arith}
+use borrow.Author.Tests.{eqb-true, eqb-false, ltb-true, ltb-false}
+use lib.Dec.{eqb, ltb}
+use lib.ListN.{length, drop, length-append}
+use lib.Seq.{sets, sets-eq}
+use Rattle.values.proofs.TestOutcomes.{by-test}
+use Rattle.input.specs.Lines.{lines}
+use Rattle.input.specs.Digits.{wordsOf}
+use Rattle.input.specs.Parsing.{isCatalogLine, isMapLine, Input, refused, words, withFrame, withRegisters, mapFrom, catalogFrom, parsed, stored}
+use Rattle.input.specs.Promises.{firstLine, wordsFrom, FramesFound, RegistersFound}
+use Rattle.input.proofs.FirstLines.{lines-first}
+use Rattle.input.proofs.GoodLines.{catalog-line, map-line}
+use Rattle.input.proofs.WordRuns.{line-passed, behind-empty}
+
+-- Where a text has lines, the first and those behind it are the text's own.
+some-bytes : (t l : List ℕ) (ls : List (List ℕ)) → lines t ≡ l ∷ ls → 0 < length t
+unfolding lines
+some-bytes [] l ls e = let z : _≡_ {A = ℕ} 0 1 = cc in absurd (omega arith)
+some-bytes (b ∷ bs) l ls e = omega arith
+
+-- A first line of k words, and as many words behind it as are asked for.
+first-words : (t l : List ℕ) (ls : List (List ℕ)) (k : ℕ) (ws : List ℕ) → lines t ≡ l ∷ ls → length l ≡ 4 * k → length (wordsOf l) ≡ k
+    → ((u : List ℕ) → lines u ≡ ls → wordsFrom (length ws) u ≡ ws) → wordsFrom (length (wordsOf l ++ ws)) t ≡ wordsOf l ++ ws
+first-words t l ls k ws e n m rest =
+    let first = lines-first t (some-bytes t l ls e) in
+    let same : firstLine t ≡ l = cc in
+    let u = drop (length (firstLine t) + 1) t in
+    let behind : lines u ≡ ls = cc in
+    let far : length (firstLine t) + 1 ≡ 4 * k + 1 = omega (arith, ap length same) in
+    let many : length (wordsOf l ++ ws) ≡ k + length ws = omega (arith, length-append (wordsOf l) ws) in
+    ap (λ (n : ℕ). wordsFrom n t) many
+    ∙ line-passed k (length ws) t (ap length same ∙ n)
+    ∙ ap (λ (x : List ℕ). wordsOf x ++ wordsFrom (length ws) (drop (4 * k + 1) t)) same
+    ∙ ap (λ (x : List ℕ). wordsOf l ++ x) (ap (λ (n : ℕ). wordsFrom (length ws) (drop n t)) (sym far) ∙ rest u behind)
+
+-- What is put in front can be taken off again.
+registers-off : (ws : List ℕ) (x : Input) (c m : List ℕ) → withRegisters ws x ≡ words c m → (n : List ℕ) × (x ≡ words c n) × (m ≡ ws ++ n)
+registers-off ws (refused number place) c m e = let z : _≡_ {A = ℕ} 0 1 = cc in absurd (omega arith)
+registers-off ws (words catalog map) c m e = (map, (cc), (cc))
+
+frame-off : (ws : List ℕ) (x : Input) (c m : List ℕ) → withFrame ws x ≡ words c m → (n : List ℕ) × (x ≡ words n m) × (c ≡ ws ++ n)
+frame-off ws (refused number place) c m e = let z : _≡_ {A = ℕ} 0 1 = cc in absurd (omega arith)
+frame-off ws (words catalog map) c m e = (catalog, (cc), (cc))
+
+-- The map's lines give no catalog.
+map-only : (ls : List (List ℕ)) (number room : ℕ) (c m : List ℕ) → mapFrom number room ls ≡ words c m → c ≡ []
+unfolding mapFrom
+map-only [] number room c m = λ q. cc
+map-only (l ∷ ls) number room c m =
+    let Goal : Input → Type 0 = λ x. x ≡ words c m → c ≡ [] in
+    by-test Goal (isMapLine l)
+    (λ _. by-test Goal (ltb room (length (wordsOf l))) (λ _ q. let z : _≡_ {A = ℕ} 0 1 = cc in absurd (omega arith))
+    (λ _ q.
+    let off = registers-off (wordsOf l) (mapFrom (number + 1) (room - length (wordsOf l)) ls) c m q in
+    map-only ls (number + 1) (room - length (wordsOf l)) c (off .0) (off .1)))
+    (λ _ q. let z : _≡_ {A = ℕ} 0 1 = cc in absurd (omega arith))
+
+pub map-words : (ls : List (List ℕ)) (t : List ℕ) (number room : ℕ) (c m : List ℕ) → lines t ≡ ls → mapFrom number room ls ≡ words c m
+    → wordsFrom (length m) t ≡ m
+unfolding mapFrom wordsFrom
+map-words [] t number room c m e = λ q. let z : m ≡ [] = cc in rw z
+map-words (l ∷ ls) t number room c m e =
+    let Goal : Input → Type 0 = λ x. x ≡ words c m → wordsFrom (length m) t ≡ m in
+    let next = number + 1 in
+    let left = room - length (wordsOf l) in
+    by-test Goal (isMapLine l)
+    (λ good. by-test Goal (ltb room (length (wordsOf l))) (λ _ q. let z : _≡_ {A = ℕ} 0 1 = cc in absurd (omega arith))
+    (λ _ q.
+    let off = registers-off (wordsOf l) (mapFrom next left ls) c m q in
+    rw (off .2)
+    (first-words t l ls (length (wordsOf l)) (off .0) e (map-line l good .1) refl (λ u d. map-words ls u next left c (off .0) d (off .1)))))
+    (λ _ q. let z : _≡_ {A = ℕ} 0 1 = cc in absurd (omega arith))
+
+pub catalog-words : (ls : List (List ℕ)) (t : List ℕ) (number frames registers : ℕ) (c m : List ℕ) → lines t ≡ ls
+    → catalogFrom number frames registers ls ≡ words c m → wordsFrom (length c) t ≡ c
+unfolding catalogFrom wordsFrom
+catalog-words [] t number frames registers c m e = λ q. let z : _≡_ {A = ℕ} 0 1 = cc in absurd (omega arith)
+catalog-words (l ∷ ls) t number frames registers c m e =
+    let Goal : Input → Type 0 = λ x. x ≡ words c m → wordsFrom (length c) t ≡ c in
+    let next = number + 1 in
+    by-test Goal (eqb (length l) 0) (λ _ q. let z : c ≡ [] = map-only ls next registers c m q in rw z)
+    (λ _. by-test Goal (isCatalogLine l)
+    (λ good. by-test Goal (eqb frames 0) (λ _ q. let z : _≡_ {A = ℕ} 0 1 = cc in absurd (omega arith))
+    (λ _ q.
+    let off = frame-off (wordsOf l) (catalogFrom next (frames - 1) registers ls) c m q in
+    let line = catalog-line l good in
+    rw (off .2)
+    (first-words t l ls 8 (off .0) e (line .0) (line .1) (λ u d. catalog-words ls u next (frames - 1) registers (off .0) m d (off .1)))))
+    (λ _ q. let z : _≡_ {A = ℕ} 0 1 = cc in absurd (omega arith)))

@@ -1,0 +1,151 @@
+-- The words of a text's digits: a line feed is passed over, and four digits are a word.
+use mathlib.Core.Path.{_≡_, refl, sym, ap, _∙_}
+use mathlib.Core.Bool.{Bool, true, false}
+use mathlib.Core.List.{List, [], _∷_, _++_}
+use Prim.Native.Nat.{ℕ, zero, suc, _+_, _-_, _*_, _≤_, _<_}
+use native.Mathlib.Numerals.{add-one}
+use native.Mathlib.Omega.{arith}
+use borrow.Author.Tests.{eq-eqb, ne-eqb, eqb-true, eqb-false}
+use lib.Dec.{eqb}
+use lib.ListN.{length, getD, take, drop, set, length-drop}
+use lib.Seq.{drop-cons, drop-drop, sets}
+use Rattle.input.specs.Lines.{lineFeed}
+use Rattle.input.specs.Digits.{word, wordsOf}
+use Rattle.input.specs.Promises.{firstLine, wordsFrom}
+use Rattle.input.proofs.FirstLines.{first-byte, first-none, first-short}
+
+-- Fewer than four bytes hold no word.
+pub four-bytes : (n : ℕ) (t : List ℕ) → 0 < length (wordsFrom n t) → 4 ≤ length t
+unfolding wordsFrom
+four-bytes zero t h = absurd (omega arith)
+four-bytes (suc n) (a ∷ b ∷ c ∷ d ∷ bs) h = omega arith
+four-bytes (suc n) (a ∷ b ∷ c ∷ []) h = absurd (omega arith)
+four-bytes (suc n) (a ∷ b ∷ []) h = absurd (omega arith)
+four-bytes (suc n) (a ∷ []) h = absurd (omega arith)
+four-bytes (suc n) [] h = absurd (omega arith)
+
+-- Over the first byte, a line feed.
+pub feed-passed : (n a : ℕ) (bs : List ℕ) → a ≡ lineFeed → wordsFrom n (a ∷ bs) ≡ wordsFrom n bs
+unfolding wordsFrom
+feed-passed zero a bs e = refl
+feed-passed (suc n) a (b ∷ c ∷ d ∷ bs) e = simp (wordsFrom, eq-eqb a lineFeed e)
+feed-passed (suc n) a (b ∷ c ∷ []) e = refl
+feed-passed (suc n) a (b ∷ []) e = refl
+feed-passed (suc n) a [] e = refl
+
+-- Over the first four bytes, the digits of a word.
+pub word-passed : (n a b c d : ℕ) (bs : List ℕ) → (a ≡ lineFeed → ⊥)
+    → wordsFrom (suc n) (a ∷ b ∷ c ∷ d ∷ bs) ≡ word a b c d ∷ wordsFrom n bs
+unfolding wordsFrom
+word-passed n a b c d bs k = simp (wordsFrom, ne-eqb a lineFeed k)
+
+-- Four bytes of a text from a position on.
+four-from : (t : List ℕ) (i : ℕ) → i + 4 ≤ length t
+    → drop i t ≡ getD t i 0 ∷ getD t (i + 1) 0 ∷ getD t (i + 2) 0 ∷ getD t (i + 3) 0 ∷ drop (i + 4) t
+four-from t i h =
+    let one : suc i ≡ i + 1 = omega arith in
+    let two : suc (i + 1) ≡ i + 2 = omega arith in
+    let three : suc (i + 2) ≡ i + 3 = omega arith in
+    let four : suc (i + 3) ≡ i + 4 = omega arith in
+    let a = getD t i 0 in
+    let b = getD t (i + 1) 0 in
+    let c = getD t (i + 2) 0 in
+    drop-cons t i 0 (omega arith)
+    ∙ ap (λ (k : ℕ). a ∷ drop k t) one
+    ∙ ap (λ (x : List ℕ). a ∷ x) (drop-cons t (i + 1) 0 (omega arith))
+    ∙ ap (λ (k : ℕ). a ∷ b ∷ drop k t) two
+    ∙ ap (λ (x : List ℕ). a ∷ b ∷ x) (drop-cons t (i + 2) 0 (omega arith))
+    ∙ ap (λ (k : ℕ). a ∷ b ∷ c ∷ drop k t) three
+    ∙ ap (λ (x : List ℕ). a ∷ b ∷ c ∷ x) (drop-cons t (i + 3) 0 (omega arith))
+    ∙ ap (λ (k : ℕ). a ∷ b ∷ c ∷ getD t (i + 3) 0 ∷ drop k t) four
+
+-- ---- Storing, from a position of a text on
+
+module _ (t : List ℕ) (i n : ℕ) (some : 0 < n) (all : length (wordsFrom n (drop i t)) ≡ n) where
+  pub room-for-four : i + 4 ≤ length t
+  room-for-four = omega (arith, length-drop i t, four-bytes n (drop i t) (omega arith))
+
+  pub feed-from : getD t i 0 ≡ lineFeed → wordsFrom n (drop i t) ≡ wordsFrom n (drop (i + 1) t)
+  feed-from e =
+      ap (wordsFrom n) (drop-cons t i 0 (omega (arith, room-for-four)))
+      ∙ feed-passed n (getD t i 0) (drop (suc i) t) e
+      ∙ ap (λ (k : ℕ). wordsFrom n (drop k t)) (sym (add-one i))
+
+  pub word-from : (getD t i 0 ≡ lineFeed → ⊥)
+      → wordsFrom n (drop i t)
+      ≡ word (getD t i 0) (getD t (i + 1) 0) (getD t (i + 2) 0) (getD t (i + 3) 0) ∷ wordsFrom (n - 1) (drop (i + 4) t)
+  word-from k =
+      let e : n ≡ suc (n - 1) = omega arith in
+      ap (λ (m : ℕ). wordsFrom m (drop i t)) e
+      ∙ ap (wordsFrom (suc (n - 1))) (four-from t i room-for-four)
+      ∙ word-passed (n - 1) (getD t i 0) (getD t (i + 1) 0) (getD t (i + 2) 0) (getD t (i + 3) 0) (drop (i + 4) t) k
+
+-- Where the next word of so many is stored, one fewer is left.
+module _ (t out : List ℕ) (i k count w v : ℕ) (e : v ≡ w) (some : 0 < count - k)
+    (next : wordsFrom (count - k) (drop i t) ≡ w ∷ wordsFrom (count - k - 1) (drop (i + 4) t)) where
+  fewer : count - k - 1 ≡ count - (k + 1)
+  fewer = omega arith
+
+  pub word-stored : sets (set out k v) (k + 1) (wordsFrom (count - (k + 1)) (drop (i + 4) t)) ≡ sets out k (wordsFrom (count - k) (drop i t))
+  word-stored = rw (next, ← fewer, e, add-one k)
+
+  pub words-left : length (wordsFrom (count - k) (drop i t)) ≡ count - k
+      → length (wordsFrom (count - (k + 1)) (drop (i + 4) t)) ≡ count - (k + 1)
+  words-left h = rw (← fewer) (omega (arith, ap length next, h))
+
+-- Where all are stored, none is left.
+pub none-left : (t out : List ℕ) (k count : ℕ) → count ≤ k → out ≡ sets out k (wordsFrom (count - k) t)
+unfolding wordsFrom
+none-left t out k count h = let e : count - k ≡ 0 = omega arith in rw e
+
+-- ---- Lines
+
+-- The words behind an empty line.
+pub behind-empty : (n : ℕ) (t : List ℕ) → length (firstLine t) ≡ 0 → wordsFrom n t ≡ wordsFrom n (drop 1 t)
+behind-empty n [] h = refl
+behind-empty n (b ∷ bs) h = go (eqb b lineFeed) refl
+  where
+    go : (f : Bool) → eqb b lineFeed ≡ f → wordsFrom n (b ∷ bs) ≡ wordsFrom n bs
+    go true e = feed-passed n b bs (eqb-true b lineFeed e)
+    go false e = absurd (omega (arith, h, ap length (first-byte b bs (eqb-false b lineFeed e))))
+
+-- A byte of a line that is not yet at its end.
+not-feed : (b : ℕ) (bs : List ℕ) → 0 < length (firstLine (b ∷ bs)) → b ≡ lineFeed → ⊥
+not-feed b bs h e = omega (arith, h, ap length (first-none b bs e))
+
+-- The first four bytes of a line of four or more.
+four-of-line : (a b c d : ℕ) (bs : List ℕ) → 4 ≤ length (firstLine (a ∷ b ∷ c ∷ d ∷ bs))
+    → firstLine (a ∷ b ∷ c ∷ d ∷ bs) ≡ a ∷ b ∷ c ∷ d ∷ firstLine bs
+four-of-line a b c d bs h =
+    let first = first-byte a (b ∷ c ∷ d ∷ bs) (not-feed a (b ∷ c ∷ d ∷ bs) (omega arith)) in
+    let second = first-byte b (c ∷ d ∷ bs) (not-feed b (c ∷ d ∷ bs) (omega (arith, ap length first))) in
+    let third = first-byte c (d ∷ bs) (not-feed c (d ∷ bs) (omega (arith, ap length first, ap length second))) in
+    let fourth = first-byte d bs (not-feed d bs (omega (arith, ap length first, ap length second, ap length third))) in
+    first
+    ∙ ap (λ (l : List ℕ). a ∷ l) second
+    ∙ ap (λ (l : List ℕ). a ∷ b ∷ l) third
+    ∙ ap (λ (l : List ℕ). a ∷ b ∷ c ∷ l) fourth
+
+no-bytes : (l : List ℕ) → length l ≡ 0 → l ≡ []
+no-bytes [] h = refl
+no-bytes (b ∷ l) h = absurd (omega arith)
+
+-- A line of k words, and what is behind it.
+pub line-passed : (k n : ℕ) (t : List ℕ) → length (firstLine t) ≡ 4 * k
+    → wordsFrom (k + n) t ≡ wordsOf (firstLine t) ++ wordsFrom n (drop (4 * k + 1) t)
+unfolding wordsOf
+line-passed zero n t h =
+    let e : 0 + n ≡ n = omega arith in
+    rw (e, no-bytes (firstLine t) h) (behind-empty n t h)
+line-passed (suc k) n (a ∷ b ∷ c ∷ d ∷ bs) h =
+    let whole = four-of-line a b c d bs (omega arith) in
+    let more : suc k + n ≡ suc (k + n) = omega arith in
+    let far : 4 * suc k + 1 ≡ suc (suc (suc (suc (4 * k + 1)))) = omega arith in
+    let start = not-feed a (b ∷ c ∷ d ∷ bs) (omega arith) in
+    rw (more, whole, far)
+    (word-passed (k + n) a b c d bs start
+    ∙ ap (λ (l : List ℕ). word a b c d ∷ l) (line-passed k n bs (omega (arith, ap length whole))))
+line-passed (suc k) n (a ∷ b ∷ c ∷ []) h = absurd (omega (arith, first-short (a ∷ b ∷ c ∷ [])))
+line-passed (suc k) n (a ∷ b ∷ []) h = absurd (omega (arith, first-short (a ∷ b ∷ [])))
+line-passed (suc k) n (a ∷ []) h = absurd (omega (arith, first-short (a ∷ [])))
+line-passed (suc k) n [] h = absurd (omega (arith, first-short []))

@@ -1,0 +1,61 @@
+-- `line_end`: the end of what is left of the line is the end of the line.
+use mathlib.Core.Path.{_≡_}
+use Prim.Native.Nat.{_+_, _-_, _≤_}
+use native.Mathlib.Omega.{arith}
+use borrow.Author.Needs.{needs}
+use lib.ListN.{length, drop}
+use Rattle.input.specs.Promises.{firstLine}
+use Rattle.input.proofs.FirstLines.{first-on, first-feed, first-end}
+use Rattle.input.proofs.lines.line_end.Statement.{statement}
+use Rattle.input.proofs.lines.line_end.Tie as tie
+
+abbrev Inv-loop : tie.InvT-loop
+Inv-loop text at i₀ i =
+    (i + length (firstLine (drop i text)) ≡ at + length (firstLine (drop at text))) × (i ≤ length text)
+
+abbrev μ-loop : tie.MeasureT-loop
+μ-loop text at i₀ i = length text - i
+
+loop-holds : tie.Need-loop-holds Inv-loop μ-loop
+loop-holds c = search needs
+
+shared-slice-read-if1 : tie.Need-shared-slice-read-if1 Inv-loop μ-loop
+shared-slice-read-if1 c = search needs
+
+returns : tie.Need-returns Inv-loop μ-loop
+returns c =
+    let l = c .before .before .before in
+    let f = first-feed (l .before .args .text .now) (l .loop .i) (c .before .before .loop-test .taken) (c .if1 .taken) in
+    (omega (arith, f, l .loop .inv .0), omega arith)
+
+add-i : tie.Need-add-i Inv-loop μ-loop
+add-i c = search needs
+
+loop-less : tie.Need-loop-less Inv-loop μ-loop
+loop-less c = search needs
+
+loop-again : tie.Need-loop-again Inv-loop μ-loop
+loop-again c =
+    let l = c .before .before .before in
+    let f = first-on (l .before .args .text .now) (l .loop .i) (c .before .before .loop-test .taken) (c .if1 .left) in
+    (omega (arith, f, l .loop .inv .0), omega arith)
+
+returns-2 : tie.Need-returns-2 Inv-loop μ-loop
+returns-2 c =
+    let l = c .before in
+    let f = first-end (l .before .args .text .now) (l .loop .i) (c .loop-test .left) in
+    (omega (arith, f, l .loop .inv .0), omega arith)
+
+pub line-end-spec : {M : Type 1} → statement M
+line-end-spec =
+    tie.close
+    (tie.spec
+    Inv-loop
+    μ-loop
+    loop-holds
+    shared-slice-read-if1
+    returns
+    add-i
+    loop-less
+    loop-again
+    returns-2)

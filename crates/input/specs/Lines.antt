@@ -1,0 +1,19 @@
+-- Document 01, "The program": a text as lines of bytes.
+use mathlib.Core.Bool.{true, false}
+use mathlib.Core.List.{List, [], _∷_}
+use Prim.Native.Nat.{ℕ}
+use lib.Dec.{eqb}
+
+-- LF, the byte that ends a line.
+abbrev pub lineFeed : ℕ
+lineFeed = 10
+
+-- A byte in front of the first line, which it begins if there is none.
+abbrev pub withByte : ℕ → List (List ℕ) → List (List ℕ)
+withByte b [] = (b ∷ []) ∷ []
+withByte b (l ∷ ls) = (b ∷ l) ∷ ls
+
+-- The lines of a text: a line ends at LF or at the end of the text; a last LF opens no further line.
+unfoldable pub lines : List ℕ → List (List ℕ)
+lines [] = []
+lines (b ∷ bs) = elim (eqb b lineFeed) [ true ↦ [] ∷ lines bs | false ↦ withByte b (lines bs) ]

@@ -1,0 +1,80 @@
+-- Document 01, "The program": the lines of standard input as a catalog and a register map (refusals 50 to 52).
+use mathlib.Core.Bool.{Bool, true, false, _&&_}
+use mathlib.Core.List.{List, [], _∷_, _++_}
+use Prim.Native.Nat.{ℕ, _+_, _-_, _%_}
+use lib.Dec.{eqb, leb, ltb}
+use lib.ListN.{length, drop}
+use Rattle.input.specs.Lines.{lines}
+use Rattle.input.specs.Digits.{areDigits, wordsOf}
+
+-- A line of the catalog, one frame: 32 digits.
+abbrev pub isCatalogLine : List ℕ → Bool
+isCatalogLine l = eqb (length l) 32 && areDigits l
+
+-- A line of the map: 4 to 64 digits, in fours. An empty line is none.
+abbrev pub isMapLine : List ℕ → Bool
+isMapLine l = leb 4 (length l) && leb (length l) 64 && eqb (length l % 4) 0 && areDigits l
+
+-- What a text gives: the words of the catalog and the registers of the map; or a refusal with its number and its place, a line
+-- counted from 1.
+pub data Input : Type 0 where
+  refused : ℕ → ℕ → Input
+  words : List ℕ → List ℕ → Input
+
+-- A frame in front of the catalog.
+abbrev pub withFrame : List ℕ → Input → Input
+withFrame frame (refused number place) = refused number place
+withFrame frame (words catalog map) = words (frame ++ catalog) map
+
+-- Registers in front of the map.
+abbrev pub withRegisters : List ℕ → Input → Input
+withRegisters registers (refused number place) = refused number place
+withRegisters registers (words catalog map) = words catalog (registers ++ map)
+
+-- The lines of the map from the one with a number on, and room for so many registers. 50: a bad line; 52: too many registers.
+unfoldable pub mapFrom : ℕ → ℕ → List (List ℕ) → Input
+mapFrom number room [] = words [] []
+mapFrom number room (l ∷ ls) =
+    elim (isMapLine l) [
+      | false ↦ refused 50 number
+      | true ↦
+          elim (ltb room (length (wordsOf l))) [
+            | true ↦ refused 52 number
+            | false ↦ withRegisters (wordsOf l) (mapFrom (number + 1) (room - length (wordsOf l)) ls)
+          ]
+    ]
+
+-- The lines of the catalog from the one with a number on, room for so many frames, and then the map's lines with their room. The
+-- first empty line ends the catalog. 50: a bad line; 51: no empty line, told behind the last line; 52: too many frames.
+unfoldable pub catalogFrom : ℕ → ℕ → ℕ → List (List ℕ) → Input
+catalogFrom number frames registers [] = refused 51 number
+catalogFrom number frames registers (l ∷ ls) =
+    elim (eqb (length l) 0) [
+      | true ↦ mapFrom (number + 1) registers ls
+      | false ↦
+          elim (isCatalogLine l) [
+            | false ↦ refused 50 number
+            | true ↦
+                elim (eqb frames 0) [
+                  | true ↦ refused 52 number
+                  | false ↦ withFrame (wordsOf l) (catalogFrom (number + 1) (frames - 1) registers ls)
+                ]
+          ]
+    ]
+
+-- A text, with room for so many frames and registers. The first faulty line decides.
+abbrev pub parsed : List ℕ → ℕ → ℕ → Input
+parsed text frames registers = catalogFrom 1 frames registers (lines text)
+
+-- A list afterwards: the words at its start, and the rest as it was.
+abbrev pub stored : List ℕ → List ℕ → List ℕ
+stored ws old = ws ++ drop (length ws) old
+
+-- The catalog's list and the map's afterwards. On a refusal each is as it was.
+abbrev pub storedCatalog : Input → List ℕ → List ℕ
+storedCatalog (refused number place) old = old
+storedCatalog (words catalog map) old = stored catalog old
+
+abbrev pub storedMap : Input → List ℕ → List ℕ
+storedMap (refused number place) old = old
+storedMap (words catalog map) old = stored map old

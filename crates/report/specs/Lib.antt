@@ -1,0 +1,4 @@
+pub mod Text
+pub mod Program
+pub mod Promises
+pub mod Answers

@@ -1,0 +1,38 @@
+-- Document 01, "The program": the text of a listing and of a refusal. Text is a list of ASCII codes.
+use mathlib.Core.List.{List, [], _∷_, _++_}
+use Prim.Native.Nat.{ℕ}
+use Prim.Native.Char.{code}
+use Prim.Native.String.{String, [] as noCharacters, _∷_ as _then_}
+use lib.ListN.{length}
+use Rattle.display.specs.Decimals.{digitsOf}
+use Rattle.input.specs.Lines.{lineFeed}
+use Rattle.listing.specs.Listing.{Record, recordNumbers}
+
+-- The bytes of a text of ASCII characters.
+abbrev pub ascii : String → List ℕ
+ascii noCharacters = []
+ascii (c then cs) = code c ∷ ascii cs
+
+-- Numbers as a line: one space between them, and LF behind the last.
+unfoldable pub numbersLine : List ℕ → List ℕ
+numbersLine [] = lineFeed ∷ []
+numbersLine (n ∷ []) = digitsOf n ++ lineFeed ∷ []
+numbersLine (n ∷ m ∷ ns) = digitsOf n ++ code " " ∷ numbersLine (m ∷ ns)
+
+-- A line for each record, with its ten numbers.
+unfoldable pub recordLines : List Record → List ℕ
+recordLines [] = []
+recordLines (r ∷ rs) = numbersLine (recordNumbers r) ++ recordLines rs
+
+-- A listing: `points`, their count, `headers`, their count; then a line for each record.
+unfoldable pub listingText : List Record → ℕ → List ℕ
+listingText rs headers =
+    ascii "points " ++ digitsOf (length rs) ++ ascii " headers " ++ digitsOf headers ++ lineFeed ∷ recordLines rs
+
+-- What a refusal's line opens with.
+abbrev pub refusedWord : List ℕ
+refusedWord = ascii "refused "
+
+-- What follows it: the refusal's number and its place.
+unfoldable pub refusalText : ℕ → ℕ → List ℕ
+refusalText number place = digitsOf number ++ ascii " at " ++ digitsOf place ++ lineFeed ∷ []

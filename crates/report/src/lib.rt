@@ -1,0 +1,89 @@
+// What `readplant` does between reading its input and writing its output: a text with a catalog and a map in, the text
+// of the listing out.
+mod text;
+
+use input::FRAME;
+use input::Parsed;
+use input::parse;
+use listing::Listing;
+use listing::WIDTH;
+use listing::list;
+use text::put_listing;
+use text::put_refusal;
+ghost use mathlib.Core.Path.{_≡_};
+ghost use Prim.Native.Nat.{_*_, _≤_};
+ghost use lib.ListN.{length};
+ghost use Rattle.input.specs.Parsing.{storedCatalog, storedMap};
+ghost use Rattle.listing.specs.Listing as Listings;
+ghost use Rattle.report.specs.Program.{parsedInput, found, output, storedText, storedList};
+ghost use Rattle.report.specs.Answers.{reportOf, writtenBy, lengthOf};
+
+// The words of the largest catalog: 1,024 frames.
+pub const CATALOG_WORDS: usize = 8192;
+
+// The registers of the largest map.
+pub const REGISTERS: usize = 8192;
+
+// The entries of a list for 400 records.
+pub const ENTRIES: usize = 4000;
+
+// The bytes of the longest text: its first line, and for each entry 20 digits and a space or LF.
+pub const TEXT: usize = 84064;
+
+// How long the text is that was made: a listing, or what follows `refused ` in the line of a refusal.
+pub enum Report {
+    Listing(usize),
+    Refusal(usize),
+}
+
+// Reads a catalog and a map from `input`, lists the map, and makes the text of it in `out`. The arrays are working
+// memory: their contents at the call do not matter.
+pub fn read_plant(
+    input: &[u8],
+    catalog: &mut [u16; CATALOG_WORDS],
+    map: &mut [u16; REGISTERS],
+    list: &mut [u64; ENTRIES],
+    out: &mut [u8; TEXT],
+) -> Report
+    ensures { λ r. ⌜ writtenBy r (now (out .exit)) ≡ output (now (input .entry)) ⌝ }
+    ensures { λ r. ⌜ r ≡ reportOf (found (now (input .entry))) ⌝ }
+    ensures { λ r. ⌜ lengthOf r ≤ length (now (out .exit)) ⌝ }
+    ensures { λ _. ⌜ now (out .exit) ≡ storedText (found (now (input .entry))) (now (out .entry)) ⌝ }
+    ensures { λ _. ⌜ now (catalog .exit) ≡ storedCatalog (parsedInput (now (input .entry))) (now (catalog .entry)) ⌝ }
+    ensures { λ _. ⌜ now (map .exit) ≡ storedMap (parsedInput (now (input .entry))) (now (map .entry)) ⌝ }
+    ensures { λ _. ⌜ now (list .exit) ≡ storedList (parsedInput (now (input .entry))) (now (list .entry)) ⌝ }
+{
+    let parsed = parse(input, catalog, map);
+    match parsed {
+        Parsed::Refused { number, place } => Report::Refusal(put_refusal(out, number, place)),
+        Parsed::Of { frames, registers } => {
+            let words = frames * FRAME;
+            report_listing(&catalog[..words], &map[..registers], list, out)
+        }
+    }
+}
+
+// Lists a map by a catalog, and makes the text of it.
+fn report_listing(
+    catalog: &[u16],
+    map: &[u16],
+    list: &mut [u64; ENTRIES],
+    out: &mut [u8; TEXT],
+) -> Report
+    ensures { λ r. ⌜ r ≡ reportOf (Listings.listing (now (catalog .entry)) (now (map .entry)) 4000) ⌝ }
+    ensures { λ r. ⌜ lengthOf r ≤ length (now (out .exit)) ⌝ }
+    ensures { λ _. ⌜ now (out .exit) ≡ storedText (Listings.listing (now (catalog .entry)) (now (map .entry)) 4000) (now (out .entry)) ⌝ }
+    ensures { λ _. ⌜ now (list .exit) ≡ Listings.stored (Listings.listing (now (catalog .entry)) (now (map .entry)) 4000) (now (list .entry)) ⌝ }
+{
+    let listing = listing::list(catalog, map, list);
+    match listing {
+        Listing::Refused {
+            number,
+            place,
+            headers: _,
+        } => Report::Refusal(put_refusal(out, number, place)),
+        Listing::Listed { points, headers } => {
+            Report::Listing(put_listing(out, points, headers, list))
+        }
+    }
+}

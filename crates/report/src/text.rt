@@ -1,0 +1,96 @@
+// The text of a listing and of a refusal, put into a buffer.
+use display::digits;
+use listing::WIDTH;
+ghost use mathlib.Core.Path.{_≡_};
+ghost use mathlib.Core.List.{_++_, _∷_, []};
+ghost use Prim.Native.Nat.{_+_, _*_, _≤_};
+ghost use lib.ListN.{length, take, drop};
+ghost use Rattle.display.specs.Decimals.{digitsOf};
+ghost use Rattle.display.specs.Parts.{Put};
+ghost use Rattle.input.specs.Lines.{lineFeed};
+ghost use Rattle.report.specs.Text.{ascii, refusalText};
+ghost use Rattle.report.specs.Promises.{numbersText, behindNumber};
+
+// The most bytes of a number and of what stands behind it.
+const NUMBER: usize = 21;
+
+// `N at P` and LF. Like each of the following it gives the position behind what it stored.
+pub(crate) fn put_refusal(out: &mut [u8], number: u16, place: usize) -> usize
+    requires { ⌜ 64 ≤ length (now out) ⌝ }
+    ensures { λ r. ⌜ Put (now (out .entry)) (now (out .exit)) 0 (refusalText number place) r ⌝ }
+    ensures { λ r. ⌜ r ≤ length (now (out .exit)) ⌝ }
+{
+    let behind_number = put_number(out, 0, number as u64);
+    let behind_at = put_bytes(out, behind_number, b" at ");
+    let behind_place = put_number(out, behind_at, place as u64);
+    put_bytes(out, behind_place, b"\n")
+}
+
+// The first line of a listing and the records of so many points.
+pub(crate) fn put_listing(out: &mut [u8], points: usize, headers: usize, list: &[u64]) -> usize
+    requires { ⌜ points * 10 ≤ length (now list) ⌝ }
+    requires { ⌜ 64 + length (now list) * 21 ≤ length (now out) ⌝ }
+    ensures { λ r. ⌜ Put (now (out .entry)) (now (out .exit)) 0 (ascii "points " ++ digitsOf points ++ ascii " headers " ++ digitsOf headers ++ lineFeed ∷ numbersText 0 (take (points * 10) (now (list .entry)))) r ⌝ }
+    ensures { λ r. ⌜ r ≤ length (now (out .exit)) ⌝ }
+{
+    let behind_word = put_bytes(out, 0, b"points ");
+    let behind_points = put_number(out, behind_word, points as u64);
+    let behind_second = put_bytes(out, behind_points, b" headers ");
+    let behind_headers = put_number(out, behind_second, headers as u64);
+    let first = put_bytes(out, behind_headers, b"\n");
+    put_numbers(out, first, list, points * WIDTH)
+}
+
+// The first `count` numbers of a list, ten a line.
+fn put_numbers(out: &mut [u8], start: usize, list: &[u64], count: usize) -> usize
+    requires { ⌜ count ≤ length (now list) ⌝ }
+    requires { ⌜ start + count * 21 ≤ length (now out) ⌝ }
+    ensures { λ r. ⌜ Put (now (out .entry)) (now (out .exit)) start (numbersText 0 (take count (now (list .entry)))) r ⌝ }
+    ensures { λ r. ⌜ r ≤ start + count * 21 ⌝ }
+{
+    let mut at = start;
+    let mut i = 0;
+    while i < count {
+        at = put_entry(out, at, list[i], i);
+        i += 1;
+    }
+    at
+}
+
+// A number of a record, and what stands behind it.
+fn put_entry(out: &mut [u8], at: usize, n: u64, index: usize) -> usize
+    requires { ⌜ at + 21 ≤ length (now out) ⌝ }
+    ensures { λ r. ⌜ Put (now (out .entry)) (now (out .exit)) at (digitsOf n ++ behindNumber index ∷ []) r ⌝ }
+    ensures { λ r. ⌜ r ≤ at + 21 ⌝ }
+{
+    let end = put_number(out, at, n);
+    if index % WIDTH == WIDTH - 1 {
+        return put_bytes(out, end, b"\n");
+    }
+    put_bytes(out, end, b" ")
+}
+
+// A number's digits.
+fn put_number(out: &mut [u8], at: usize, n: u64) -> usize
+    requires { ⌜ at + 20 ≤ length (now out) ⌝ }
+    ensures { λ r. ⌜ Put (now (out .entry)) (now (out .exit)) at (digitsOf n) r ⌝ }
+    ensures { λ r. ⌜ r ≤ at + 20 ⌝ }
+{
+    let number = digits(n);
+    let bytes = number.bytes;
+    let count = number.count;
+    put_bytes(out, at, &bytes[..count])
+}
+
+// Bytes as they are.
+fn put_bytes(out: &mut [u8], at: usize, bytes: &[u8]) -> usize
+    requires { ⌜ at + length (now bytes) ≤ length (now out) ⌝ }
+    ensures { λ r. ⌜ Put (now (out .entry)) (now (out .exit)) at (now (bytes .entry)) r ⌝ }
+{
+    let mut i = 0;
+    while i < bytes.len() {
+        out[at + i] = bytes[i];
+        i += 1;
+    }
+    at + i
+}
