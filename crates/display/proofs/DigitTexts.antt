@@ -5,10 +5,12 @@ use Prim.Native.Nat.{ℕ, zero, suc, _+_, _-_, _*_, _^_, _≤_, _<_}
 use native.Mathlib.Nat.{add-zero, add-suc, zero-mul, mul-assoc, zero-div, div-div-eq-div-mul, mul-div-cancel, mul-mod-left, pow-suc}
 use native.Mathlib.Numerals.{add-one}
 use native.Mathlib.Omega.{arith}
-use lib.ListN.{length, set}
+use lib.ListN.{length, take, set, replicate}
 use lib.Pow.{pow-add}
-use lib.Seq.{sets}
+use lib.Seq.{sets, take-at}
 use Rattle.display.specs.Decimals.{digitZero, digitAt, lastDigits, digitCount, digitsOf}
+use Rattle.display.specs.Answers.{digitsForm}
+use Rattle.display.specs.declared.Digits.{Digits}
 use Rattle.display.proofs.PowersOfTen.{positive}
 use Rattle.display.proofs.DigitCount.{appended, one-digit}
 
@@ -30,6 +32,10 @@ store-digit out i zero n digit h e = absurd (omega arith)
 store-digit out i (suc k) n digit h e =
     let s : suc k - 1 ≡ k = omega arith in
     rw (e, s, add-one i)
+
+-- The digits that were stored at the start of zeros, cut out again.
+pub digits-cut : (d : Digits) (n : ℕ) → d ≡ digitsForm n → take (d .count) (d .bytes) ≡ digitsOf n
+digits-cut d n e = rw (e, take-at (digitsOf n) (replicate (20 - digitCount n) 0) (digitCount n) (number-length n))
 
 -- ---- Appended zeros
 

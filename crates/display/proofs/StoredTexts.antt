@@ -1,11 +1,11 @@
 -- Texts that are stored one behind another are stored as one.
 use mathlib.Core.Path.{_≡_, refl, sym, ap, _∙_}
 use mathlib.Core.List.{List, [], _∷_, _++_}
-use Prim.Native.Nat.{ℕ, suc, _+_, _≤_}
+use Prim.Native.Nat.{ℕ, suc, _+_, _-_, _≤_}
 use native.Mathlib.Nat.{add-zero, add-suc, suc-add}
 use native.Mathlib.Omega.{arith}
-use lib.ListN.{length, set, drop}
-use lib.Seq.{sets, length-sets, sets-eq}
+use lib.ListN.{length, set, drop, replicate, length-replicate, replicate-append-replicate}
+use lib.Seq.{sets, length-sets, sets-eq, drop-at}
 use Rattle.display.specs.Parts.{Put}
 
 behind-sets : (out : List ℕ) (i : ℕ) (xs ys : List ℕ) → sets (sets out i xs) (i + length xs) ys ≡ sets out i (xs ++ ys)
@@ -41,3 +41,14 @@ pub put-start : {a b : List ℕ} {j : ℕ} {xs : List ℕ} → Put a b 0 xs j �
 put-start {a} {b} {j} {xs} p h =
     let e : 0 + length xs ≡ length xs = omega arith in
     p .stored ∙ sets-eq xs a 0 (omega (arith, p .behind)) ∙ ap (λ (k : ℕ). xs ++ drop k a) e
+
+-- A text at the start of zeros: zeros behind it.
+pub put-on-zeros : {n : ℕ} {b : List ℕ} {j : ℕ} {xs : List ℕ}
+    → Put (replicate n 0) b 0 xs j → j ≤ n → b ≡ xs ++ replicate (n - length xs) 0
+put-on-zeros {n} {b} {j} {xs} p h =
+    let k = length xs in
+    let e : k + (n - k) ≡ n = omega (arith, p .behind) in
+    let first : List ℕ = replicate k 0 in
+    let rest : List ℕ = replicate (n - k) 0 in
+    let whole : first ++ rest ≡ replicate n 0 = rw (replicate-append-replicate {A = ℕ} k (n - k) 0, e) in
+    put-start p (omega (arith, length-replicate {A = ℕ} n 0)) ∙ rw (← whole, drop-at first rest k (length-replicate {A = ℕ} k 0))

@@ -1,8 +1,8 @@
 -- What the code's types stand for: the answers of the public calls in document 01's terms.
-use mathlib.Core.List.{List}
-use Prim.Native.Nat.{ℕ, _≤_}
+use mathlib.Core.List.{List, _++_}
+use Prim.Native.Nat.{ℕ, _-_, _≤_}
 use lib.IntN.{ℤ}
-use lib.ListN.{length}
+use lib.ListN.{length, replicate}
 use Rattle.values.specs.Classes.{twosComplement}
 use Rattle.display.specs.Events as Events
 use Rattle.display.specs.Amounts as Amounts
@@ -10,6 +10,7 @@ use Rattle.display.specs.Decimals as Decimals
 use Rattle.display.specs.Equality as Equality
 use Rattle.display.specs.declared.EventBits.{EventBits}
 use Rattle.display.specs.declared.DecimalText.{DecimalText}
+use Rattle.display.specs.declared.Digits.{Digits}
 use Rattle.display.specs.declared.Equality as declared
 use Rattle.display.specs.declared.Quantity.{Quantity}
 
@@ -50,6 +51,14 @@ decimalAnswer (DecimalText.Refused n) = Length.refused n
 abbrev pub LengthFits : List ℕ → DecimalText → Type 0
 LengthFits buffer (DecimalText.Length n) = n ≤ length buffer
 LengthFits buffer (DecimalText.Refused n) = Unit {0}
+
+-- What `digits_of` gives: the digits, zeros behind them, and how many digits there are.
+abbrev pub digitsForm : ℕ → Digits
+digitsForm n =
+    record {
+      bytes = Decimals.digitsOf n ++ replicate (20 - Decimals.digitCount n) 0;
+      count = Decimals.digitCount n;
+    }
 
 -- The answer of `equal_quantities`.
 abbrev pub equalityAnswer : declared.Equality → Equality.Equality

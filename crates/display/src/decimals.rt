@@ -3,9 +3,11 @@ ghost use mathlib.Core.Path.{_≡_};
 ghost use Prim.Native.Nat.{_+_, _*_, _^_, _≤_, _<_};
 ghost use lib.ListN.{length};
 ghost use Rattle.display.specs.Decimals.{digitAt, lastDigits, digitCount, digitsOf, sign, unsignedText, stored};
-ghost use Rattle.display.specs.Answers.{decimalInto, lengthOf, decimalAnswer, LengthFits};
+ghost use Rattle.display.specs.Answers.{decimalInto, lengthOf, decimalAnswer, LengthFits, digitsForm};
 ghost use Rattle.display.specs.Parts.{TenAtMost, partsText, Put};
 use crate::DecimalText;
+use crate::Digits;
+use crate::MOST_DIGITS;
 use crate::Quantity;
 use crate::powers::POWERS;
 use crate::powers::power_of_ten;
@@ -37,6 +39,16 @@ pub fn decimal(type_code: u16, raw: u64, scale: u16, out: &mut [u8]) -> DecimalT
             DecimalText::Length(put_amount(out, amount))
         }
     }
+}
+
+// The digits of a number, without a leading zero; 0 is one digit.
+pub fn digits_of(n: u64) -> Digits
+    ensures { λ r. ⌜ r ≡ digitsForm n ⌝ }
+    ensures { λ r. ⌜ r .count ≤ length (r .bytes) ⌝ }
+{
+    let mut bytes = [0u8; MOST_DIGITS];
+    let count = put_number(&mut bytes, 0, n);
+    Digits { bytes, count }
 }
 
 // The sign, the whole part and the places. Like each of the following it gives the position behind what

@@ -10,6 +10,7 @@ mod strings;
 
 pub use comparison::equal_quantities;
 pub use decimals::decimal;
+pub use decimals::digits_of;
 pub use events::event_bits;
 pub use strings::text;
 
@@ -23,6 +24,15 @@ pub enum EventBits {
 pub enum DecimalText {
     Length(usize),
     Refused { number: u16 },
+}
+
+// A number has at most so many digits.
+pub const MOST_DIGITS: usize = 20;
+
+// The digits of a number, at the start of the bytes, and how many they are. The bytes behind them are 0.
+pub struct Digits {
+    pub bytes: [u8; MOST_DIGITS],
+    pub count: usize,
 }
 
 // A raw value under its type, with its scale factor as a register holds it: in two's complement.

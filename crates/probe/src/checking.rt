@@ -1,6 +1,6 @@
 // The command `check CATALOG`: how many models a catalog has, or why it is refused.
 use crate::fields;
-use crate::fields::Words;
+use crate::fields::Stored;
 use crate::output;
 use catalog::Checked;
 
@@ -11,7 +11,7 @@ pub(crate) const CATALOG_CAPACITY: usize = 32776;
 pub(crate) fn run(line: &[u8], at: usize) -> bool {
     let mut catalog = [0u16; CATALOG_CAPACITY];
     let words = fields::words_field(line, at, &mut catalog);
-    let Words::Of { count, next } = words else {
+    let Stored::Of { count, next } = words else {
         return false;
     };
     if !fields::nothing_left(line, next) {
@@ -29,10 +29,6 @@ fn write_checked(catalog: &[u16]) {
             output::text(b"models ");
             output::unsigned(models as u64);
         }
-        Checked::Refused { number, place } => {
-            output::refused(number);
-            output::text(b" at ");
-            output::unsigned(place as u64);
-        }
+        Checked::Refused { number, place } => output::refused_at(number, place),
     }
 }

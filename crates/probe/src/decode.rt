@@ -1,7 +1,7 @@
 // The command `decode CODE WORDS`: one value from a type code and four registers.
 use crate::fields;
 use crate::fields::Number16;
-use crate::fields::Words;
+use crate::fields::Stored;
 use crate::output;
 use values::Value;
 
@@ -13,7 +13,7 @@ pub(crate) fn run(line: &[u8], at: usize) -> bool {
     };
     let mut registers = [0u16; 4];
     let words = fields::words_field(line, next, &mut registers);
-    let Words::Of { count, next: end } = words else {
+    let Stored::Of { count, next: end } = words else {
         return false;
     };
     if count != 4 {

@@ -1,9 +1,10 @@
 // The fields of a line. A field is one space and at least one byte behind it, up to the next space or
 // the line's end. A position may be any number: past the line's end stands no field.
-ghost use Prim.Native.Nat.{_+_, _*_, _≤_, min};
+use input::Digit;
+ghost use Prim.Native.Nat.{_+_, _*_, _≤_, _<_, min};
 ghost use lib.ListN.{length};
 ghost use Rattle.io.specs.Counts.{Counts};
-ghost use Rattle.probe.specs.Fields.{AtMost, Stored};
+ghost use Rattle.probe.specs.Fields.{AtMost, StoredIn, HexFits};
 
 // Where a field's text lies in its line. Where there is no field it is empty.
 struct Span {
@@ -23,11 +24,26 @@ pub(crate) enum Number16 {
     Bad,
 }
 
-// How many words were stored, and the position behind their field.
-pub(crate) enum Words {
+// How many words or bytes were stored, and the position behind their field.
+pub(crate) enum Stored {
     Of { count: usize, next: usize },
     Bad,
 }
+
+// Where the digits of so many words or bytes begin, and the position behind their field.
+enum HexField {
+    Of {
+        start: usize,
+        count: usize,
+        next: usize,
+    },
+    Bad,
+}
+
+// The hexadecimal digits of a word and of a byte.
+const WORD_DIGITS: usize = 4;
+
+const BYTE_DIGITS: usize = 2;
 
 // What a byte that is no hexadecimal digit counts for: more than any word.
 const NO_DIGIT: u32 = 65536;
@@ -121,34 +137,67 @@ fn decimal_digit(b: u8) -> u64 {
     }
 }
 
-// Stores the words of the field at `at`, `-` for none or four hexadecimal digits for each, at the
-// start of `out`. Where the field is bad, some of them may have been stored.
-pub(crate) fn words_field(line: &[u8], at: usize, out: &mut [u16]) -> Words
-    ensures { λ r. ⌜ Stored (now (out .exit)) r ⌝ }
+// The field at `at` as so many digits for each word or byte, or `-` for none.
+fn hex_field(line: &[u8], at: usize, digits: usize) -> HexField
+    requires { ⌜ 0 < digits ⌝ }
+    ensures { λ r. ⌜ HexFits digits (now (line .entry)) r ⌝ }
 {
     let field = field_at(line, at);
     let start = field.start;
     let end = field.end;
     if start == end {
-        return Words::Bad;
+        return HexField::Bad;
     }
     if check::same(&line[start..end], b"-") {
-        return Words::Of {
+        return HexField::Of {
+            start,
             count: 0,
             next: end,
         };
     }
-    let count = (end - start) / 4;
-    if (end - start) % 4 != 0 {
-        return Words::Bad;
+    if (end - start) % digits != 0 {
+        return HexField::Bad;
     }
+    HexField::Of {
+        start,
+        count: (end - start) / digits,
+        next: end,
+    }
+}
+
+// Stores the words of the field at `at` at the start of `out`. Where the field is bad, some of them may have been
+// stored.
+pub(crate) fn words_field(line: &[u8], at: usize, out: &mut [u16]) -> Stored
+    ensures { λ r. ⌜ StoredIn (now (out .exit)) r ⌝ }
+{
+    let field = hex_field(line, at, WORD_DIGITS);
+    let HexField::Of { start, count, next } = field else {
+        return Stored::Bad;
+    };
     if out.len() < count {
-        return Words::Bad;
+        return Stored::Bad;
     }
     if !store_words(line, start, count, out) {
-        return Words::Bad;
+        return Stored::Bad;
     }
-    Words::Of { count, next: end }
+    Stored::Of { count, next }
+}
+
+// The same for bytes.
+pub(crate) fn bytes_field(line: &[u8], at: usize, out: &mut [u8]) -> Stored
+    ensures { λ r. ⌜ StoredIn (now (out .exit)) r ⌝ }
+{
+    let field = hex_field(line, at, BYTE_DIGITS);
+    let HexField::Of { start, count, next } = field else {
+        return Stored::Bad;
+    };
+    if out.len() < count {
+        return Stored::Bad;
+    }
+    if !store_bytes(line, start, count, out) {
+        return Stored::Bad;
+    }
+    Stored::Of { count, next }
 }
 
 // Stores `count` words, whose digits start at `start`. False where one is no digit.
@@ -158,11 +207,28 @@ fn store_words(line: &[u8], start: usize, count: usize, out: &mut [u16]) -> bool
 {
     let mut k = 0;
     while k < count {
-        let word = word_at(line, start + k * 4);
+        let word = word_at(line, start + k * WORD_DIGITS);
         if 65535 < word {
             return false;
         }
         out[k] = word as u16;
+        k += 1;
+    }
+    true
+}
+
+// The same for bytes.
+fn store_bytes(line: &[u8], start: usize, count: usize, out: &mut [u8]) -> bool
+    requires { ⌜ (start + count * 2 ≤ length (now line)) × (count ≤ length (now out)) ⌝ }
+    ensures { λ _. ⌜ Counts count (now (out .exit)) ⌝ }
+{
+    let mut k = 0;
+    while k < count {
+        let byte = byte_at(line, start + k * BYTE_DIGITS);
+        if 255 < byte {
+            return false;
+        }
+        out[k] = byte as u8;
         k += 1;
     }
     true
@@ -178,14 +244,20 @@ fn word_at(line: &[u8], at: usize) -> u32
         + hex_digit(line[at + 3])
 }
 
+// The byte of the two digits from `at` on, or a number above 255 where one is no digit.
+fn byte_at(line: &[u8], at: usize) -> u32
+    requires { ⌜ at + 2 ≤ length (now line) ⌝ }
+{
+    hex_digit(line[at]) * 16 + hex_digit(line[at + 1])
+}
+
 // The value of a hexadecimal digit of either case, and NO_DIGIT for any other byte.
 fn hex_digit(b: u8) -> u32
     ensures { λ r. ⌜ r ≤ 65536 ⌝ }
 {
-    match b {
-        b'0'..=b'9' => (b - b'0') as u32,
-        b'A'..=b'F' => (b - b'A' + 10) as u32,
-        b'a'..=b'f' => (b - b'a' + 10) as u32,
-        _ => NO_DIGIT,
+    let digit = input::digit_of(b);
+    match digit {
+        Digit::Of(value) => value as u32,
+        Digit::None => NO_DIGIT,
     }
 }

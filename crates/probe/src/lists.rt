@@ -3,7 +3,7 @@
 use crate::checking::CATALOG_CAPACITY;
 use crate::fields;
 use crate::fields::Number;
-use crate::fields::Words;
+use crate::fields::Stored;
 use crate::output;
 use listing::Listing;
 use listing::WIDTH;
@@ -22,12 +22,12 @@ pub(crate) fn run(line: &[u8], at: usize) -> bool {
     };
     let mut catalog = [0u16; CATALOG_CAPACITY];
     let frames = fields::words_field(line, next, &mut catalog);
-    let Words::Of { count: n, next } = frames else {
+    let Stored::Of { count: n, next } = frames else {
         return false;
     };
     let mut map = [0u16; MAP_CAPACITY];
     let registers = fields::words_field(line, next, &mut map);
-    let Words::Of { count: m, next } = registers else {
+    let Stored::Of { count: m, next } = registers else {
         return false;
     };
     if !fields::nothing_left(line, next) {
@@ -54,9 +54,7 @@ fn write_listing(catalog: &[u16], map: &[u16], out: &mut [u64]) {
             place,
             headers,
         } => {
-            output::refused(number);
-            output::text(b" at ");
-            output::unsigned(place as u64);
+            output::refused_at(number, place);
             write_headers(headers);
         }
     }

@@ -10,6 +10,7 @@ mod events;
 mod fields;
 mod lists;
 mod output;
+mod parsing;
 mod quantity;
 mod text;
 
@@ -141,6 +142,9 @@ fn run(line: &[u8]) -> bool {
     }
     if check::same(word, b"list") {
         return lists::run(line, at);
+    }
+    if check::same(word, b"parse") {
+        return parsing::run(line, at);
     }
     false
 }

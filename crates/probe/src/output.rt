@@ -31,6 +31,13 @@ pub(crate) fn refused(number: u16) {
     unsigned(number as u64);
 }
 
+// The same, with a place.
+pub(crate) fn refused_at(number: u16, place: usize) {
+    refused(number);
+    text(b" at ");
+    unsigned(place as u64);
+}
+
 // Four hexadecimal digits for each word, run together, and `-` where there are none.
 pub(crate) fn words(s: &[u16]) {
     if s.len() == 0 {

@@ -1,7 +1,7 @@
 // The command `text ADDRESS SIZE FALLBACK MAP`: the words of a text in a register map, or of the fallback.
 use crate::fields;
 use crate::fields::Number;
-use crate::fields::Words;
+use crate::fields::Stored;
 use crate::output;
 
 // How many words a line can give as the fallback. A second array as large as the map's would slow the
@@ -23,12 +23,12 @@ pub(crate) fn run(line: &[u8], at: usize) -> bool {
     };
     let mut fallback = [0u16; FALLBACK_CAPACITY];
     let instead = fields::words_field(line, next, &mut fallback);
-    let Words::Of { count: n, next } = instead else {
+    let Stored::Of { count: n, next } = instead else {
         return false;
     };
     let mut map = [0u16; MAP_CAPACITY];
     let registers = fields::words_field(line, next, &mut map);
-    let Words::Of { count: m, next } = registers else {
+    let Stored::Of { count: m, next } = registers else {
         return false;
     };
     if !fields::nothing_left(line, next) {

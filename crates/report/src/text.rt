@@ -1,18 +1,14 @@
 // The text of a listing and of a refusal, put into a buffer.
-use display::digits;
+use display::digits_of;
 use listing::WIDTH;
-ghost use mathlib.Core.Path.{_≡_};
 ghost use mathlib.Core.List.{_++_, _∷_, []};
 ghost use Prim.Native.Nat.{_+_, _*_, _≤_};
-ghost use lib.ListN.{length, take, drop};
+ghost use lib.ListN.{length, take};
 ghost use Rattle.display.specs.Decimals.{digitsOf};
 ghost use Rattle.display.specs.Parts.{Put};
 ghost use Rattle.input.specs.Lines.{lineFeed};
 ghost use Rattle.report.specs.Text.{ascii, refusalText};
 ghost use Rattle.report.specs.Promises.{numbersText, behindNumber};
-
-// The most bytes of a number and of what stands behind it.
-const NUMBER: usize = 21;
 
 // `N at P` and LF. Like each of the following it gives the position behind what it stored.
 pub(crate) fn put_refusal(out: &mut [u8], number: u16, place: usize) -> usize
@@ -76,7 +72,7 @@ fn put_number(out: &mut [u8], at: usize, n: u64) -> usize
     ensures { λ r. ⌜ Put (now (out .entry)) (now (out .exit)) at (digitsOf n) r ⌝ }
     ensures { λ r. ⌜ r ≤ at + 20 ⌝ }
 {
-    let number = digits(n);
+    let number = digits_of(n);
     let bytes = number.bytes;
     let count = number.count;
     put_bytes(out, at, &bytes[..count])

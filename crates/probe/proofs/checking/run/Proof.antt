@@ -1,6 +1,6 @@
 -- `probe::checking::run` is safe: what `words_field` says of its answer is read at the number of words that the answer holds.
 use mathlib.Core.Path.{subst}
-use Rattle.probe.specs.Fields.{Stored}
+use Rattle.probe.specs.Fields.{StoredIn}
 use borrow.Author.Needs.{needs}
 use Rattle.probe.proofs.checking.run.Statement.{statement}
 use Rattle.probe.proofs.checking.run.Tie as tie
@@ -30,13 +30,13 @@ array-share-prefix-catalog : tie.Need-array-share-prefix-catalog
 array-share-prefix-catalog c =
     let told = c .before .before .before in
     let called = told .before .before .before in
-    (subst (Stored (called .words-field .last .1 .1 .0)) (told .words .given .1) (called .words-field .ensures)) .0
+    (subst (StoredIn (called .words-field .last .1 .1 .0)) (told .words .given .1) (called .words-field .ensures)) .0
 
 slice-aggregate-write-checked : tie.Need-slice-aggregate-write-checked
 slice-aggregate-write-checked c =
     let told = c .before .before .before .before in
     let called = told .before .before .before in
-    (subst (Stored (called .words-field .last .1 .1 .0)) (told .words .given .1) (called .words-field .ensures)) .1
+    (subst (StoredIn (called .words-field .last .1 .1 .0)) (told .words .given .1) (called .words-field .ensures)) .1
 
 write-checked-requires : tie.Need-write-checked-requires
 write-checked-requires c κs = search needs

@@ -4,7 +4,7 @@ use mathlib.Core.Path.{subst}
 use borrow.Author.Needs.{needs}
 use Rattle.io.specs.Counts.{Counts}
 use Rattle.io.proofs.Counting.{counts}
-use Rattle.probe.specs.Fields.{AtMost, Stored}
+use Rattle.probe.specs.Fields.{AtMost, StoredIn}
 use Rattle.probe.proofs.lists.run.Statement.{statement}
 use Rattle.probe.proofs.lists.run.Tie as tie
 
@@ -25,14 +25,14 @@ catalog-stored : (c : tie.After-frames)
     → Counts (c .frames .given .0 .0) (c .before .before .before .words-field .last .1 .1 .0)
 catalog-stored c =
     let called = c .before .before .before in
-    subst (Stored (called .words-field .last .1 .1 .0)) (c .frames .given .1) (called .words-field .ensures)
+    subst (StoredIn (called .words-field .last .1 .1 .0)) (c .frames .given .1) (called .words-field .ensures)
 
 -- The words of the map are at the start of its array.
 map-stored : (c : tie.After-registers)
     → Counts (c .registers .given .0 .0) (c .before .before .before .words-field2 .last .1 .1 .0)
 map-stored c =
     let called = c .before .before .before in
-    subst (Stored (called .words-field2 .last .1 .1 .0)) (c .registers .given .1) (called .words-field2 .ensures)
+    subst (StoredIn (called .words-field2 .last .1 .1 .0)) (c .registers .given .1) (called .words-field2 .ensures)
 
 decimal-field-requires : tie.Need-decimal-field-requires
 decimal-field-requires c κs = search needs

@@ -1,7 +1,7 @@
 -- `probe::text::run` is safe: what `words_field` says of its answer is read at the number of words that the answer holds.
 use mathlib.Core.Path.{subst}
 use borrow.Author.Needs.{needs}
-use Rattle.probe.specs.Fields.{Stored}
+use Rattle.probe.specs.Fields.{StoredIn}
 use Rattle.probe.proofs.text.run.Statement.{statement}
 use Rattle.probe.proofs.text.run.Tie as tie
 
@@ -69,25 +69,25 @@ array-share-prefix-map : tie.Need-array-share-prefix-map
 array-share-prefix-map c =
     let told = c .before .before .before in
     let called = told .before .before .before in
-    (subst (Stored (called .words-field2 .last .1 .1 .0)) (told .registers .given .1) (called .words-field2 .ensures)) .0
+    (subst (StoredIn (called .words-field2 .last .1 .1 .0)) (told .registers .given .1) (called .words-field2 .ensures)) .0
 
 slice-aggregate-write-text : tie.Need-slice-aggregate-write-text
 slice-aggregate-write-text c =
     let told = c .before .before .before .before in
     let called = told .before .before .before in
-    (subst (Stored (called .words-field2 .last .1 .1 .0)) (told .registers .given .1) (called .words-field2 .ensures)) .1
+    (subst (StoredIn (called .words-field2 .last .1 .1 .0)) (told .registers .given .1) (called .words-field2 .ensures)) .1
 
 array-share-prefix-fallback : tie.Need-array-share-prefix-fallback
 array-share-prefix-fallback c =
     let told = c .before .before .before .before .before .before .before .before .before .before in
     let called = told .before .before .before in
-    (subst (Stored (called .words-field .last .1 .1 .0)) (told .instead .given .1) (called .words-field .ensures)) .0
+    (subst (StoredIn (called .words-field .last .1 .1 .0)) (told .instead .given .1) (called .words-field .ensures)) .0
 
 slice-aggregate-write-text-2 : tie.Need-slice-aggregate-write-text-2
 slice-aggregate-write-text-2 c =
     let told = c .before .before .before .before .before .before .before .before .before .before .before in
     let called = told .before .before .before in
-    (subst (Stored (called .words-field .last .1 .1 .0)) (told .instead .given .1) (called .words-field .ensures)) .1
+    (subst (StoredIn (called .words-field .last .1 .1 .0)) (told .instead .given .1) (called .words-field .ensures)) .1
 
 write-text-requires : tie.Need-write-text-requires
 write-text-requires c κs = search needs

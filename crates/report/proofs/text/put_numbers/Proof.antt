@@ -1,0 +1,71 @@
+-- `put_numbers`: the text of the numbers passed is stored.
+use mathlib.Core.Path.{_≡_, refl, ap}
+use Prim.Native.Nat.{ℕ, _+_, _-_, _*_, _≤_}
+use native.Mathlib.Omega.{arith}
+use borrow.Author.Needs.{needs}
+use lib.ListN.{take}
+use Rattle.display.specs.Parts.{Put}
+use Rattle.display.proofs.StoredTexts.{put-both, put-same, put-length}
+use Rattle.report.specs.Promises.{numbersText}
+use Rattle.report.proofs.NumberTexts.{one-more}
+use Rattle.report.proofs.text.put_numbers.Statement.{statement}
+use Rattle.report.proofs.text.put_numbers.Tie as tie
+
+abbrev Inv-loop : tie.InvT-loop
+Inv-loop out₀ start list count at₀ i₀ out at i =
+    Put out₀ out start (numbersText 0 (take i list)) at × (at ≤ start + i * 21) × (i ≤ count)
+
+abbrev μ-loop : tie.MeasureT-loop
+μ-loop out₀ start list count at₀ i₀ out at i = count - i
+
+loop-holds : tie.Need-loop-holds Inv-loop μ-loop
+unfolding numbersText
+loop-holds c = (record { stored = refl; behind = omega arith }, omega arith, omega arith)
+
+mul-put-entry : tie.Need-mul-put-entry Inv-loop μ-loop
+mul-put-entry c = search needs
+
+shared-slice-read-put-entry : tie.Need-shared-slice-read-put-entry Inv-loop μ-loop
+shared-slice-read-put-entry c = search needs
+
+put-entry-requires : tie.Need-put-entry-requires Inv-loop μ-loop
+put-entry-requires c κs = omega (arith, put-length (c .before .before .before .loop .inv .0))
+
+add-i : tie.Need-add-i Inv-loop μ-loop
+add-i c = search needs
+
+loop-less : tie.Need-loop-less Inv-loop μ-loop
+loop-less c = search needs
+
+loop-again : tie.Need-loop-again Inv-loop μ-loop
+loop-again c =
+    let l = c .before .before .before .before .before .before in
+    let list = l .before .before .before .args .list .now in
+    let more = put-both (l .loop .inv .0) (c .before .before .put-entry .ensures .0) in
+    (put-same (one-more list (l .loop .i) (omega arith)) more, omega arith, omega arith)
+
+same-length : tie.Need-same-length Inv-loop μ-loop
+same-length c = put-length (c .before .loop .inv .0)
+
+returns : tie.Need-returns Inv-loop μ-loop
+returns c =
+    let a = c .before .before .before .before .args in
+    let l = c .before .loop in
+    let all : l .i ≡ a .count = omega arith in
+    (put-same (ap (λ (k : ℕ). numbersText 0 (take k (a .list .now))) all) (l .inv .0), omega arith)
+
+pub put-numbers-spec : {M : Type 1} → statement M
+put-numbers-spec =
+    tie.close
+    (tie.spec
+    Inv-loop
+    μ-loop
+    loop-holds
+    mul-put-entry
+    shared-slice-read-put-entry
+    put-entry-requires
+    add-i
+    loop-less
+    loop-again
+    same-length
+    returns)
