@@ -1,2 +1,4 @@
 pub mod NumberTexts
 pub mod RecordTexts
+pub mod ReportCases
+pub mod InputCases

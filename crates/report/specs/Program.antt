@@ -16,6 +16,10 @@ registerRoom = 8192
 abbrev pub recordRoom : ℕ
 recordRoom = 400
 
+-- The entries of its output list.
+abbrev pub listRoom : ℕ
+listRoom = recordWidth * recordRoom
+
 -- The catalog and the map of an input, or its refusal (50 to 52).
 abbrev pub parsedInput : List ℕ → Parsing.Input
 parsedInput input = Parsing.parsed input frameRoom registerRoom
@@ -23,7 +27,7 @@ parsedInput input = Parsing.parsed input frameRoom registerRoom
 -- What listing finds in them; a refusal of the input is one too.
 abbrev pub foundIn : Parsing.Input → Answer
 foundIn (Parsing.refused number place) = refused number place 0
-foundIn (Parsing.words catalog map) = listing catalog map (recordWidth * recordRoom)
+foundIn (Parsing.words catalog map) = listing catalog map listRoom
 
 unfoldable pub found : List ℕ → Answer
 found input = foundIn (parsedInput input)
@@ -51,4 +55,4 @@ storedText a old = textOf a ++ drop (length (textOf a)) old
 -- The output list afterwards: what listing stores. Where the input is refused there is no listing, and it is as it was.
 abbrev pub storedList : Parsing.Input → List ℕ → List ℕ
 storedList (Parsing.refused number place) old = old
-storedList (Parsing.words catalog map) old = stored (listing catalog map (recordWidth * recordRoom)) old
+storedList (Parsing.words catalog map) old = stored (listing catalog map listRoom) old

@@ -6,16 +6,15 @@ use input::FRAME;
 use input::Parsed;
 use input::parse;
 use listing::Listing;
-use listing::WIDTH;
-use listing::list;
 use text::put_listing;
 use text::put_refusal;
+use values::part;
 ghost use mathlib.Core.Path.{_≡_};
-ghost use Prim.Native.Nat.{_*_, _≤_};
+ghost use Prim.Native.Nat.{_≤_};
 ghost use lib.ListN.{length};
 ghost use Rattle.input.specs.Parsing.{storedCatalog, storedMap};
 ghost use Rattle.listing.specs.Listing as Listings;
-ghost use Rattle.report.specs.Program.{parsedInput, found, output, storedText, storedList};
+ghost use Rattle.report.specs.Program.{parsedInput, found, output, listRoom, storedText, storedList};
 ghost use Rattle.report.specs.Answers.{reportOf, writtenBy, lengthOf};
 
 // The words of the largest catalog: 1,024 frames.
@@ -57,8 +56,8 @@ pub fn read_plant(
     match parsed {
         Parsed::Refused { number, place } => Report::Refusal(put_refusal(out, number, place)),
         Parsed::Of { frames, registers } => {
-            let words = frames * FRAME;
-            report_listing(&catalog[..words], &map[..registers], list, out)
+            let words = part(catalog, 0, frames * FRAME);
+            report_listing(words, part(map, 0, registers), list, out)
         }
     }
 }
@@ -70,10 +69,10 @@ fn report_listing(
     list: &mut [u64; ENTRIES],
     out: &mut [u8; TEXT],
 ) -> Report
-    ensures { λ r. ⌜ r ≡ reportOf (Listings.listing (now (catalog .entry)) (now (map .entry)) 4000) ⌝ }
+    ensures { λ r. ⌜ r ≡ reportOf (Listings.listing (now (catalog .entry)) (now (map .entry)) listRoom) ⌝ }
     ensures { λ r. ⌜ lengthOf r ≤ length (now (out .exit)) ⌝ }
-    ensures { λ _. ⌜ now (out .exit) ≡ storedText (Listings.listing (now (catalog .entry)) (now (map .entry)) 4000) (now (out .entry)) ⌝ }
-    ensures { λ _. ⌜ now (list .exit) ≡ Listings.stored (Listings.listing (now (catalog .entry)) (now (map .entry)) 4000) (now (list .entry)) ⌝ }
+    ensures { λ _. ⌜ now (out .exit) ≡ storedText (Listings.listing (now (catalog .entry)) (now (map .entry)) listRoom) (now (out .entry)) ⌝ }
+    ensures { λ _. ⌜ now (list .exit) ≡ Listings.stored (Listings.listing (now (catalog .entry)) (now (map .entry)) listRoom) (now (list .entry)) ⌝ }
 {
     let listing = listing::list(catalog, map, list);
     match listing {

@@ -1,0 +1,106 @@
+-- `read_plant`: the text is made of what `parse` and `list` find, and what the program writes of it is what is to be printed.
+use mathlib.Core.Path.{_≡_, sym, ap, _∙_}
+use mathlib.Core.List.{List}
+use Prim.Native.Nat.{ℕ, _*_}
+use native.Mathlib.Omega.{arith}
+use borrow.Author.Needs.{needs}
+use lib.ListN.{length}
+use Rattle.input.specs.Parsing as Parsing
+use Rattle.input.specs.Answers.{answer}
+use Rattle.listing.specs.Listing.{Answer, listing, stored}
+use Rattle.report.specs.Program.{parsedInput, found, listRoom, storedText, storedList}
+use Rattle.report.specs.Answers.{reportOf}
+use Rattle.report.proofs.ReportCases.{refusal-made}
+use Rattle.report.proofs.InputCases.{told-refused, told-words, catalog-cut, map-cut, found-words, list-stored, found-refused, written}
+use Rattle.report.proofs.read_plant.Statement.{statement}
+use Rattle.report.proofs.read_plant.Tie as tie
+
+parse-requires : tie.Need-parse-requires
+parse-requires c κs = search needs
+
+enum-known-parsed : tie.Need-enum-known-parsed
+enum-known-parsed c = search needs
+
+put-refusal-requires : tie.Need-put-refusal-requires
+put-refusal-requires c κs = search needs
+
+enum-known-parsed-2 : tie.Need-enum-known-parsed-2
+enum-known-parsed-2 c = search needs
+
+mul-part : tie.Need-mul-part
+mul-part c =
+    let f = rw (c .before .before .before .parsed2 .given .1) at (c .before .before .before .before .before .parse .ensures .1 .1 .1) in
+    omega (arith, f .0)
+
+part-requires : tie.Need-part-requires
+part-requires c κs = search needs
+
+part-requires-2 : tie.Need-part-requires-2
+part-requires-2 c κs = search needs
+
+report-listing-requires : tie.Need-report-listing-requires
+report-listing-requires c κs = search needs
+
+returns : tie.Need-returns
+returns c =
+    let a = c .before .before .before .before .before .before .before .before .before .args in
+    let words : length (a .catalog .now) ≡ 8192 = search needs in
+    let registers : length (a .map .now) ≡ 8192 = search needs in
+    let x = parsedInput (a .input .now) in
+    let g = c .before .before .before .parsed .given in
+    let says = rw (words, registers) at (c .before .before .before .before .before .parse .ensures) in
+    let tells = ap answer (sym (g .1)) ∙ says .0 in
+    let e = told-refused x (g .0 .0) (g .0 .1 .0) tells in
+    let answer = found (a .input .now) in
+    let made =
+    refusal-made answer (g .0 .0) (g .0 .1 .0) 0 (found-refused (a .input .now) (g .0 .0) (g .0 .1 .0) e)
+    (c .put-refusal .ensures .0) (c .put-refusal .ensures .1) in (
+      written answer (a .out .now) (c .put-refusal .last .0) _ (made .tells) (made .holds),
+      (
+        made .tells,
+        (
+          made .fits,
+          (made .holds, (says .1 .0, (says .1 .1 .0, sym (ap (λ (i : Parsing.Input). storedList i (a .list .now)) e)))),
+        ),
+      ),
+    )
+
+returns-2 : tie.Need-returns-2
+returns-2 c =
+    let a = c .before .before .before .before .before .before .before .before .before .before .before .before .before .before .before .before .args in
+    let words : length (a .catalog .now) ≡ 8192 = search needs in
+    let registers : length (a .map .now) ≡ 8192 = search needs in
+    let x = parsedInput (a .input .now) in
+    let g = c .before .before .before .before .before .before .before .before .before .before .parsed2 .given in
+    let says = rw (words, registers) at (c .before .before .before .before .before .before .before .before .before .before .before .before .parse .ensures) in
+    let tells = ap answer (sym (g .1)) ∙ says .0 in
+    let w = told-words x (g .0 .0) (g .0 .1 .0) tells in
+    let catalog = c .before .before .before .before .before .before .part .ensures ∙ catalog-cut (a .input .now) (g .0 .0) (g .0 .1 .0) w (a .catalog .now) _ (says .1 .0) in
+    let map = c .before .before .before .part2 .ensures ∙ map-cut (a .input .now) (g .0 .0) (g .0 .1 .0) w (a .map .now) _ (says .1 .1 .0) in
+    let same : listing (c .before .before .before .before .before .before .part .result .now) (c .before .before .before .part2 .result .now) listRoom ≡ found (a .input .now) =
+    rw (catalog, map) (sym (found-words (a .input .now) (g .0 .0) (g .0 .1 .0) w)) in
+    let r = c .report-listing .ensures in
+    let tells = r .0 ∙ ap reportOf same in
+    let holds = r .1 .1 .0 ∙ ap (λ (b : Answer). storedText b (a .out .now)) same in
+    let list =
+    r .1 .1 .1
+    ∙ ap (λ (b : Answer). stored b (a .list .now)) same
+    ∙ list-stored (a .input .now) (g .0 .0) (g .0 .1 .0) w (a .list .now) in (
+      written (found (a .input .now)) (a .out .now) _ _ tells holds,
+      (tells, (r .1 .0, (holds, (says .1 .0, (says .1 .1 .0, list))))),
+    )
+
+pub read-plant-spec : {M : Type 1} → statement M
+read-plant-spec =
+    tie.close
+    (tie.spec
+    parse-requires
+    enum-known-parsed
+    put-refusal-requires
+    enum-known-parsed-2
+    mul-part
+    part-requires
+    part-requires-2
+    report-listing-requires
+    returns
+    returns-2)
