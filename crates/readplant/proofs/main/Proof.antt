@@ -1,0 +1,88 @@
+-- `readplant` is safe: the text that `read_plant` tells the length of lies in its buffer.
+use mathlib.Core.Path.{sym}
+use native.Mathlib.Omega.{arith}
+use borrow.Author.Needs.{needs}
+use lib.Seq.{length-take-le}
+use Rattle.readplant.proofs.main.Statement.{statement}
+use Rattle.readplant.proofs.main.Tie as tie
+
+slice-aggregate-read-full : tie.Need-slice-aggregate-read-full
+slice-aggregate-read-full c = search needs
+
+read-full-requires : tie.Need-read-full-requires
+read-full-requires c κs = search needs
+
+array-share-prefix-input : tie.Need-array-share-prefix-input
+array-share-prefix-input c = search needs
+
+slice-aggregate-read-plant : tie.Need-slice-aggregate-read-plant
+slice-aggregate-read-plant c = search needs
+
+read-plant-requires : tie.Need-read-plant-requires
+read-plant-requires c κs = search needs
+
+enum-known-report : tie.Need-enum-known-report
+enum-known-report c = search needs
+
+array-share-prefix-text : tie.Need-array-share-prefix-text
+array-share-prefix-text c =
+    let h = rw (c .before .report .given .1) at (c .before .before .before .read-plant .ensures .1 .1 .0) in
+    omega (arith, h)
+
+slice-aggregate-write : tie.Need-slice-aggregate-write
+slice-aggregate-write c =
+    let h = rw (c .before .before .report .given .1) at (c .before .before .before .before .read-plant .ensures .1 .1 .0) in
+    sym (length-take-le _ _ h)
+
+write-requires : tie.Need-write-requires
+write-requires c κs = search needs
+
+enum-known-report-2 : tie.Need-enum-known-report-2
+enum-known-report-2 c = search needs
+
+slice-aggregate-write-2 : tie.Need-slice-aggregate-write-2
+slice-aggregate-write-2 c = search needs
+
+write-requires-2 : tie.Need-write-requires-2
+write-requires-2 c κs = search needs
+
+array-share-prefix-text-2 : tie.Need-array-share-prefix-text-2
+array-share-prefix-text-2 c =
+    let h = rw (c .before .before .before .report2 .given .1) at (c .before .before .before .before .before .read-plant .ensures .1 .1 .0) in
+    omega (arith, h)
+
+slice-aggregate-write-3 : tie.Need-slice-aggregate-write-3
+slice-aggregate-write-3 c =
+    let h = rw (c .before .before .before .before .report2 .given .1) at (c .before .before .before .before .before .before .read-plant .ensures .1 .1 .0) in
+    sym (length-take-le _ _ h)
+
+write-requires-3 : tie.Need-write-requires-3
+write-requires-3 c κs = search needs
+
+returns : tie.Need-returns
+returns c = search needs
+
+returns-2 : tie.Need-returns-2
+returns-2 c = search needs
+
+pub main-spec : {M : Type 1} → statement M
+main-spec =
+    tie.close
+    (tie.spec
+    slice-aggregate-read-full
+    read-full-requires
+    array-share-prefix-input
+    slice-aggregate-read-plant
+    read-plant-requires
+    enum-known-report
+    array-share-prefix-text
+    slice-aggregate-write
+    write-requires
+    enum-known-report-2
+    slice-aggregate-write-2
+    write-requires-2
+    array-share-prefix-text-2
+    slice-aggregate-write-3
+    write-requires-3
+    returns
+    returns-2)
