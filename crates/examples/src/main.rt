@@ -1,0 +1,90 @@
+// Tries the example plants. Its arguments are pairs of files, an input of `readplant` and an output: it writes for each
+// pair whether the input gives that output.
+use libc::STDOUT_FILENO;
+use report::Report;
+use report::read_plant;
+ghost use Rattle.io.specs.Counts.{Counts};
+
+// The longest name of a file, and as much of an input and of an output as can matter.
+const NAME: usize = 255;
+
+const INPUT: usize = 74818;
+
+const OUTPUT: usize = 84072;
+
+// The bytes of `refused `.
+const REFUSED: usize = 8;
+
+fn main() {
+    let pairs = os::arg_count() / 2;
+    let mut k = 0;
+    while k < pairs {
+        try_pair(2 * k + 1, 2 * k + 2);
+        k += 1;
+    }
+}
+
+// Tries the pair of files that two arguments name.
+fn try_pair(first: usize, second: usize) {
+    let mut input = [0u8; INPUT];
+    let n = read_argument(first, &mut input);
+    let mut expected = [0u8; OUTPUT];
+    let m = read_argument(second, &mut expected);
+    write_argument(first);
+    if gives(&input[..n], &expected[..m]) {
+        write(b" gives ");
+    } else {
+        write(b" does not give ");
+    }
+    write_argument(second);
+    write(b"\n");
+}
+
+// Writes an argument.
+fn write_argument(i: usize) {
+    let mut name = [0u8; NAME];
+    let length = os::arg(i, &mut name);
+    write(&name[..length]);
+}
+
+// Reads the file that an argument names, as far as the buffer goes, and returns how many bytes were read: none of a file
+// that cannot be opened.
+fn read_argument(i: usize, out: &mut [u8]) -> usize
+    ensures { λ r. ⌜ Counts r (now (out .exit)) ⌝ }
+{
+    let mut name = [0u8; NAME];
+    let length = os::arg(i, &mut name);
+    let file = os::open_read(&name[..length]);
+    let n = io::read_full(file, out);
+    libc::close(file);
+    n
+}
+
+// Does `readplant` print just these bytes for an input?
+fn gives(input: &[u8], expected: &[u8]) -> bool {
+    let mut catalog = [0u16; 8192];
+    let mut map = [0u16; 8192];
+    let mut list = [0u64; 4000];
+    let mut text = [0u8; 84064];
+    let report = read_plant(input, &mut catalog, &mut map, &mut list, &mut text);
+    match report {
+        Report::Listing(length) => check::same(expected, &text[..length]),
+        Report::Refusal(length) => is_refusal(expected, &text[..length]),
+    }
+}
+
+// Is it `refused ` and a text behind it?
+fn is_refusal(expected: &[u8], text: &[u8]) -> bool {
+    if expected.len() < REFUSED {
+        return false;
+    }
+    if !check::same(&expected[..REFUSED], b"refused ") {
+        return false;
+    }
+    check::same(&expected[REFUSED..], text)
+}
+
+// Writes to standard output. A write that fails is passed over: there is nowhere to report it.
+fn write(bytes: &[u8]) {
+    io::write_all(STDOUT_FILENO, bytes);
+}
