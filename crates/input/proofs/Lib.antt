@@ -1,4 +1,5 @@
 -- The claims
+pub mod ClauseByClause
 pub mod LongInputs
 pub mod ReadBack
 pub mod Refusals

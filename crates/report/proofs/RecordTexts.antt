@@ -6,10 +6,10 @@ use native.Mathlib.Omega.{arith}
 use lib.ListN.{length, take}
 use lib.Seq.{take-at}
 use Rattle.display.specs.Decimals.{digitsOf}
-use Rattle.input.specs.Lines.{lineFeed}
+use Rattle.input.specs.Lines.{ascii, lineFeed}
 use Rattle.listing.specs.Listing.{Record, recordNumbers, entries}
 use Rattle.listing.proofs.WrittenRecords.{entries-length}
-use Rattle.report.specs.Text.{ascii, numbersLine, recordLines, listingText}
+use Rattle.report.specs.Text.{numbersLine, recordLines, listingText}
 use Rattle.report.specs.Promises.{behindNumber, numbersText}
 use Rattle.report.proofs.NumberTexts.{texts-append, texts-again}
 

@@ -7,10 +7,10 @@ use lib.ListN.{length, take, drop}
 use Rattle.display.specs.Decimals.{digitsOf}
 use Rattle.display.specs.Parts.{Put}
 use Rattle.display.proofs.StoredTexts.{put-start, put-same, put-length}
-use Rattle.input.specs.Lines.{lineFeed}
+use Rattle.input.specs.Lines.{ascii, lineFeed}
 use Rattle.listing.specs.Listing.{Record, Answer, refused, listed, Told, refusedTold, listedTold, told, stored, entries, recordWidth, listing}
 use Rattle.listing.proofs.ListingCases.{Case, listing-case}
-use Rattle.report.specs.Text.{ascii, listingText, refusalText}
+use Rattle.report.specs.Text.{listingText, refusalText}
 use Rattle.report.specs.Program.{textOf, storedText}
 use Rattle.report.specs.Promises.{numbersText}
 use Rattle.report.specs.Answers.{reportOf, lengthOf}

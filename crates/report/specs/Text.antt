@@ -2,16 +2,10 @@
 use mathlib.Core.List.{List, [], _∷_, _++_}
 use Prim.Native.Nat.{ℕ}
 use Prim.Native.Char.{code}
-use Prim.Native.String.{String, [] as noCharacters, _∷_ as _then_}
 use lib.ListN.{length}
 use Rattle.display.specs.Decimals.{digitsOf}
-use Rattle.input.specs.Lines.{lineFeed}
+use Rattle.input.specs.Lines.{ascii, lineFeed}
 use Rattle.listing.specs.Listing.{Record, recordNumbers}
-
--- The bytes of a text of ASCII characters.
-abbrev pub ascii : String → List ℕ
-ascii noCharacters = []
-ascii (c then cs) = code c ∷ ascii cs
 
 -- Numbers as a line: one space between them, and LF behind the last.
 unfoldable pub numbersLine : List ℕ → List ℕ

@@ -6,8 +6,8 @@ ghost use Prim.Native.Nat.{_+_, _*_, _≤_};
 ghost use lib.ListN.{length, take};
 ghost use Rattle.display.specs.Decimals.{digitsOf};
 ghost use Rattle.display.specs.Parts.{Put};
-ghost use Rattle.input.specs.Lines.{lineFeed};
-ghost use Rattle.report.specs.Text.{ascii, refusalText};
+ghost use Rattle.input.specs.Lines.{ascii, lineFeed};
+ghost use Rattle.report.specs.Text.{refusalText};
 ghost use Rattle.report.specs.Promises.{numbersText, behindNumber};
 
 // `N at P` and LF. Like each of the following it gives the position behind what it stored.

@@ -1,0 +1,31 @@
+-- Document 01's example of the program, and the edges of its input, computed by the definitions: what is read and what is printed.
+use mathlib.Core.Path.{_≡_, refl}
+use mathlib.Core.List.{List, [], _∷_, map}
+use Prim.Native.Nat.{ℕ}
+use Rattle.values.specs.Rows.{rows, rowAmong, mayScale, registersOf}
+use Rattle.values.specs.Registers.{join, shownRaw, tooWide}
+use Rattle.values.specs.Classes.{twosComplement, integer, inRange, classOf, classified}
+use Rattle.catalog.specs.Frames.{frameOf, framesFrom}
+use Rattle.catalog.specs.Rules.{isSizeOf}
+use Rattle.catalog.specs.Checking.{checkFrom, checked}
+use Rattle.catalog.specs.Definitions as Definitions
+use Rattle.register_map.specs.Headers.{opening}
+use Rattle.register_map.specs.Scan.{scanFrom, scan}
+use Rattle.listing.specs.Points.{pointAt}
+use Rattle.listing.specs.Layout.{within, groupsSize, fillSize, countUnimplemented, fits, fillOf, pointsAt, instances, groupsAt, contentAt}
+use Rattle.listing.specs.Reading.{endsWithPad, allButLast, laidOut, readBy, topOf, reading}
+use Rattle.listing.specs.Listing.{recordNumbers, walk, withRoom, listedBy, listing}
+use Rattle.display.specs.Decimals.{lastDigits, digitCountWithin}
+use Rattle.input.specs.Lines.{ascii, lines}
+use Rattle.input.specs.Digits.{digitValue, isDigit, digitOr0, wordsOf}
+use Rattle.input.specs.Parsing.{mapFrom, catalogFrom}
+use Rattle.report.specs.Text.{numbersLine, recordLines, listingText, refusalText}
+use Rattle.report.specs.Program.{found, output}
+
+pub example : output
+    (ascii
+    "00010384000000000000000000000000\n00030001000100010002000300010000\n00030002000200010000000000010000\n00030003000800010000000000010000\n00020004000000010002000000000000\n00030005000A00020000000000000001\n00040000000000000000000000000000\n00040000000000000000000000000000\n\n53756E530001000100000384000700E60002FFFF00000005FFFFFFFFFFFF0000\n")
+    ≡ ascii
+    "points 5 headers 3\n1 900 1 0 0 0 7 0 230 65535\n1 900 2 0 0 0 8 0 2 0\n1 900 3 0 0 0 9 0 65535 0\n1 900 5 0 0 0 10 0 5 0\n1 900 5 1 0 0 12 1 4294967295 0\n"
+unfolding checkFrom checked framesFrom frameOf isSizeOf rows rowAmong mayScale registersOf twosComplement join shownRaw tooWide integer inRange classOf classified Definitions.parsed opening scanFrom scan pointAt within groupsSize fillSize countUnimplemented fits fillOf pointsAt instances groupsAt contentAt endsWithPad allButLast laidOut readBy topOf reading recordNumbers walk withRoom listedBy listing lastDigits digitCountWithin lines digitValue isDigit digitOr0 wordsOf mapFrom catalogFrom numbersLine recordLines listingText refusalText found
+example = refl
