@@ -5,7 +5,7 @@ use crate::output;
 use input::FRAME;
 use input::Parsed;
 
-// How many bytes a line can give as the input: far more than any that is not refused.
+// How many bytes a line can give as the input: more than any that is not refused.
 const INPUT_CAPACITY: usize = 81920;
 
 // The room for the words of the catalog, and for the registers of the map.
