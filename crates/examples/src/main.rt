@@ -1,16 +1,18 @@
 // Tries the example plants. Its arguments are pairs of files, an input of `readplant` and an output: it writes for each
 // pair whether the input gives that output.
 use libc::STDOUT_FILENO;
+use report::ENTRIES;
+use report::INPUT;
 use report::Report;
+use report::TEXT;
 use report::read_plant;
 ghost use Rattle.io.specs.Counts.{Counts};
 
-// The longest name of a file, and as much of an input and of an output as can matter.
+// The longest name of a file.
 const NAME: usize = 255;
 
-const INPUT: usize = 74818;
-
-const OUTPUT: usize = 84072;
+// The longest output.
+const OUTPUT: usize = TEXT + REFUSED;
 
 // The bytes of `refused `.
 const REFUSED: usize = 8;
@@ -64,8 +66,8 @@ fn read_argument(i: usize, out: &mut [u8]) -> usize
 fn gives(input: &[u8], expected: &[u8]) -> bool {
     let mut catalog = [0u16; 8192];
     let mut map = [0u16; 8192];
-    let mut list = [0u64; 4000];
-    let mut text = [0u8; 84064];
+    let mut list = [0u64; ENTRIES];
+    let mut text = [0u8; TEXT];
     let report = read_plant(input, &mut catalog, &mut map, &mut list, &mut text);
     match report {
         Report::Listing(length) => check::same(expected, &text[..length]),

@@ -1,19 +1,18 @@
 // Reads a catalog and a register map from standard input, and prints every point of the map: see docs/FORMAT.md.
 use libc::STDIN_FILENO;
 use libc::STDOUT_FILENO;
+use report::ENTRIES;
+use report::INPUT;
 use report::Report;
+use report::TEXT;
 use report::read_plant;
-
-// What is read of the input. No more can matter: what fits takes at most 74,753 bytes, and a line behind that is bad
-// from its 65th byte on.
-const INPUT: usize = 74818;
 
 fn main() {
     let mut input = [0u8; INPUT];
     let mut catalog = [0u16; 8192];
     let mut map = [0u16; 8192];
-    let mut list = [0u64; 4000];
-    let mut text = [0u8; 84064];
+    let mut list = [0u64; ENTRIES];
+    let mut text = [0u8; TEXT];
     let n = io::read_full(STDIN_FILENO, &mut input);
     let report = read_plant(&input[..n], &mut catalog, &mut map, &mut list, &mut text);
     match report {

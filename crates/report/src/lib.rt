@@ -17,6 +17,10 @@ ghost use Rattle.listing.specs.Listing as Listings;
 ghost use Rattle.report.specs.Program.{parsedInput, found, output, listRoom, storedText, storedList};
 ghost use Rattle.report.specs.Answers.{reportOf, writtenBy, lengthOf};
 
+// As many bytes of an input as can matter (proofs/EnoughInput.antt): 33 for each of 1,024 frames, 5 for each of 8,192
+// registers, the empty line, and 65 of the line behind these, which make it a bad one.
+pub const INPUT: usize = 74818;
+
 // The words of the largest catalog: 1,024 frames.
 pub const CATALOG_WORDS: usize = 8192;
 
