@@ -1,13 +1,13 @@
 -- Which lines are good, and how many words a good line holds.
-use mathlib.Core.Path.{_≡_, refl}
+use mathlib.Core.Path.{_≡_, refl, ap}
 use mathlib.Core.Bool.{true, false, _&&_, and-false}
-use mathlib.Core.List.{List, [], _∷_}
+use mathlib.Core.List.{List, [], _∷_, _++_}
 use Prim.Native.Nat.{ℕ, _*_, _/_, _%_, _≤_, _<_}
 use native.Mathlib.Omega.{arith}
 use borrow.Author.Tests.{eqb-true, leb-true, ne-eqb, lt-leb}
 use lib.Dec.{eqb, leb}
 use lib.ListN.{length}
-use Rattle.input.specs.Digits.{areDigits, wordsOf}
+use Rattle.input.specs.Digits.{areDigits, word, wordsOf}
 use Rattle.input.specs.Parsing.{isCatalogLine, isMapLine}
 use Rattle.values.proofs.TestOutcomes.{both}
 
@@ -19,6 +19,16 @@ words-length (a ∷ b ∷ c ∷ []) = refl
 words-length (a ∷ b ∷ []) = refl
 words-length (a ∷ []) = refl
 words-length [] = refl
+
+-- The words of whole fours, and of what is behind them.
+pub words-behind : (fours more : List ℕ) → length fours ≡ 4 * length (wordsOf fours)
+    → wordsOf (fours ++ more) ≡ wordsOf fours ++ wordsOf more
+unfolding wordsOf
+words-behind (a ∷ b ∷ c ∷ d ∷ bs) more e = ap {B = List ℕ} (λ ws. word a b c d ∷ ws) (words-behind bs more (omega arith))
+words-behind (a ∷ b ∷ c ∷ []) more e = absurd (omega arith)
+words-behind (a ∷ b ∷ []) more e = absurd (omega arith)
+words-behind (a ∷ []) more e = absurd (omega arith)
+words-behind [] more e = refl
 
 -- A good line of the catalog: 32 digits, 8 words.
 pub catalog-line : (l : List ℕ) → isCatalogLine l ≡ true → (length l ≡ 32) × (length (wordsOf l) ≡ 8)

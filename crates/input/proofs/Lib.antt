@@ -1,6 +1,7 @@
 -- The claims
 pub mod ClauseByClause
 pub mod LongInputs
+pub mod CutWords
 pub mod ReadBack
 pub mod Refusals
 -- Laws of the definitions, and what the proofs of the functions cite

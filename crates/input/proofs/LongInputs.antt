@@ -1,22 +1,16 @@
 -- What lies far behind does not matter: a text may be cut off where the largest catalog and map have ended.
 use mathlib.Core.Path.{_≡_, refl, ap}
-use mathlib.Core.Bool.{Bool, true, false}
-use mathlib.Core.List.{List}
+use mathlib.Core.List.{List, _++_}
 use Prim.Native.Nat.{ℕ, _+_, _-_, _*_, _≤_, _<_}
 use native.Mathlib.Omega.{arith}
 use borrow.Author.Tests.{ltb-false, eqb-true, eqb-false}
 use lib.Dec.{eqb, ltb}
-use lib.ListN.{length, take}
+use lib.ListN.{length, take, length-append}
+use Rattle.values.proofs.TestOutcomes.{by-same-test}
 use Rattle.input.specs.Digits.{wordsOf}
 use Rattle.input.specs.Parsing.{isCatalogLine, isMapLine, withFrame, withRegisters, mapFrom, catalogFrom, parsed}
 use Rattle.input.proofs.CutLines.{Cut, whole, nothing, within, behind, cut-lines}
 use Rattle.input.proofs.GoodLines.{catalog-line, map-line, not-empty, no-catalog-line, no-map-line}
-
--- What is equal at each outcome of a test is equal.
-same : {A : Type 0} (b : Bool) {x y u v : A} → (b ≡ true → x ≡ u) → (b ≡ false → y ≡ v)
-    → _≡_ {A = A} (elim b [ true ↦ x | false ↦ y ]) (elim b [ true ↦ u | false ↦ v ])
-same true t f = t refl
-same false t f = f refl
 
 -- The map: a good line of w registers takes 4 * w + 1 bytes, at most 5 * w. A line with the cut in it is bad, cut off or not.
 map-cut : {n : ℕ} {ks ls : List (List ℕ)} → Cut n ks ls → (number room : ℕ) → 5 * room + 65 ≤ n
@@ -24,10 +18,12 @@ map-cut : {n : ℕ} {ks ls : List (List ℕ)} → Cut n ks ls → (number room :
 unfolding mapFrom
 map-cut whole number room h = refl
 map-cut nothing number room h = absurd (omega arith)
-map-cut (within n k l g f) number room h = simp (mapFrom, no-map-line k (omega arith), no-map-line l (omega arith))
+map-cut (within n part more g e) number room h =
+    let q : 64 < length (part ++ more) = simp length-append (omega arith) in
+    simp (mapFrom, no-map-line part (omega arith), no-map-line (part ++ more) q)
 map-cut (behind n m l e c) number room h =
     let used = length (wordsOf l) in
-    same (isMapLine l) (λ good. same (ltb room used) (λ full. refl) (λ fits.
+    by-same-test _≡_ (isMapLine l) (λ good. by-same-test _≡_ (ltb room used) (λ full. refl) (λ fits.
     let g = map-line l good in
     let f = ltb-false room used fits in
     ap (withRegisters (wordsOf l)) (map-cut c (number + 1) (room - used) (omega arith)))) (λ bad. refl)
@@ -39,14 +35,15 @@ catalog-cut : {n : ℕ} {ks ls : List (List ℕ)} → Cut n ks ls → (number fr
 unfolding catalogFrom
 catalog-cut whole number frames registers h = refl
 catalog-cut nothing number frames registers h = absurd (omega arith)
-catalog-cut (within n k l g f) number frames registers h =
-    let p : 64 < length k = omega arith in
-    let q : 64 < length l = omega arith in
-    simp (catalogFrom, not-empty k p, not-empty l q, no-catalog-line k p, no-catalog-line l q)
+catalog-cut (within n part more g e) number frames registers h =
+    let l = part ++ more in
+    let p : 64 < length part = omega arith in
+    let q : 64 < length l = simp length-append (omega arith) in
+    simp (catalogFrom, not-empty part p, not-empty l q, no-catalog-line part p, no-catalog-line l q)
 catalog-cut (behind n m l e c) number frames registers h =
-    same (eqb (length l) 0)
+    by-same-test _≡_ (eqb (length l) 0)
     (λ empty. let z = eqb-true (length l) 0 empty in map-cut c (number + 1) registers (omega arith))
-    (λ filled. same (isCatalogLine l) (λ good. same (eqb frames 0) (λ full. refl) (λ fits.
+    (λ filled. by-same-test _≡_ (isCatalogLine l) (λ good. by-same-test _≡_ (eqb frames 0) (λ full. refl) (λ fits.
     let g = catalog-line l good in
     let f = eqb-false frames 0 fits in
     ap (withFrame (wordsOf l)) (catalog-cut c (number + 1) (frames - 1) registers (omega arith)))) (λ bad. refl))

@@ -4,6 +4,7 @@ pub mod Removal
 pub mod RefusalsAfterRemoval
 pub mod LeftById
 pub mod Headers
+pub mod BehindTheEnd
 pub mod Tiling
 pub mod TiledApart
 pub mod OnePoint

@@ -1,6 +1,7 @@
 -- The claims
 pub mod ScanBack
 pub mod MadeOfModels
+pub mod BehindTheMarker
 pub mod Lengthened
 pub mod Before
 -- Laws of the definitions

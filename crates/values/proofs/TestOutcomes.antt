@@ -14,6 +14,12 @@ pub by-test : {A : Type 0} (P : A → Type 0) (b : Bool) {x y : A} → (b ≡ tr
 by-test P true t f = t refl
 by-test P false t f = f refl
 
+-- The same for two things that one test picks.
+pub by-same-test : {A : Type 0} (P : A → A → Type 0) (b : Bool) {x y u v : A} → (b ≡ true → P x u) → (b ≡ false → P y v)
+    → P (elim b [ true ↦ x | false ↦ y ]) (elim b [ true ↦ u | false ↦ v ])
+by-same-test P true t f = t refl
+by-same-test P false t f = f refl
+
 -- Where two tests hold together, each holds.
 pub both : (a b : Bool) → a && b ≡ true → (a ≡ true) × (b ≡ true)
 both true b e = (refl, e)

@@ -1,0 +1,100 @@
+-- A text that is cut off gives a refusal; or the whole text is refused for one of its lines; or the whole text gives the same
+-- catalog and the same map, with or without further registers.
+use mathlib.Core.List.{List, [], _∷_, _++_, append-nil, append-assoc}
+use Prim.Native.Nat.{ℕ, _+_, _-_}
+use native.Mathlib.Omega.{arith}
+use borrow.Author.Tests.{eqb-true}
+use lib.Dec.{eqb, ltb}
+use lib.ListN.{length, take}
+use Rattle.values.proofs.TestOutcomes.{by-test, by-same-test}
+use Rattle.input.specs.Digits.{wordsOf}
+use Rattle.input.specs.Parsing.{isCatalogLine, isMapLine, Input, refused, words, withFrame, withRegisters}
+use Rattle.input.specs.Parsing.{mapFrom, catalogFrom, parsed}
+use Rattle.input.proofs.CutLines.{Cut, whole, nothing, within, behind, cut-lines}
+use Rattle.input.proofs.GoodLines.{map-line, words-behind}
+
+-- What a part of a text gives, and what the whole gives.
+pub data Continued : Input → Input → Type 0 where
+  partRefused : {number place : ℕ} {x : Input} → Continued (refused number place) x
+  badLine : (place : ℕ) {x : Input} → Continued x (refused 50 place)
+  noRoom : (place : ℕ) {x : Input} → Continued x (refused 52 place)
+  further : (catalog map more : List ℕ) → Continued (words catalog map) (words catalog (map ++ more))
+
+-- Nothing is cut off.
+uncut : (x : Input) → Continued x x
+uncut (refused number place) = partRefused
+uncut (words catalog map) = rw append-nil at (further catalog map [])
+
+-- A frame in front of both, and registers.
+frame-ahead : (frame : List ℕ) {x y : Input} → Continued x y → Continued (withFrame frame x) (withFrame frame y)
+frame-ahead frame partRefused = partRefused
+frame-ahead frame (badLine place) = badLine place
+frame-ahead frame (noRoom place) = noRoom place
+frame-ahead frame (further catalog map more) = further (frame ++ catalog) map more
+
+registers-ahead : (ws : List ℕ) {x y : Input} → Continued x y → Continued (withRegisters ws x) (withRegisters ws y)
+registers-ahead ws partRefused = partRefused
+registers-ahead ws (badLine place) = badLine place
+registers-ahead ws (noRoom place) = noRoom place
+registers-ahead ws (further catalog map more) = rw append-assoc at (further catalog (ws ++ map) more)
+
+-- The part's last registers, and more of them in the whole.
+more-ahead : (ws more : List ℕ) {y : Input} → Continued (words [] []) y → Continued (words [] ws) (withRegisters (ws ++ more) y)
+more-ahead ws more (badLine place) = badLine place
+more-ahead ws more (noRoom place) = noRoom place
+more-ahead ws more (further catalog map rest) = rw append-assoc (further [] ws (more ++ rest))
+
+-- The part has no further line of the map.
+all-cut : (number room : ℕ) (ls : List (List ℕ)) → Continued (words [] []) (mapFrom number room ls)
+unfolding mapFrom
+all-cut number room [] = uncut (words [] [])
+all-cut number room (l ∷ ls) =
+    let P : Input → Type 0 = Continued (words [] []) in
+    by-test P (isMapLine l) (λ good. by-test P (ltb room (length (wordsOf l))) (λ full. noRoom number)
+    (λ fits. more-ahead [] (wordsOf l) (all-cut (number + 1) (room - length (wordsOf l)) ls))) (λ bad. badLine number)
+
+-- The map's line with the cut in it: where both its part and the line are good, its words begin with those of the part.
+line-cut : (number room : ℕ) (part more : List ℕ) (ls : List (List ℕ))
+    → Continued (mapFrom number room (part ∷ [])) (mapFrom number room ((part ++ more) ∷ ls))
+unfolding mapFrom
+line-cut number room part more ls =
+    let l = part ++ more in
+    let P : Input → Type 0 = λ x. Continued x (mapFrom number room (l ∷ ls)) in
+    by-test P (isMapLine part) (λ good. by-test P (ltb room (length (wordsOf part))) (λ full. partRefused) (λ fits.
+    let Q : Input → Type 0 = Continued (words [] (wordsOf part ++ [])) in
+    by-test Q (isMapLine l) (λ good′. by-test Q (ltb room (length (wordsOf l))) (λ full. noRoom number) (λ fits′.
+    rw (words-behind part more (map-line part good .1), append-nil)
+    (more-ahead (wordsOf part) (wordsOf more) (all-cut (number + 1) _ ls))))
+    (λ bad. badLine number))) (λ bad. partRefused)
+
+map-cut : {n : ℕ} {ks ls : List (List ℕ)} → Cut n ks ls → (number room : ℕ)
+    → Continued (mapFrom number room ks) (mapFrom number room ls)
+unfolding mapFrom
+map-cut {ks = ks} whole number room = uncut (mapFrom number room ks)
+map-cut {ls = ls} nothing number room = all-cut number room ls
+map-cut (within n part more {ls = ls} low e) number room = line-cut number room part more ls
+map-cut (behind n m l e c) number room =
+    by-same-test Continued (isMapLine l) (λ good. by-same-test Continued (ltb room (length (wordsOf l))) (λ full. partRefused)
+    (λ fits. registers-ahead (wordsOf l) (map-cut c (number + 1) (room - length (wordsOf l))))) (λ bad. partRefused)
+
+-- A part that ends in the catalog has no empty line and is refused.
+catalog-cut : {n : ℕ} {ks ls : List (List ℕ)} → Cut n ks ls → (number frames registers : ℕ)
+    → Continued (catalogFrom number frames registers ks) (catalogFrom number frames registers ls)
+unfolding catalogFrom
+catalog-cut {ks = ks} whole number frames registers = uncut (catalogFrom number frames registers ks)
+catalog-cut nothing number frames registers = partRefused
+catalog-cut (within n part more {ls = ls} low e) number frames registers =
+    let P : Input → Type 0 = λ x. Continued x (catalogFrom number frames registers ((part ++ more) ∷ ls)) in
+    by-test P (eqb (length part) 0) (λ empty. let z = eqb-true (length part) 0 empty in absurd (omega arith))
+    (λ filled. by-test P (isCatalogLine part) (λ good. by-test P (eqb frames 0) (λ full. partRefused) (λ fits. partRefused))
+    (λ bad. partRefused))
+catalog-cut (behind n m l e c) number frames registers =
+    by-same-test Continued (eqb (length l) 0) (λ empty. map-cut c (number + 1) registers)
+    (λ filled. by-same-test Continued (isCatalogLine l)
+    (λ good. by-same-test Continued (eqb frames 0) (λ full. partRefused)
+    (λ fits. frame-ahead (wordsOf l) (catalog-cut c (number + 1) (frames - 1) registers))) (λ bad. partRefused))
+
+-- What the first n bytes of a text give, and what the whole gives.
+pub cut-words : (n : ℕ) (text : List ℕ) (frames registers : ℕ)
+    → Continued (parsed (take n text) frames registers) (parsed text frames registers)
+cut-words n text frames registers = catalog-cut (cut-lines n text) 1 frames registers

@@ -1,0 +1,47 @@
+-- Registers behind the end marker count for nothing: the answer is the same without them.
+use mathlib.Core.Path.{_≡_, refl, sym, ap, _∙_}
+use mathlib.Core.List.{List, _++_}
+use mathlib.Core.Option.{Option, none, some}
+use Prim.Native.Nat.{ℕ, _≤_}
+use lib.ListN.{length}
+use Rattle.catalog.specs.Checking as Checking
+use Rattle.catalog.specs.Definitions.{definitions}
+use Rattle.register_map.specs.Headers.{opening}
+use Rattle.register_map.specs.Scan.{Model, marked, scan}
+use Rattle.register_map.proofs.BehindTheMarker.{scan-behind, opening-behind}
+use Rattle.listing.specs.Reading.{Reading, reading}
+use Rattle.listing.specs.Listing.{Record, listed, walk, withRoom, listedBy, listing}
+use Rattle.listing.proofs.ListingCases.{catalog-refused, accepted-listed, unopened, opened}
+use Rattle.listing.proofs.WalksBehind.{headers-walked, listed-walks}
+
+module _ (catalog map more : List ℕ) (room : ℕ) (ends : scan map .ending ≡ marked) (fits : length (map ++ more) ≤ 65536) where
+  by-opening : (read : Model → Reading) (o : Option ℕ) → opening map ≡ o
+      → listedBy read (map ++ more) room ≡ listedBy read map room
+  by-opening read (some n) o =
+      unopened read (map ++ more) room (opening-behind map more ends fits ∙ o) ∙ sym (unopened read map room o)
+  by-opening read none o =
+      opened read (map ++ more) room (opening-behind map more ends fits ∙ o)
+      ∙ ap (λ s. withRoom room (walk read (s .ending) 0 2 (s .models))) (scan-behind map more ends)
+      ∙ sym (opened read map room o)
+
+  by-verdict : (v : Checking.Verdict) → Checking.checked catalog ≡ v
+      → listing catalog (map ++ more) room ≡ listing catalog map room
+  by-verdict (Checking.refused n place) c =
+      catalog-refused catalog (map ++ more) room c ∙ sym (catalog-refused catalog map room c)
+  by-verdict (Checking.accepted n) c =
+      accepted-listed catalog (map ++ more) room c
+      ∙ by-opening (reading (definitions catalog)) (opening map) refl
+      ∙ sym (accepted-listed catalog map room c)
+
+  -- Of a map whose models end at the marker, with at most 65,536 registers (20).
+  pub behind-the-end : listing catalog (map ++ more) room ≡ listing catalog map room
+  behind-the-end = by-verdict (Checking.checked catalog) refl
+
+-- So of a map that is listed.
+pub listed-behind : (catalog map more : List ℕ) (room : ℕ) (rs : List Record) (headers : ℕ)
+    → listing catalog map room ≡ listed rs headers
+    → length (map ++ more) ≤ 65536
+    → listing catalog (map ++ more) room ≡ listed rs headers
+listed-behind catalog map more room rs headers e fits =
+    let ends = headers-walked catalog map (listed-walks catalog map room rs headers e .0) .1 in
+    behind-the-end catalog map more room ends fits ∙ e
