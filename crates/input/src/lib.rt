@@ -16,7 +16,8 @@ ghost use Rattle.input.specs.Answers.{answer, countsOf, parsedInto, Coun
 // The words of a frame.
 pub const FRAME: usize = 8;
 
-// What `parse` answers: how many frames and registers there are, or the number of a refusal and its place, a line counted from 1.
+// What `parse` answers: how many frames and registers there are, or the number of a refusal and its place, a line
+// counted from 1.
 pub enum Parsed {
     Of { frames: usize, registers: usize },
     Refused { number: u16, place: usize },

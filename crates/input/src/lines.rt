@@ -71,7 +71,8 @@ fn is_map_line(line: &[u8]) -> bool
     are_digits(line)
 }
 
-// Tries the lines up to the first empty one, with room for so many frames.
+// Tries the lines up to the first empty one, with room for so many frames. Each line so far was a frame, so the count
+// is the number of the line before.
 pub(crate) fn survey_catalog(text: &[u8], room: usize) -> CatalogLines
     ensures { λ r. ⌜ CatalogFound (now (text .entry)) room r ⌝ }
 {
@@ -106,7 +107,7 @@ pub(crate) fn survey_catalog(text: &[u8], room: usize) -> CatalogLines
     }
 }
 
-// Tries the lines from `at` on, the first of which has a number, with room for so many registers.
+// Tries the lines from `start` on, the first of which is line `first`, with room for so many registers.
 pub(crate) fn survey_map(text: &[u8], start: usize, first: usize, room: usize) -> MapLines
     requires { ⌜ first ≤ start + 1 ⌝ }
     ensures { λ r. ⌜ MapFound (now (text .entry)) start first room r ⌝ }
