@@ -1,7 +1,7 @@
 -- Integers times powers of ten: the order of the factors does not matter, they cancel, and sign and magnitude decide whether two
 -- products are the same.
 use mathlib.Core.Path.{_≡_, refl, sym, ap, _∙_}
-use mathlib.Core.Bool.{Bool, true, not, _&&_, Bool·beq}
+use mathlib.Core.Bool.{true, not, _&&_, Bool·beq}
 use Prim.Native.Nat.{ℕ, zero, suc, _-_, _*_, _<_}
 use native.Mathlib.Nat.{mul-assoc, mul-comm, mul-lt-mul-of-pos-right, eq-of-mul-eq-mul-left}
 use native.Mathlib.Omega.{arith}

@@ -2,9 +2,9 @@
 // pair whether the input gives that output.
 use libc::STDOUT_FILENO;
 use report::ENTRIES;
-use report::INPUT;
+use report::INPUT_BYTES;
 use report::Report;
-use report::TEXT;
+use report::TEXT_BYTES;
 use report::read_plant;
 ghost use Rattle.io.specs.Counts.{Counts};
 
@@ -12,12 +12,13 @@ ghost use Rattle.io.specs.Counts.{Counts};
 const NAME: usize = 255;
 
 // The longest output.
-const OUTPUT: usize = TEXT + REFUSED;
+const OUTPUT: usize = TEXT_BYTES + REFUSED;
 
 // The bytes of `refused `.
 const REFUSED: usize = 8;
 
 fn main() {
+    // The program's own name is counted too.
     let pairs = os::arg_count() / 2;
     let mut k = 0;
     while k < pairs {
@@ -28,7 +29,7 @@ fn main() {
 
 // Tries the pair of files that two arguments name.
 fn try_pair(first: usize, second: usize) {
-    let mut input = [0u8; INPUT];
+    let mut input = [0u8; INPUT_BYTES];
     let n = read_argument(first, &mut input);
     let mut expected = [0u8; OUTPUT];
     let m = read_argument(second, &mut expected);
@@ -67,7 +68,7 @@ fn gives(input: &[u8], expected: &[u8]) -> bool {
     let mut catalog = [0u16; 8192];
     let mut map = [0u16; 8192];
     let mut list = [0u64; ENTRIES];
-    let mut text = [0u8; TEXT];
+    let mut text = [0u8; TEXT_BYTES];
     let report = read_plant(input, &mut catalog, &mut map, &mut list, &mut text);
     match report {
         Report::Listing(length) => check::same(expected, &text[..length]),

@@ -52,6 +52,7 @@ cases =
     ∷ (ascii "\n00000", refused 50 2)
     ∷ (ascii "\n0000\n000G", refused 50 3)
     ∷ (ascii "\n0000 0000", refused 50 2)
+    ∷ (ascii "\n" ++ digits 64, refused 52 2)
     ∷ (ascii "\n" ++ digits 65, refused 50 2)
     ∷ (ascii "\n" ++ digits 68, refused 50 2)
     ∷ (ascii "\n" ++ 0 ∷ 48 ∷ 48 ∷ 48 ∷ [], refused 50 2)

@@ -9,16 +9,16 @@ use native.Mathlib.Omega.{arith}
 use borrow.Author.Tests.{ltb-true, ltb-false, le-leb, lt-leb}
 use lib.Dec.{ltb}
 use lib.ListN.{length}
-use Rattle.input.specs.Digits.{isFrom, digitValue, isDigit, areDigits, digitOr0, word, wordsOf}
+use Rattle.input.specs.Digits.{isBetween, digitValue, isDigit, areDigits, digitOr0, word, wordsOf}
 use Rattle.input.specs.Writing.{AreWords, hexDigit, hexDigits}
 use Rattle.values.proofs.TestOutcomes.{by-test}
 
 -- A byte of a range of characters, and one behind it.
 module _ (first last : Char) (b : ℕ) where
-  is-from : code first ≤ b → b ≤ code last → isFrom first last b ≡ true
+  is-from : code first ≤ b → b ≤ code last → isBetween first last b ≡ true
   is-from h g = simp (le-leb (code first) b h, le-leb b (code last) g)
 
-  behind-last : code last < b → isFrom first last b ≡ false
+  behind-last : code last < b → isBetween first last b ≡ false
   behind-last h = simp (lt-leb b (code last) h, and-false)
 
 -- A digit is read back.

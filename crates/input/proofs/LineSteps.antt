@@ -1,16 +1,14 @@
 -- How the definitions go over one line, and over the line that begins at a position of a text.
 use mathlib.Core.Path.{_≡_, refl, sym, ap, _∙_}
-use mathlib.Core.Bool.{Bool, true, false}
+use mathlib.Core.Bool.{true, false}
 use mathlib.Core.List.{List, [], _∷_, _++_, append-assoc}
-use Prim.Native.Nat.{ℕ, zero, suc, _+_, _-_, _*_, _/_, _%_, _≤_, _<_}
+use Prim.Native.Nat.{ℕ, _+_, _-_, _≤_, _<_}
 use native.Mathlib.Omega.{arith}
-use borrow.Author.Tests.{eq-eqb, ne-eqb, eqb-true, lt-ltb, le-ltb, leb-true}
-use lib.Dec.{eqb, leb}
+use borrow.Author.Tests.{eq-eqb, ne-eqb, lt-ltb, le-ltb}
 use lib.ListN.{length, take, drop, length-drop, drop-of-length-le}
 use lib.Seq.{drop-drop}
-use Rattle.values.proofs.TestOutcomes.{both}
 use Rattle.input.specs.Lines.{lines}
-use Rattle.input.specs.Digits.{areDigits, wordsOf}
+use Rattle.input.specs.Digits.{wordsOf}
 use Rattle.input.specs.Parsing.{isCatalogLine, isMapLine, Input, refused, words, withFrame, withRegisters, mapFrom, catalogFrom}
 use Rattle.input.specs.Promises.{firstLine}
 use Rattle.input.proofs.FirstLines.{first-taken, lines-first}

@@ -1,4 +1,4 @@
--- What lies far behind does not matter: a text may be cut off where the largest catalog and map have ended.
+-- What lies far behind does not matter: a text may be cut off 65 bytes behind the end of the largest catalog and map.
 use mathlib.Core.Path.{_≡_, refl, ap}
 use mathlib.Core.List.{List, _++_}
 use Prim.Native.Nat.{ℕ, _+_, _-_, _*_, _≤_, _<_}

@@ -3,12 +3,12 @@ use mathlib.Core.Path.{_≡_, refl, sym, ap, _∙_}
 use mathlib.Core.List.{List, [], _++_, append-nil}
 use Prim.Native.Nat.{ℕ, _+_, _*_, _/_, _≤_}
 use native.Mathlib.Omega.{arith}
-use lib.ListN.{length, drop, length-append}
-use lib.Seq.{sets, sets-eq, length-sets}
+use lib.ListN.{length, drop}
+use lib.Seq.{sets, sets-eq}
 use Rattle.input.specs.Lines.{lines}
-use Rattle.input.specs.Parsing.{Input, refused, words, withFrame, withRegisters, mapFrom, parsed, stored, storedCatalog, storedMap}
+use Rattle.input.specs.Parsing.{Input, words, withFrame, mapFrom, parsed, stored, storedCatalog, storedMap}
 use Rattle.input.specs.Promises.{wordsFrom, FramesFound, RegistersFound}
-use Rattle.input.specs.Answers.{counts, countsOf}
+use Rattle.input.specs.Answers.{parsedTold, told}
 use Rattle.input.proofs.ParsedWords.{catalog-words, map-words}
 
 stored-at-start : (ws old : List ℕ) → length ws ≤ length old → sets old 0 ws ≡ stored ws old
@@ -41,10 +41,10 @@ module _ (text : List ℕ) (frames registers count next found : ℕ)
   pub map-count : length (wordsFrom found (drop next text)) ≡ found
   map-count = ap length map-digits ∙ g .full
 
-  pub counted : counts count found ≡ countsOf (parsed text frames registers)
+  pub counted : parsedTold count found ≡ told (parsed text frames registers)
   counted =
       let e : length (f .catalog) / 8 ≡ count = omega (arith, f .full) in
-      sym (ap countsOf whole ∙ rw (e, g .full))
+      sym (ap told whole ∙ rw (e, g .full))
 
   pub catalog-stored : (old : List ℕ) → count * 8 ≤ length old
       → sets old 0 (wordsFrom (count * 8) text) ≡ storedCatalog (parsed text frames registers) old

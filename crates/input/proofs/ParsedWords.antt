@@ -1,22 +1,18 @@
 -- The words that a text gives are those of its digits, line feeds passed over: what is stored is what was found.
 use mathlib.Core.Path.{_≡_, refl, sym, ap, _∙_}
-use mathlib.Core.Bool.{Bool, true, false}
-use mathlib.Core.List.{List, [], _∷_, _++_, append-nil}
-use Prim.Native.Nat.{ℕ, _+_, _-_, _*_, _/_, _≤_, _<_}
-use native.Mathlib.Nat.{add-zero}
+use mathlib.Core.List.{List, [], _∷_, _++_}
+use Prim.Native.Nat.{ℕ, _+_, _-_, _*_, _<_}
 use native.Mathlib.Omega.{arith}
-use borrow.Author.Tests.{eqb-true, eqb-false, ltb-true, ltb-false}
 use lib.Dec.{eqb, ltb}
 use lib.ListN.{length, drop, length-append}
-use lib.Seq.{sets, sets-eq}
 use Rattle.values.proofs.TestOutcomes.{by-test}
 use Rattle.input.specs.Lines.{lines}
 use Rattle.input.specs.Digits.{wordsOf}
-use Rattle.input.specs.Parsing.{isCatalogLine, isMapLine, Input, refused, words, withFrame, withRegisters, mapFrom, catalogFrom, parsed, stored}
-use Rattle.input.specs.Promises.{firstLine, wordsFrom, FramesFound, RegistersFound}
+use Rattle.input.specs.Parsing.{isCatalogLine, isMapLine, Input, refused, words, withFrame, withRegisters, mapFrom, catalogFrom}
+use Rattle.input.specs.Promises.{firstLine, wordsFrom}
 use Rattle.input.proofs.FirstLines.{lines-first}
 use Rattle.input.proofs.GoodLines.{catalog-line, map-line}
-use Rattle.input.proofs.WordRuns.{line-passed, behind-empty}
+use Rattle.input.proofs.WordRuns.{line-passed}
 
 -- Where a text has lines, the first and those behind it are the text's own.
 some-bytes : (t l : List ℕ) (ls : List (List ℕ)) → lines t ≡ l ∷ ls → 0 < length t

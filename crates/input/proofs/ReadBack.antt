@@ -49,7 +49,7 @@ catalog-back (suc k) number frames registers catalog map rest small e fits back 
     (catalog-back k (number + 1) (frames - 1) registers behind map rest small′ (omega arith) (omega arith) back)
     ∙ ap (λ ws. words ws map) (take-append-drop 8 catalog)
 
--- So many frames and registers as there is room for are read back.
+-- A catalog of whole frames and a map, if there is room for both, are read back.
 pub read-back : (catalog map : List ℕ) (k frames registers : ℕ) → AreWords catalog → AreWords map
     → length catalog ≡ 8 * k → k ≤ frames → length map ≤ registers
     → parsed (written catalog map) frames registers ≡ words catalog map

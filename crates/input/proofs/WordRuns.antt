@@ -7,8 +7,8 @@ use native.Mathlib.Numerals.{add-one}
 use native.Mathlib.Omega.{arith}
 use borrow.Author.Tests.{eq-eqb, ne-eqb, eqb-true, eqb-false}
 use lib.Dec.{eqb}
-use lib.ListN.{length, getD, take, drop, set, length-drop}
-use lib.Seq.{drop-cons, drop-drop, sets}
+use lib.ListN.{length, getD, drop, set, length-drop}
+use lib.Seq.{drop-cons, sets}
 use Rattle.input.specs.Lines.{lineFeed}
 use Rattle.input.specs.Digits.{word, wordsOf}
 use Rattle.input.specs.Promises.{firstLine, wordsFrom}

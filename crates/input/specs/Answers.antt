@@ -17,19 +17,19 @@ abbrev pub parsedInto : List ℕ → List ℕ → List ℕ → Parsing.Input
 parsedInto text catalog map = Parsing.parsed text (length catalog / 8) (length map)
 
 -- What it answers: the frames and the registers, or a refusal.
-pub data Counts : Type 0 where
-  counts : ℕ → ℕ → Counts
-  refused : ℕ → ℕ → Counts
+pub data Told : Type 0 where
+  parsedTold : ℕ → ℕ → Told
+  refusedTold : ℕ → ℕ → Told
 
--- The frames and the registers of what a text gives.
-abbrev pub countsOf : Parsing.Input → Counts
-countsOf (Parsing.words catalog map) = counts (length catalog / 8) (length map)
-countsOf (Parsing.refused number place) = refused number place
+-- The frames and the registers, or the refusal, of what a text gives.
+abbrev pub told : Parsing.Input → Told
+told (Parsing.words catalog map) = parsedTold (length catalog / 8) (length map)
+told (Parsing.refused number place) = refusedTold number place
 
 -- The answer of `parse`.
-abbrev pub answer : Parsed → Counts
-answer (Parsed.Of frames registers) = counts frames registers
-answer (Parsed.Refused number place) = refused number place
+abbrev pub answer : Parsed → Told
+answer (Parsed.Of frames registers) = parsedTold frames registers
+answer (Parsed.Refused number place) = refusedTold number place
 
 -- What is counted lies in the lists, so that a caller may cut it out of them. (What the lists hold is said by `storedCatalog` and
 -- `storedMap`.)

@@ -7,18 +7,18 @@ use Prim.Native.Char.{Char, code}
 use lib.Dec.{leb}
 
 -- Is the byte one of the characters from the first to the last?
-abbrev pub isFrom : Char → Char → ℕ → Bool
-isFrom first last b = leb (code first) b && leb b (code last)
+abbrev pub isBetween : Char → Char → ℕ → Bool
+isBetween first last b = leb (code first) b && leb b (code last)
 
 -- The value of a digit; other bytes have none.
 unfoldable pub digitValue : ℕ → Option ℕ
 digitValue b =
-    elim (isFrom "0" "9" b) [
+    elim (isBetween "0" "9" b) [
       | true ↦ some (b - code "0")
       | false ↦
-          elim (isFrom "A" "F" b) [
+          elim (isBetween "A" "F" b) [
             | true ↦ some (b - code "A" + 10)
-            | false ↦ elim (isFrom "a" "f" b) [ true ↦ some (b - code "a" + 10) | false ↦ none ]
+            | false ↦ elim (isBetween "a" "f" b) [ true ↦ some (b - code "a" + 10) | false ↦ none ]
           ]
     ]
 

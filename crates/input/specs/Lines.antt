@@ -15,7 +15,7 @@ ascii (c then cs) = code c ∷ ascii cs
 abbrev pub lineFeed : ℕ
 lineFeed = code "\n"
 
--- A byte in front of the first line, which it begins if there is none.
+-- A byte put in front of the first line; where there is no line, it begins one.
 abbrev pub withByte : ℕ → List (List ℕ) → List (List ℕ)
 withByte b [] = (b ∷ []) ∷ []
 withByte b (l ∷ ls) = (b ∷ l) ∷ ls

@@ -31,33 +31,33 @@ abbrev pub withRegisters : List ℕ → Input → Input
 withRegisters registers (refused number place) = refused number place
 withRegisters registers (words catalog map) = words catalog (registers ++ map)
 
--- The lines of the map from the one with a number on, and room for so many registers. 50: a bad line; 52: too many registers.
+-- The map's lines, the first of which has a place, with room for so many registers. 50: a bad line; 52: too many registers.
 unfoldable pub mapFrom : ℕ → ℕ → List (List ℕ) → Input
-mapFrom number room [] = words [] []
-mapFrom number room (l ∷ ls) =
+mapFrom place room [] = words [] []
+mapFrom place room (l ∷ ls) =
     elim (isMapLine l) [
-      | false ↦ refused 50 number
+      | false ↦ refused 50 place
       | true ↦
           elim (ltb room (length (wordsOf l))) [
-            | true ↦ refused 52 number
-            | false ↦ withRegisters (wordsOf l) (mapFrom (number + 1) (room - length (wordsOf l)) ls)
+            | true ↦ refused 52 place
+            | false ↦ withRegisters (wordsOf l) (mapFrom (place + 1) (room - length (wordsOf l)) ls)
           ]
     ]
 
--- The lines of the catalog from the one with a number on, room for so many frames, and then the map's lines with their room. The
--- first empty line ends the catalog. 50: a bad line; 51: no empty line, told behind the last line; 52: too many frames.
+-- The catalog's lines, the first of which has a place, with room for so many frames; behind the first empty line, the map's. 50: a
+-- bad line; 51: no empty line, told at the place behind the last line; 52: too many frames.
 unfoldable pub catalogFrom : ℕ → ℕ → ℕ → List (List ℕ) → Input
-catalogFrom number frames registers [] = refused 51 number
-catalogFrom number frames registers (l ∷ ls) =
+catalogFrom place frames registers [] = refused 51 place
+catalogFrom place frames registers (l ∷ ls) =
     elim (eqb (length l) 0) [
-      | true ↦ mapFrom (number + 1) registers ls
+      | true ↦ mapFrom (place + 1) registers ls
       | false ↦
           elim (isCatalogLine l) [
-            | false ↦ refused 50 number
+            | false ↦ refused 50 place
             | true ↦
                 elim (eqb frames 0) [
-                  | true ↦ refused 52 number
-                  | false ↦ withFrame (wordsOf l) (catalogFrom (number + 1) (frames - 1) registers ls)
+                  | true ↦ refused 52 place
+                  | false ↦ withFrame (wordsOf l) (catalogFrom (place + 1) (frames - 1) registers ls)
                 ]
           ]
     ]

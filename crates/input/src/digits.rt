@@ -5,7 +5,7 @@ ghost use lib.ListN.{length, getD};
 ghost use Rattle.input.specs.Digits.{digitValue, isDigit, digitOr0, areDigits, word};
 ghost use Rattle.input.specs.Answers.{digitForm};
 
-// The value of a digit.
+// The value of a hexadecimal digit, or none for any other byte.
 pub enum Digit {
     Of(u16),
     None,

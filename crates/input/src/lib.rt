@@ -11,10 +11,10 @@ use lines::survey_catalog;
 use lines::survey_map;
 ghost use mathlib.Core.Path.{_≡_};
 ghost use Rattle.input.specs.Parsing.{storedCatalog, storedMap};
-ghost use Rattle.input.specs.Answers.{answer, countsOf, parsedInto, CountsFit};
+ghost use Rattle.input.specs.Answers.{answer, told, parsedInto, CountsFit};
 
 // The words of a frame.
-pub const FRAME: usize = 8;
+pub const FRAME_WORDS: usize = 8;
 
 // What `parse` answers: how many frames and registers there are, or the number of a refusal and its place, a line
 // counted from 1.
@@ -26,12 +26,12 @@ pub enum Parsed {
 // Puts the catalog and the map that `text` holds at the start of the two lists, whose lengths are the room for
 // frames and registers. All lines are tried before anything is stored, so a refusal changes neither list.
 pub fn parse(text: &[u8], catalog: &mut [u16], map: &mut [u16]) -> Parsed
-    ensures { λ r. ⌜ answer r ≡ countsOf (parsedInto (now (text .entry)) (now (catalog .entry)) (now (map .entry))) ⌝ }
+    ensures { λ r. ⌜ answer r ≡ told (parsedInto (now (text .entry)) (now (catalog .entry)) (now (map .entry))) ⌝ }
     ensures { λ _. ⌜ now (catalog .exit) ≡ storedCatalog (parsedInto (now (text .entry)) (now (catalog .entry)) (now (map .entry))) (now (catalog .entry)) ⌝ }
     ensures { λ _. ⌜ now (map .exit) ≡ storedMap (parsedInto (now (text .entry)) (now (catalog .entry)) (now (map .entry))) (now (map .entry)) ⌝ }
     ensures { λ r. ⌜ CountsFit (now (catalog .exit)) (now (map .exit)) r ⌝ }
 {
-    let found = survey_catalog(text, catalog.len() / FRAME);
+    let found = survey_catalog(text, catalog.len() / FRAME_WORDS);
     match found {
         CatalogLines::Refused { number, place } => Parsed::Refused { number, place },
         CatalogLines::Frames { count, next } => {
@@ -39,7 +39,7 @@ pub fn parse(text: &[u8], catalog: &mut [u16], map: &mut [u16]) -> Parsed
             match rest {
                 MapLines::Refused { number, place } => Parsed::Refused { number, place },
                 MapLines::Registers(registers) => {
-                    store_words(text, 0, count * FRAME, catalog);
+                    store_words(text, 0, count * FRAME_WORDS, catalog);
                     store_words(text, next, registers, map);
                     Parsed::Of {
                         frames: count,

@@ -2,7 +2,7 @@
 use crate::digits::are_digits;
 use crate::digits::word_at;
 ghost use mathlib.Core.Path.{_≡_};
-ghost use Prim.Native.Nat.{_+_, _*_, _≤_};
+ghost use Prim.Native.Nat.{_+_, _≤_};
 ghost use lib.ListN.{length, drop};
 ghost use lib.Seq.{sets};
 ghost use Rattle.input.specs.Parsing.{isCatalogLine, isMapLine};
@@ -108,30 +108,31 @@ pub(crate) fn survey_catalog(text: &[u8], room: usize) -> CatalogLines
 }
 
 // Tries the lines from `start` on, the first of which is line `first`, with room for so many registers.
+// Every line takes a byte at least, so that its number is at most one more than its position, and cannot overflow.
 pub(crate) fn survey_map(text: &[u8], start: usize, first: usize, room: usize) -> MapLines
     requires { ⌜ first ≤ start + 1 ⌝ }
     ensures { λ r. ⌜ MapFound (now (text .entry)) start first room r ⌝ }
 {
     let mut at = start;
-    let mut number = first;
+    let mut line = first;
     let mut count = 0usize;
     while at < text.len() {
         let end = line_end(text, at);
         if !is_map_line(&text[at..end]) {
             return MapLines::Refused {
                 number: 50,
-                place: number,
+                place: line,
             };
         }
         let registers = (end - at) / WORD_DIGITS;
         if room - count < registers {
             return MapLines::Refused {
                 number: 52,
-                place: number,
+                place: line,
             };
         }
         count += registers;
-        number += 1;
+        line += 1;
         at = end + 1;
     }
     MapLines::Registers(count)

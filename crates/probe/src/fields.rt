@@ -200,7 +200,7 @@ pub(crate) fn bytes_field(line: &[u8], at: usize, out: &mut [u8]) -> Stored
     Stored::Of { count, next }
 }
 
-// Stores `count` words, whose digits start at `start`. False where one is no digit.
+// Stores `count` words, whose digits start at `start`. False where one of their bytes is no digit.
 fn store_words(line: &[u8], start: usize, count: usize, out: &mut [u16]) -> bool
     requires { ⌜ (start + count * 4 ≤ length (now line)) × (count ≤ length (now out)) ⌝ }
     ensures { λ _. ⌜ Counts count (now (out .exit)) ⌝ }

@@ -2,7 +2,7 @@
 use crate::fields;
 use crate::fields::Stored;
 use crate::output;
-use input::FRAME;
+use input::FRAME_WORDS;
 use input::Parsed;
 
 // How many bytes a line can give as the input: more than any that is not refused.
@@ -32,7 +32,7 @@ fn write_parsed(text: &[u8]) {
     let parsed = input::parse(text, &mut catalog, &mut map);
     match parsed {
         Parsed::Of { frames, registers } => {
-            let words = frames * FRAME;
+            let words = frames * FRAME_WORDS;
             output::text(b"parsed ");
             output::words(&catalog[..words]);
             output::text(b" ");

@@ -2,17 +2,17 @@
 use libc::STDIN_FILENO;
 use libc::STDOUT_FILENO;
 use report::ENTRIES;
-use report::INPUT;
+use report::INPUT_BYTES;
 use report::Report;
-use report::TEXT;
+use report::TEXT_BYTES;
 use report::read_plant;
 
 fn main() {
-    let mut input = [0u8; INPUT];
+    let mut input = [0u8; INPUT_BYTES];
     let mut catalog = [0u16; 8192];
     let mut map = [0u16; 8192];
     let mut list = [0u64; ENTRIES];
-    let mut text = [0u8; TEXT];
+    let mut text = [0u8; TEXT_BYTES];
     let n = io::read_full(STDIN_FILENO, &mut input);
     let report = read_plant(&input[..n], &mut catalog, &mut map, &mut list, &mut text);
     match report {

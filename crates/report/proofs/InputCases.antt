@@ -6,19 +6,18 @@ use native.Mathlib.Omega.{arith}
 use lib.ListN.{length, take, drop}
 use lib.Seq.{take-at, take-append-seam}
 use Rattle.input.specs.Parsing as Parsing
-use Rattle.input.specs.Answers.{Counts, counts, countsOf}
-use Rattle.input.specs.Answers as Told
+use Rattle.input.specs.Answers.{parsedTold, refusedTold, told}
 use Rattle.input.proofs.Refusals.{Outcome, outcome}
 use Rattle.input.specs.Lines.{lines}
 use Rattle.listing.specs.Listing.{Answer, refused, listed, listing, stored}
 use Rattle.report.specs.Text.{refusedWord}
-use Rattle.report.specs.Program.{parsedInput, found, foundIn, printed, output, textOf, storedText, storedList, listRoom, frameRoom, registerRoom}
+use Rattle.report.specs.Program.{parsedInput, found, foundIn, printed, textOf, storedText, storedList, listRoom, frameRoom, registerRoom}
 use Rattle.report.specs.Answers.{reportOf, writtenBy}
 use Rattle.report.specs.declared.Report.{Report}
 
 -- ---- What is told
 
-pub told-refused : (x : Parsing.Input) (number place : ℕ) → Told.refused number place ≡ countsOf x → x ≡ Parsing.refused number place
+pub told-refused : (x : Parsing.Input) (number place : ℕ) → refusedTold number place ≡ told x → x ≡ Parsing.refused number place
 told-refused (Parsing.refused n p) number place e = cc
 told-refused (Parsing.words c m) number place e = let z : _≡_ {A = ℕ} 0 1 = cc in absurd (omega arith)
 
@@ -30,7 +29,7 @@ pub record Words (x : Parsing.Input) (frames registers : ℕ) : Type 0 where
   pub frame-count : frames ≡ length catalog / 8
   pub register-count : registers ≡ length map
 
-pub told-words : (x : Parsing.Input) (frames registers : ℕ) → counts frames registers ≡ countsOf x → Words x frames registers
+pub told-words : (x : Parsing.Input) (frames registers : ℕ) → parsedTold frames registers ≡ told x → Words x frames registers
 told-words (Parsing.refused n p) frames registers e = let z : _≡_ {A = ℕ} 0 1 = cc in absurd (omega arith)
 told-words (Parsing.words c m) frames registers e =
     record { catalog = c; map = m; is = refl; frame-count = cc; register-count = cc }

@@ -1,5 +1,5 @@
 -- What is told of a listing, and the text of it.
-use mathlib.Core.Path.{_≡_, refl, sym, ap, _∙_}
+use mathlib.Core.Path.{_≡_, ap, _∙_}
 use mathlib.Core.List.{List, _∷_, _++_}
 use Prim.Native.Nat.{ℕ, _+_, _*_, _≤_}
 use native.Mathlib.Omega.{arith}
@@ -8,10 +8,10 @@ use Rattle.display.specs.Decimals.{digitsOf}
 use Rattle.display.specs.Parts.{Put}
 use Rattle.display.proofs.StoredTexts.{put-start, put-same, put-length}
 use Rattle.input.specs.Lines.{ascii, lineFeed}
-use Rattle.listing.specs.Listing.{Record, Answer, refused, listed, Told, refusedTold, listedTold, told, stored, entries, recordWidth, listing}
+use Rattle.listing.specs.Listing.{Record, Answer, refused, listed, refusedTold, listedTold, told, stored, entries, recordWidth, listing}
 use Rattle.listing.proofs.ListingCases.{Case, listing-case}
 use Rattle.report.specs.Text.{listingText, refusalText}
-use Rattle.report.specs.Program.{textOf, storedText}
+use Rattle.report.specs.Program.{storedText}
 use Rattle.report.specs.Promises.{numbersText}
 use Rattle.report.specs.Answers.{reportOf, lengthOf}
 use Rattle.report.specs.declared.Report.{Report}

@@ -1,7 +1,6 @@
 -- Document 01, "The program": what is printed for an input.
-use mathlib.Core.List.{List, _++_}
+use mathlib.Core.List.{List, [], _++_}
 use Prim.Native.Nat.{ℕ, _*_}
-use lib.ListN.{length, drop}
 use Rattle.input.specs.Parsing as Parsing
 use Rattle.listing.specs.Listing.{Answer, refused, listed, listing, recordWidth, stored}
 use Rattle.report.specs.Text.{listingText, refusedWord, refusalText}
@@ -24,18 +23,28 @@ listRoom = recordWidth * recordRoom
 abbrev pub parsedInput : List ℕ → Parsing.Input
 parsedInput input = Parsing.parsed input frameRoom registerRoom
 
--- What listing finds in them; a refusal of the input is one too.
+-- The answer: what listing finds in them, or the input's refusal (its 0 headers are never printed).
 abbrev pub foundIn : Parsing.Input → Answer
 foundIn (Parsing.refused number place) = refused number place 0
 foundIn (Parsing.words catalog map) = listing catalog map listRoom
 
+-- The answer for an input.
 unfoldable pub found : List ℕ → Answer
 found input = foundIn (parsedInput input)
 
+-- What a line of a refusal opens with; nothing stands in front of a listing.
+abbrev pub head : Answer → List ℕ
+head (refused number place headers) = refusedWord
+head (listed rs headers) = []
+
+-- The text of an answer behind that.
+abbrev pub textOf : Answer → List ℕ
+textOf (refused number place headers) = refusalText number place
+textOf (listed rs headers) = listingText rs headers
+
 -- What is printed: the listing, or the refusal alone on its line.
 abbrev pub printed : Answer → List ℕ
-printed (refused number place headers) = refusedWord ++ refusalText number place
-printed (listed rs headers) = listingText rs headers
+printed a = head a ++ textOf a
 
 -- What the program prints for an input.
 abbrev pub output : List ℕ → List ℕ
@@ -43,14 +52,9 @@ output input = printed (found input)
 
 -- ---- What is left in the buffers
 
--- The text that is made of an answer: all that is printed but for a refusal's first word.
-abbrev pub textOf : Answer → List ℕ
-textOf (refused number place headers) = refusalText number place
-textOf (listed rs headers) = listingText rs headers
-
--- A buffer afterwards: the text at its start, and the later bytes as they were.
+-- The text's buffer afterwards: the text at its start, and the later bytes as they were.
 abbrev pub storedText : Answer → List ℕ → List ℕ
-storedText a old = textOf a ++ drop (length (textOf a)) old
+storedText a old = Parsing.stored (textOf a) old
 
 -- The output list afterwards: what listing stores. Where the input is refused there is no listing, and it is as it was.
 abbrev pub storedList : Parsing.Input → List ℕ → List ℕ

@@ -1,7 +1,7 @@
 -- What private functions promise each other. No public call is stated by these.
-use mathlib.Core.Bool.{Bool, true, false}
+use mathlib.Core.Bool.{true, false}
 use mathlib.Core.List.{List, [], _∷_, _++_}
-use Prim.Native.Nat.{ℕ, _+_, _%_}
+use Prim.Native.Nat.{ℕ, _+_, _-_, _%_}
 use Prim.Native.Char.{code}
 use lib.Dec.{eqb}
 use Rattle.display.specs.Decimals.{digitsOf}
@@ -10,7 +10,7 @@ use Rattle.listing.specs.Listing.{recordWidth}
 
 -- What stands behind the number with an index among the numbers of records: LF behind the last of a record, else a space.
 unfoldable pub behindNumber : ℕ → ℕ
-behindNumber index = elim (eqb (index % recordWidth) 9) [ true ↦ lineFeed | false ↦ code " " ]
+behindNumber index = elim (eqb (index % recordWidth) (recordWidth - 1)) [ true ↦ lineFeed | false ↦ code " " ]
 
 -- The text of the numbers of records, from the one with an index on.
 unfoldable pub numbersText : ℕ → List ℕ → List ℕ

@@ -2,7 +2,7 @@
 // of the listing out.
 mod text;
 
-use input::FRAME;
+use input::FRAME_WORDS;
 use input::Parsed;
 use input::parse;
 use listing::Listing;
@@ -19,7 +19,7 @@ ghost use Rattle.report.specs.Answers.{reportOf, writtenBy, lengthOf};
 
 // As many bytes of an input as can matter (proofs/EnoughInput.antt): 33 for each of 1,024 frames, 5 for each of 8,192
 // registers, the empty line, and 65 of the line behind these, which make it a bad one.
-pub const INPUT: usize = 74818;
+pub const INPUT_BYTES: usize = 74818;
 
 // The words of the largest catalog: 1,024 frames.
 pub const CATALOG_WORDS: usize = 8192;
@@ -30,8 +30,8 @@ pub const REGISTERS: usize = 8192;
 // The entries of a list for 400 records.
 pub const ENTRIES: usize = 4000;
 
-// The bytes of the longest text: its first line, and for each entry 20 digits and a space or LF.
-pub const TEXT: usize = 84064;
+// Room for every text: 64 bytes for the first line, and 20 digits and a space or LF for each entry.
+pub const TEXT_BYTES: usize = 84064;
 
 // How long the text is that was made: a listing, or what follows `refused ` in the line of a refusal.
 pub enum Report {
@@ -46,7 +46,7 @@ pub fn read_plant(
     catalog: &mut [u16; CATALOG_WORDS],
     map: &mut [u16; REGISTERS],
     list: &mut [u64; ENTRIES],
-    out: &mut [u8; TEXT],
+    out: &mut [u8; TEXT_BYTES],
 ) -> Report
     ensures { λ r. ⌜ writtenBy r (now (out .exit)) ≡ output (now (input .entry)) ⌝ }
     ensures { λ r. ⌜ r ≡ reportOf (found (now (input .entry))) ⌝ }
@@ -60,7 +60,7 @@ pub fn read_plant(
     match parsed {
         Parsed::Refused { number, place } => Report::Refusal(put_refusal(out, number, place)),
         Parsed::Of { frames, registers } => {
-            let words = part(catalog, 0, frames * FRAME);
+            let words = part(catalog, 0, frames * FRAME_WORDS);
             report_listing(words, part(map, 0, registers), list, out)
         }
     }
@@ -71,7 +71,7 @@ fn report_listing(
     catalog: &[u16],
     map: &[u16],
     list: &mut [u64; ENTRIES],
-    out: &mut [u8; TEXT],
+    out: &mut [u8; TEXT_BYTES],
 ) -> Report
     ensures { λ r. ⌜ r ≡ reportOf (Listings.listing (now (catalog .entry)) (now (map .entry)) listRoom) ⌝ }
     ensures { λ r. ⌜ lengthOf r ≤ length (now (out .exit)) ⌝ }

@@ -1,5 +1,5 @@
 -- `main` ends: a pair of arguments fewer is left after each turn.
-use Prim.Native.Nat.{_-_, _*_, _≤_, _<_, _^_}
+use Prim.Native.Nat.{_-_, _*_, _<_, _^_}
 use borrow.Author.Needs.{needs}
 use Rattle.examples.proofs.main.Statement.{statement}
 use Rattle.examples.proofs.main.Tie as tie

@@ -1,7 +1,5 @@
 -- `read_plant`: the text is made of what `parse` and `list` find, and what the program writes of it is what is to be printed.
 use mathlib.Core.Path.{_≡_, sym, ap, _∙_}
-use mathlib.Core.List.{List}
-use Prim.Native.Nat.{ℕ, _*_}
 use native.Mathlib.Omega.{arith}
 use borrow.Author.Needs.{needs}
 use lib.ListN.{length}

@@ -1,9 +1,8 @@
 -- `report_listing`: the text is made of what `list` finds.
 use mathlib.Core.Path.{_≡_, sym, ap, _∙_}
-use Prim.Native.Nat.{ℕ, _*_}
 use native.Mathlib.Omega.{arith}
 use borrow.Author.Needs.{needs}
-use lib.ListN.{length, length-set}
+use lib.ListN.{length}
 use Rattle.listing.specs.Listing.{listing}
 use Rattle.listing.specs.Answers.{answer}
 use Rattle.report.specs.Program.{listRoom}

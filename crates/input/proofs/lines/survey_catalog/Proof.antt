@@ -1,7 +1,7 @@
 -- `survey_catalog`: the frames so far and the lines left are the text.
-use mathlib.Core.Path.{_≡_, refl, sym, ap, _∙_}
-use mathlib.Core.List.{List, []}
-use Prim.Native.Nat.{ℕ, _+_, _-_, _*_, _≤_}
+use mathlib.Core.Path.{_≡_, refl, sym, _∙_}
+use mathlib.Core.List.{[]}
+use Prim.Native.Nat.{_+_, _-_, _*_, _≤_}
 use native.Mathlib.Omega.{arith}
 use borrow.Author.Tests.{not-true, not-false}
 use borrow.Author.Needs.{needs}
@@ -9,7 +9,7 @@ use lib.ListN.{length, drop}
 use Rattle.input.specs.Lines.{lines}
 use Rattle.input.specs.Parsing.{catalogFrom, parsed}
 use Rattle.input.specs.Promises.{FramesFound}
-use Rattle.input.proofs.LineSteps.{no-frame, cut-line}
+use Rattle.input.proofs.LineSteps.{no-frame}
 use Rattle.input.proofs.CatalogLines.{at-empty, at-bad, at-full, at-frame, at-end}
 use Rattle.input.proofs.lines.survey_catalog.Statement.{statement}
 use Rattle.input.proofs.lines.survey_catalog.Tie as tie

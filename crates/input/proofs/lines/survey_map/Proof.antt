@@ -15,12 +15,12 @@ use Rattle.input.proofs.lines.survey_map.Statement.{statement}
 use Rattle.input.proofs.lines.survey_map.Tie as tie
 
 abbrev Inv-loop : tie.InvT-loop
-Inv-loop text start first room at₀ number₀ count₀ at number count =
-    RegistersFound (mapFrom first room (lines (drop start text))) room count (mapFrom number (room - count) (lines (drop at text)))
-    × (number ≤ at + 1)
+Inv-loop text start first room at₀ line₀ count₀ at line count =
+    RegistersFound (mapFrom first room (lines (drop start text))) room count (mapFrom line (room - count) (lines (drop at text)))
+    × (line ≤ at + 1)
 
 abbrev μ-loop : tie.MeasureT-loop
-μ-loop text start first room at₀ number₀ count₀ at number count = length text - at
+μ-loop text start first room at₀ line₀ count₀ at line count = length text - at
 
 loop-holds : tie.Need-loop-holds Inv-loop μ-loop
 loop-holds c =
@@ -48,7 +48,7 @@ returns : tie.Need-returns Inv-loop μ-loop
 returns c =
     let l = c .before .before .before .before .before in
     let m = c .before .is-map-line in
-    at-bad (l .before .before .args .text .now) (l .loop .at) (c .before .before .before .line-end .result) (l .loop .number) (c .before .before .before .before .loop-test .taken) (c .before .before .before .line-end .ensures .0) (l .loop .inv .0)
+    at-bad (l .before .before .args .text .now) (l .loop .at) (c .before .before .before .line-end .result) (l .loop .line) (c .before .before .before .before .loop-test .taken) (c .before .before .before .line-end .ensures .0) (l .loop .inv .0)
     (sym (m .ensures) ∙ not-true (m .result) (c .if1 .taken))
 
 sub-registers : tie.Need-sub-registers Inv-loop μ-loop
@@ -61,14 +61,14 @@ returns-2 : tie.Need-returns-2 Inv-loop μ-loop
 returns-2 c =
     let l = c .before .before .before .before .before .before in
     let m = c .before .before .is-map-line in
-    at-full (l .before .before .args .text .now) (l .loop .at) (c .before .before .before .before .line-end .result) (l .loop .number) (c .before .before .before .before .before .loop-test .taken) (c .before .before .before .before .line-end .ensures .0) (l .loop .inv .0)
+    at-full (l .before .before .args .text .now) (l .loop .at) (c .before .before .before .before .line-end .result) (l .loop .line) (c .before .before .before .before .before .loop-test .taken) (c .before .before .before .before .line-end .ensures .0) (l .loop .inv .0)
     (sym (m .ensures) ∙ not-false (m .result) (c .before .if1 .left)) (c .if2 .taken)
 
 add-count : tie.Need-add-count Inv-loop μ-loop
 add-count c = omega (arith, c .before .before .before .before .before .before .loop .inv .0 .fits)
 
-add-number : tie.Need-add-number Inv-loop μ-loop
-add-number c = search needs
+add-line : tie.Need-add-line Inv-loop μ-loop
+add-line c = search needs
 
 add-at : tie.Need-add-at Inv-loop μ-loop
 add-at c = search needs
@@ -80,7 +80,7 @@ loop-again : tie.Need-loop-again Inv-loop μ-loop
 loop-again c =
     let l = c .before .before .before .before .before .before in
     let m = c .before .before .is-map-line in (
-      at-line (l .before .before .args .text .now) (l .loop .at) (c .before .before .before .before .line-end .result) (l .loop .number) (c .before .before .before .before .before .loop-test .taken) (c .before .before .before .before .line-end .ensures .0) (l .loop .inv .0)
+      at-line (l .before .before .args .text .now) (l .loop .at) (c .before .before .before .before .line-end .result) (l .loop .line) (c .before .before .before .before .before .loop-test .taken) (c .before .before .before .before .line-end .ensures .0) (l .loop .inv .0)
           (sym (m .ensures) ∙ not-false (m .result) (c .before .if1 .left)) (c .if2 .left),
       omega arith,
     )
@@ -88,7 +88,7 @@ loop-again c =
 returns-3 : tie.Need-returns-3 Inv-loop μ-loop
 returns-3 c =
     let l = c .before in
-    at-end (l .before .before .args .text .now) (l .loop .at) (l .loop .number) (l .loop .inv .0) (c .loop-test .left)
+    at-end (l .before .before .args .text .now) (l .loop .at) (l .loop .line) (l .loop .inv .0) (c .loop-test .left)
 
 pub survey-map-spec : {M : Type 1} → statement M
 survey-map-spec =
@@ -107,7 +107,7 @@ survey-map-spec =
     sub-if2
     returns-2
     add-count
-    add-number
+    add-line
     add-at
     loop-less
     loop-again

@@ -1,9 +1,7 @@
 -- `probe::parsing::write_parsed` is safe: what `parse` counts lies in the two lists.
 use mathlib.Core.Path.{sym}
-use Prim.Native.Nat.{_*_}
 use native.Mathlib.Omega.{arith}
 use borrow.Author.Needs.{needs}
-use lib.ListN.{length}
 use lib.Seq.{length-take-le}
 use Rattle.probe.proofs.parsing.write_parsed.Statement.{statement}
 use Rattle.probe.proofs.parsing.write_parsed.Tie as tie
