@@ -6,6 +6,8 @@ use report::INPUT_BYTES;
 use report::Report;
 use report::TEXT_BYTES;
 use report::read_plant;
+ghost use mathlib.Core.List.{_++_};
+ghost use Rattle.readplant.specs.Answering.{Answers};
 
 fn main() {
     let mut input = [0u8; INPUT_BYTES];
@@ -13,18 +15,25 @@ fn main() {
     let mut map = [0u16; 8192];
     let mut list = [0u64; ENTRIES];
     let mut text = [0u8; TEXT_BYTES];
-    let n = io::read_full(STDIN_FILENO, &mut input);
-    let report = read_plant(&input[..n], &mut catalog, &mut map, &mut list, &mut text);
+    let count = io::read_full(STDIN_FILENO, &mut input);
+    let report = read_plant(
+        &input[..count],
+        &mut catalog,
+        &mut map,
+        &mut list,
+        &mut text,
+    );
     match report {
-        Report::Listing(length) => write(&text[..length]),
-        Report::Refusal(length) => {
-            write(b"refused ");
-            write(&text[..length]);
-        }
+        Report::Listing(length) => print(&input, count, b"", &text[..length]),
+        Report::Refusal(length) => print(&input, count, b"refused ", &text[..length]),
     }
 }
 
-// Writes to standard output. A write that fails is passed over: there is nowhere to report it.
-fn write(bytes: &[u8]) {
-    io::write_all(STDOUT_FILENO, bytes);
+// Writes a text with its head, which together must answer the input: only the bytes that are handed to the system are
+// left to trust. A write that fails is passed over, as there is nowhere to report it.
+fn print(input: &[u8], count: usize, head: &[u8], text: &[u8])
+    requires { ⌜ Answers (now input) count (now head ++ now text) ⌝ }
+{
+    io::write_all(STDOUT_FILENO, head);
+    io::write_all(STDOUT_FILENO, text);
 }
