@@ -7,7 +7,7 @@ use native.Mathlib.Numerals.{add-one}
 use native.Mathlib.Omega.{arith}
 use borrow.Author.Tests.{eq-eqb, ne-eqb, eqb-true, eqb-false}
 use lib.Dec.{eqb}
-use lib.ListN.{length, getD, drop, set, length-drop}
+use lib.ListN.{length, getD, drop, set, length-drop, length-set}
 use lib.Seq.{drop-cons, sets}
 use Rattle.input.specs.Lines.{lineFeed}
 use Rattle.input.specs.Digits.{word, wordsOf}
@@ -61,42 +61,54 @@ four-from t i h =
 
 -- ---- Storing, from a position of a text on
 
-module _ (t : List ℕ) (i n : ℕ) (some : 0 < n) (all : length (wordsFrom n (drop i t)) ≡ n) where
-  pub room-for-four : i + 4 ≤ length t
-  room-for-four = omega (arith, length-drop i t, four-bytes n (drop i t) (omega arith))
+-- So many words are to be stored, of which k are: those that are left, stored from here on, make the whole list.
+pub record WordsLeft (text whole : List ℕ) (count size : ℕ) (out : List ℕ) (at k : ℕ) : Type 0 where
+  pub makes : sets out k (wordsFrom (count - k) (drop at text)) ≡ whole
+  pub left : length (wordsFrom (count - k) (drop at text)) ≡ count - k
+  pub within : k ≤ count
+  pub same-size : length out ≡ size
 
-  pub feed-from : getD t i 0 ≡ lineFeed → wordsFrom n (drop i t) ≡ wordsFrom n (drop (i + 1) t)
-  feed-from e =
-      ap (wordsFrom n) (drop-cons t i 0 (omega (arith, room-for-four)))
-      ∙ feed-passed n (getD t i 0) (drop (suc i) t) e
-      ∙ ap (λ (k : ℕ). wordsFrom n (drop k t)) (sym (add-one i))
+pub all-left : (text out : List ℕ) (count start : ℕ) → length (wordsFrom count (drop start text)) ≡ count
+    → WordsLeft text (sets out 0 (wordsFrom count (drop start text))) count (length out) out start 0
+all-left text out count start e =
+    let n : count - 0 ≡ count = omega arith in
+    record { makes = rw n; left = rw n e; within = omega arith; same-size = refl }
 
-  pub word-from : (getD t i 0 ≡ lineFeed → ⊥)
-      → wordsFrom n (drop i t)
-      ≡ word (getD t i 0) (getD t (i + 1) 0) (getD t (i + 2) 0) (getD t (i + 3) 0) ∷ wordsFrom (n - 1) (drop (i + 4) t)
-  word-from k =
-      let e : n ≡ suc (n - 1) = omega arith in
-      ap (λ (m : ℕ). wordsFrom m (drop i t)) e
-      ∙ ap (wordsFrom (suc (n - 1))) (four-from t i room-for-four)
-      ∙ word-passed (n - 1) (getD t i 0) (getD t (i + 1) 0) (getD t (i + 2) 0) (getD t (i + 3) 0) (drop (i + 4) t) k
-
--- Where the next word of so many is stored, one fewer is left.
-module _ (t out : List ℕ) (i k count w v : ℕ) (e : v ≡ w) (some : 0 < count - k)
-    (next : wordsFrom (count - k) (drop i t) ≡ w ∷ wordsFrom (count - k - 1) (drop (i + 4) t)) where
-  fewer : count - k - 1 ≡ count - (k + 1)
-  fewer = omega arith
-
-  pub word-stored : sets (set out k v) (k + 1) (wordsFrom (count - (k + 1)) (drop (i + 4) t)) ≡ sets out k (wordsFrom (count - k) (drop i t))
-  word-stored = rw (next, ← fewer, e, add-one k)
-
-  pub words-left : length (wordsFrom (count - k) (drop i t)) ≡ count - k
-      → length (wordsFrom (count - (k + 1)) (drop (i + 4) t)) ≡ count - (k + 1)
-  words-left h = rw (← fewer) (omega (arith, ap length next, h))
-
--- Where all are stored, none is left.
-pub none-left : (t out : List ℕ) (k count : ℕ) → count ≤ k → out ≡ sets out k (wordsFrom (count - k) t)
+pub none-left : {text whole out : List ℕ} {count size at k : ℕ} → WordsLeft text whole count size out at k → count ≤ k → out ≡ whole
 unfolding wordsFrom
-none-left t out k count h = let e : count - k ≡ 0 = omega arith in rw e
+none-left {text} {whole} {out} {count} {size} {at} {k} w h = let n : count - k ≡ 0 = omega arith in (rw n) ∙ w .makes
+
+module _ {text whole out : List ℕ} {count size at k : ℕ} (w : WordsLeft text whole count size out at k) (more : k < count) where
+  pub room-for-four : at + 4 ≤ length text
+  room-for-four = omega (arith, length-drop at text, four-bytes (count - k) (drop at text) (omega (arith, w .left)))
+
+  pub feed-stored : getD text at 0 ≡ lineFeed → WordsLeft text whole count size out (at + 1) k
+  feed-stored e =
+      let n = count - k in
+      let same : wordsFrom n (drop at text) ≡ wordsFrom n (drop (at + 1) text) =
+      ap (wordsFrom n) (drop-cons text at 0 (omega (arith, room-for-four)))
+      ∙ feed-passed n (getD text at 0) (drop (suc at) text) e
+      ∙ ap (λ (i : ℕ). wordsFrom n (drop i text)) (sym (add-one at)) in
+      record { makes = rw (← same) (w .makes); left = rw (← same) (w .left); within = w .within; same-size = w .same-size }
+
+  pub word-stored : (v : ℕ) → (getD text at 0 ≡ lineFeed → ⊥)
+      → v ≡ word (getD text at 0) (getD text (at + 1) 0) (getD text (at + 2) 0) (getD text (at + 3) 0)
+      → WordsLeft text whole count size (set out k v) (at + 4) (k + 1)
+  word-stored v other e =
+      let m = count - (k + 1) in
+      let one : count - k ≡ suc m = omega arith in
+      let rest = wordsFrom m (drop (at + 4) text) in
+      let next : wordsFrom (count - k) (drop at text) ≡ v ∷ rest =
+      ap (λ (n : ℕ). wordsFrom n (drop at text)) one
+      ∙ ap (wordsFrom (suc m)) (four-from text at room-for-four)
+      ∙ word-passed m (getD text at 0) (getD text (at + 1) 0) (getD text (at + 2) 0) (getD text (at + 3) 0) (drop (at + 4) text) other
+      ∙ ap (λ (x : ℕ). x ∷ rest) (sym e) in
+      record {
+        makes = ap (λ (i : ℕ). sets (set out k v) i rest) (add-one k) ∙ (rw next at (w .makes));
+        left = omega (arith, ap length next, w .left);
+        within = omega arith;
+        same-size = length-set out k v ∙ w .same-size;
+      }
 
 -- ---- Lines
 

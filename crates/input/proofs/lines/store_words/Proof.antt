@@ -1,22 +1,17 @@
 -- `store_words`: the words left, stored from here on, make the list that all of them make.
-use mathlib.Core.Path.{_≡_, refl, sym, ap, _∙_}
-use mathlib.Core.List.{List}
-use Prim.Native.Nat.{ℕ, _-_, _≤_, _<_}
+use Prim.Native.Nat.{_-_}
 use native.Mathlib.Omega.{arith}
 use borrow.Author.Needs.{needs}
-use lib.ListN.{length, drop, length-set}
+use lib.ListN.{length, drop}
 use lib.Seq.{sets}
 use Rattle.input.specs.Promises.{wordsFrom}
-use Rattle.input.proofs.WordRuns.{room-for-four, feed-from, word-from, word-stored, words-left, none-left}
+use Rattle.input.proofs.WordRuns.{WordsLeft, all-left, none-left, room-for-four, feed-stored, word-stored}
 use Rattle.input.proofs.lines.store_words.Statement.{statement}
 use Rattle.input.proofs.lines.store_words.Tie as tie
 
 abbrev Inv-loop : tie.InvT-loop
 Inv-loop text start count out₀ at₀ k₀ out at k =
-    (sets out k (wordsFrom (count - k) (drop at text)) ≡ sets out₀ 0 (wordsFrom count (drop start text)))
-    × (length (wordsFrom (count - k) (drop at text)) ≡ count - k)
-    × (k ≤ count)
-    × (length out ≡ length out₀)
+    WordsLeft text (sets out₀ 0 (wordsFrom count (drop start text))) count (length out₀) out at k
 
 abbrev μ-loop : tie.MeasureT-loop
 μ-loop text start count out₀ at₀ k₀ out at k = length text - at
@@ -24,99 +19,46 @@ abbrev μ-loop : tie.MeasureT-loop
 loop-holds : tie.Need-loop-holds Inv-loop μ-loop
 loop-holds c =
     let a = c .before .before .args in
-    let e : a .count - 0 ≡ a .count = omega arith in
-    (rw e, rw e (c .before .before .pre .0), omega arith, refl)
+    all-left (a .text .now) (a .out .now) (a .count) (a .start) (c .before .before .pre .0)
 
 shared-slice-read-if1 : tie.Need-shared-slice-read-if1 Inv-loop μ-loop
-shared-slice-read-if1 c =
-    let l = c .before .before in
-    let a = l .before .before .before .args in
-    let n = a .count - l .loop .k in
-    let some : 0 < n = omega arith in
-    omega (arith, room-for-four (a .text .now) (l .loop .at) n some (l .loop .inv .1))
+shared-slice-read-if1 c = omega (arith, room-for-four (c .before .before .loop .inv) (c .before .loop-test .taken))
 
 add-at : tie.Need-add-at Inv-loop μ-loop
-add-at c =
-    let l = c .before .before .before in
-    let a = l .before .before .before .args in
-    let n = a .count - l .loop .k in
-    let some : 0 < n = omega arith in
-    omega (arith, room-for-four (a .text .now) (l .loop .at) n some (l .loop .inv .1))
+add-at c = omega (arith, room-for-four (c .before .before .before .loop .inv) (c .before .before .loop-test .taken))
 
 loop-less : tie.Need-loop-less Inv-loop μ-loop
-loop-less c =
-    let l = c .before .before .before in
-    let a = l .before .before .before .args in
-    let n = a .count - l .loop .k in
-    let some : 0 < n = omega arith in
-    omega (arith, room-for-four (a .text .now) (l .loop .at) n some (l .loop .inv .1))
+loop-less c = omega (arith, room-for-four (c .before .before .before .loop .inv) (c .before .before .loop-test .taken))
 
 loop-again : tie.Need-loop-again Inv-loop μ-loop
-loop-again c =
-    let l = c .before .before .before in
-    let a = l .before .before .before .args in
-    let n = a .count - l .loop .k in
-    let some : 0 < n = omega arith in
-    let e = feed-from (a .text .now) (l .loop .at) n some (l .loop .inv .1) (c .if1 .taken) in (
-      ap (λ (ws : List ℕ). sets (l .loop .out) (l .loop .k) ws) (sym e) ∙ l .loop .inv .0,
-      ap length (sym e) ∙ l .loop .inv .1,
-      l .loop .inv .2,
-      l .loop .inv .3,
-    )
+loop-again c = feed-stored (c .before .before .before .loop .inv) (c .before .before .loop-test .taken) (c .if1 .taken)
 
 word-at-requires : tie.Need-word-at-requires Inv-loop μ-loop
-word-at-requires c κs =
-    let l = c .before .before .before in
-    let a = l .before .before .before .args in
-    let n = a .count - l .loop .k in
-    let some : 0 < n = omega arith in
-    omega (arith, room-for-four (a .text .now) (l .loop .at) n some (l .loop .inv .1))
+word-at-requires c κs = omega (arith, room-for-four (c .before .before .before .loop .inv) (c .before .before .loop-test .taken))
 
 mul-out : tie.Need-mul-out Inv-loop μ-loop
 mul-out c = search needs
 
 slice-write-out : tie.Need-slice-write-out Inv-loop μ-loop
-slice-write-out c = search needs
+slice-write-out c = omega (arith, c .before .before .before .before .loop .inv .same-size, c .before .before .before .loop-test .taken)
 
 add-k : tie.Need-add-k Inv-loop μ-loop
 add-k c = search needs
 
 add-at-2 : tie.Need-add-at-2 Inv-loop μ-loop
-add-at-2 c =
-    let l = c .before .before .before .before in
-    let a = l .before .before .before .args in
-    let n = a .count - l .loop .k in
-    let some : 0 < n = omega arith in
-    omega (arith, room-for-four (a .text .now) (l .loop .at) n some (l .loop .inv .1))
+add-at-2 c = omega (arith, room-for-four (c .before .before .before .before .loop .inv) (c .before .before .before .loop-test .taken))
 
 loop-less-2 : tie.Need-loop-less-2 Inv-loop μ-loop
-loop-less-2 c =
-    let l = c .before .before .before .before in
-    let a = l .before .before .before .args in
-    let n = a .count - l .loop .k in
-    let some : 0 < n = omega arith in
-    omega (arith, room-for-four (a .text .now) (l .loop .at) n some (l .loop .inv .1))
+loop-less-2 c = omega (arith, room-for-four (c .before .before .before .before .loop .inv) (c .before .before .before .loop-test .taken))
 
 loop-again-2 : tie.Need-loop-again-2 Inv-loop μ-loop
-loop-again-2 c =
-    let l = c .before .before .before .before in
-    let a = l .before .before .before .args in
-    let n = a .count - l .loop .k in
-    let some : 0 < n = omega arith in
-    let e = word-from (a .text .now) (l .loop .at) n some (l .loop .inv .1) (c .before .if1 .left) in (
-      word-stored (a .text .now) (l .loop .out) (l .loop .at) (l .loop .k) (a .count) _ _ (c .word-at .ensures) some e ∙ l .loop .inv .0,
-      words-left (a .text .now) (l .loop .out) (l .loop .at) (l .loop .k) (a .count) _ _ (c .word-at .ensures) some e (l .loop .inv .1),
-      omega arith,
-      length-set (l .loop .out) (l .loop .k) (c .word-at .result) ∙ l .loop .inv .3,
-    )
+loop-again-2 c = word-stored (c .before .before .before .before .loop .inv) (c .before .before .before .loop-test .taken) (c .word-at .result) (c .before .if1 .left) (c .word-at .ensures)
 
 same-length : tie.Need-same-length Inv-loop μ-loop
-same-length c = search needs
+same-length c = c .before .loop .inv .same-size
 
 returns : tie.Need-returns Inv-loop μ-loop
-returns c =
-    let l = c .before in
-    none-left _ (l .loop .out) (l .loop .k) (l .before .before .before .args .count) (c .loop-test .left) ∙ l .loop .inv .0
+returns c = none-left (c .before .loop .inv) (c .loop-test .left)
 
 pub store-words-spec : {M : Type 1} → statement M
 store-words-spec =
