@@ -17,3 +17,4 @@ pub mod CatalogLines
 pub mod MapLines
 pub mod ParsedWords
 pub mod ParsedLists
+pub mod ToldInputs

@@ -6,15 +6,26 @@ use native.Mathlib.Omega.{arith}
 use lib.ListN.{length, drop}
 use lib.Seq.{sets, sets-eq}
 use Rattle.input.specs.Lines.{lines}
-use Rattle.input.specs.Parsing.{Input, words, withFrame, mapFrom, parsed, stored, storedCatalog, storedMap}
+use Rattle.input.specs.Parsing.{Input, refused, words, withFrame, mapFrom, parsed, stored, storedCatalog, storedMap}
 use Rattle.input.specs.Promises.{wordsFrom, FramesFound, RegistersFound}
-use Rattle.input.specs.Answers.{parsedTold, told}
+use Rattle.input.specs.Answers.{parsedTold, refusedTold, told}
 use Rattle.input.proofs.ParsedWords.{catalog-words, map-words}
 
 stored-at-start : (ws old : List ℕ) → length ws ≤ length old → sets old 0 ws ≡ stored ws old
 stored-at-start ws old h =
     let e : 0 + length ws ≡ length ws = omega arith in
     sets-eq ws old 0 (omega arith) ∙ ap (λ (k : ℕ). ws ++ drop k old) e
+
+-- A refusal is told as it is, and leaves both lists as they were.
+module _ {x : Input} {number place : ℕ} (e : x ≡ refused number place) where
+  pub refusal-told : refusedTold number place ≡ told x
+  refusal-told = sym (ap told e)
+
+  pub catalog-kept : (old : List ℕ) → old ≡ storedCatalog x old
+  catalog-kept old = sym (ap (λ (y : Input). storedCatalog y old) e)
+
+  pub map-kept : (old : List ℕ) → old ≡ storedMap x old
+  map-kept old = sym (ap (λ (y : Input). storedMap y old) e)
 
 module _ (text : List ℕ) (frames registers count next found : ℕ)
     (f : FramesFound text frames count (λ room. mapFrom (count + 2) room (lines (drop next text))))

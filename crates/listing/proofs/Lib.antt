@@ -29,6 +29,7 @@ pub mod WalkSteps
 pub mod WalkHeaders
 pub mod RefusalNumbers
 pub mod ListingCases
+pub mod ToldAnswers
 pub mod WalksBehind
 pub mod ModelRecords
 -- With definitions removed

@@ -10,7 +10,7 @@ use Rattle.input.specs.Lines.{ascii, lineFeed}
 use Rattle.listing.specs.Listing.{Record, recordNumbers, entries}
 use Rattle.listing.proofs.WrittenRecords.{entries-length}
 use Rattle.report.specs.Text.{numbersLine, recordLines, listingText}
-use Rattle.report.specs.Promises.{behindNumber, numbersText}
+use Rattle.report.specs.Promises.{behindNumber, numbersText, listText}
 use Rattle.report.proofs.NumberTexts.{texts-append, texts-again}
 
 -- The numbers of a record are its line, and those behind them begin a line.
@@ -26,13 +26,7 @@ record-lines (r ∷ rs) = rw (record-line r (entries rs), record-lines rs)
 
 -- The text that the code makes of the records' numbers, whatever stands behind them in the list.
 pub listing-text : (rs : List Record) (rest : List ℕ) (headers : ℕ)
-    → ascii "points "
-    ++ digitsOf (length rs)
-    ++ ascii " headers "
-    ++ digitsOf headers
-    ++ lineFeed
-    ∷ numbersText 0 (take (length rs * 10) (entries rs ++ rest))
-    ≡ listingText rs headers
+    → listText (length rs) headers (entries rs ++ rest) ≡ listingText rs headers
 unfolding listingText
 listing-text rs rest headers =
     rw (take-at (entries rs) rest (length rs * 10) (omega (arith, entries-length rs)), record-lines rs)

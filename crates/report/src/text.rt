@@ -6,9 +6,8 @@ ghost use Prim.Native.Nat.{_+_, _*_, _≤_};
 ghost use lib.ListN.{length, take};
 ghost use Rattle.display.specs.Decimals.{digitsOf};
 ghost use Rattle.display.specs.Parts.{Put};
-ghost use Rattle.input.specs.Lines.{ascii, lineFeed};
 ghost use Rattle.report.specs.Text.{refusalText};
-ghost use Rattle.report.specs.Promises.{numbersText, behindNumber};
+ghost use Rattle.report.specs.Promises.{numbersText, behindNumber, listText};
 
 // `N at P` and LF. Like each of the following it gives the position behind what it stored.
 pub(crate) fn put_refusal(out: &mut [u8], number: u16, place: usize) -> usize
@@ -26,15 +25,15 @@ pub(crate) fn put_refusal(out: &mut [u8], number: u16, place: usize) -> usize
 pub(crate) fn put_listing(out: &mut [u8], points: usize, headers: usize, list: &[u64]) -> usize
     requires { ⌜ points * 10 ≤ length (now list) ⌝ }
     requires { ⌜ 64 + length (now list) * 21 ≤ length (now out) ⌝ }
-    ensures { λ r. ⌜ Put (now (out .entry)) (now (out .exit)) 0 (ascii "points " ++ digitsOf points ++ ascii " headers " ++ digitsOf headers ++ lineFeed ∷ numbersText 0 (take (points * 10) (now (list .entry)))) r ⌝ }
+    ensures { λ r. ⌜ Put (now (out .entry)) (now (out .exit)) 0 (listText points headers (now (list .entry))) r ⌝ }
     ensures { λ r. ⌜ r ≤ length (now (out .exit)) ⌝ }
 {
     let behind_word = put_bytes(out, 0, b"points ");
     let behind_points = put_number(out, behind_word, points as u64);
-    let behind_second = put_bytes(out, behind_points, b" headers ");
-    let behind_headers = put_number(out, behind_second, headers as u64);
-    let first = put_bytes(out, behind_headers, b"\n");
-    put_numbers(out, first, list, points * WIDTH)
+    let behind_headers_word = put_bytes(out, behind_points, b" headers ");
+    let behind_headers = put_number(out, behind_headers_word, headers as u64);
+    let records = put_bytes(out, behind_headers, b"\n");
+    put_numbers(out, records, list, points * WIDTH)
 }
 
 // The first `count` numbers of a list, ten a line.

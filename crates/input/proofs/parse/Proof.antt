@@ -1,13 +1,12 @@
 -- `parse`: what was found in the lines is what the text gives, and what is stored is what was found.
-use mathlib.Core.Path.{sym, ap, _∙_}
+use mathlib.Core.Path.{ap, _∙_}
 use Prim.Native.Nat.{_/_}
 use native.Mathlib.Omega.{arith}
 use borrow.Author.Needs.{needs}
 use lib.ListN.{length}
 use lib.Seq.{length-sets}
-use Rattle.input.specs.Parsing.{Input, withFrame, storedCatalog, storedMap}
-use Rattle.input.specs.Answers.{told}
-use Rattle.input.proofs.ParsedLists.{catalog-count, map-count, counted, catalog-stored, map-stored}
+use Rattle.input.specs.Parsing.{withFrame}
+use Rattle.input.proofs.ParsedLists.{refusal-told, catalog-kept, map-kept, catalog-count, map-count, counted, catalog-stored, map-stored}
 use Rattle.input.proofs.parse.Statement.{statement}
 use Rattle.input.proofs.parse.Tie as tie
 
@@ -64,26 +63,16 @@ store-words-requires-2 c κs =
 returns : tie.Need-returns
 returns c =
     let a = c .before .before .before .before .before .before .before .args in
-    let e = (rw (c .before .found .given .1) at (c .before .before .before .survey-catalog .ensures)) (length (a .map .now)) in (
-      sym (ap told e),
-      (
-        sym (ap (λ (x : Input). storedCatalog x (a .catalog .now)) e),
-        (sym (ap (λ (x : Input). storedMap x (a .map .now)) e), tt),
-      ),
-    )
+    let e = (rw (c .before .found .given .1) at (c .before .before .before .survey-catalog .ensures)) (length (a .map .now)) in
+    (refusal-told e, (catalog-kept e (a .catalog .now), (map-kept e (a .map .now), tt)))
 
 returns-2 : tie.Need-returns-2
 returns-2 c =
     let a = c .before .before .before .before .before .before .before .before .before .before .before .args in
     let f = rw (c .before .before .before .before .before .found2 .given .1) at (c .before .before .before .before .before .before .before .survey-catalog .ensures) in
     let g = rw (c .before .rest .given .1) at (c .before .before .before .survey-map .ensures) in
-    let e = f .0 .rest (length (a .map .now)) ∙ ap (withFrame (f .0 .catalog)) g in (
-      sym (ap told e),
-      (
-        sym (ap (λ (x : Input). storedCatalog x (a .catalog .now)) e),
-        (sym (ap (λ (x : Input). storedMap x (a .map .now)) e), tt),
-      ),
-    )
+    let e = f .0 .rest (length (a .map .now)) ∙ ap (withFrame (f .0 .catalog)) g in
+    (refusal-told e, (catalog-kept e (a .catalog .now), (map-kept e (a .map .now), tt)))
 
 same-length : tie.Need-same-length
 same-length c = search needs

@@ -5,11 +5,12 @@ use borrow.Author.Needs.{needs}
 use lib.ListN.{length}
 use Rattle.input.specs.Parsing as Parsing
 use Rattle.input.specs.Answers.{answer}
+use Rattle.input.proofs.ToldInputs.{told-refused, told-words}
 use Rattle.listing.specs.Listing.{Answer, listing, stored}
 use Rattle.report.specs.Program.{parsedInput, found, listRoom, storedText, storedList}
 use Rattle.report.specs.Answers.{reportOf}
 use Rattle.report.proofs.ReportCases.{refusal-made}
-use Rattle.report.proofs.InputCases.{told-refused, told-words, catalog-cut, map-cut, found-words, list-stored, found-refused, written}
+use Rattle.report.proofs.InputCases.{catalog-cut, map-cut, found-words, list-stored, found-refused, written}
 use Rattle.report.proofs.read_plant.Statement.{statement}
 use Rattle.report.proofs.read_plant.Tie as tie
 

@@ -5,8 +5,9 @@ use borrow.Author.Needs.{needs}
 use lib.ListN.{length}
 use Rattle.listing.specs.Listing.{listing}
 use Rattle.listing.specs.Answers.{answer}
+use Rattle.listing.proofs.ToldAnswers.{told-refused, told-listed, records-fit}
 use Rattle.report.specs.Program.{listRoom}
-use Rattle.report.proofs.ReportCases.{told-refused, told-listed, records-fit, refusal-made, listing-made}
+use Rattle.report.proofs.ReportCases.{refusal-made, listing-made}
 use Rattle.report.proofs.report_listing.Statement.{statement}
 use Rattle.report.proofs.report_listing.Tie as tie
 
