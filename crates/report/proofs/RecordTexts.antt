@@ -3,10 +3,8 @@ use mathlib.Core.Path.{_≡_, refl, ap, _∙_}
 use mathlib.Core.List.{List, [], _∷_, _++_}
 use Prim.Native.Nat.{ℕ, _*_}
 use native.Mathlib.Omega.{arith}
-use lib.ListN.{length, take}
+use lib.ListN.{length}
 use lib.Seq.{take-at}
-use Rattle.display.specs.Decimals.{digitsOf}
-use Rattle.input.specs.Lines.{ascii, lineFeed}
 use Rattle.listing.specs.Listing.{Record, recordNumbers, entries}
 use Rattle.listing.proofs.WrittenRecords.{entries-length}
 use Rattle.report.specs.Text.{numbersLine, recordLines, listingText}

@@ -1,14 +1,12 @@
 -- The text that is made of an answer.
 use mathlib.Core.Path.{_≡_, ap, _∙_}
-use mathlib.Core.List.{List, _∷_, _++_}
+use mathlib.Core.List.{List, _++_}
 use Prim.Native.Nat.{ℕ, _+_, _*_, _≤_}
 use native.Mathlib.Omega.{arith}
-use lib.ListN.{length, take, drop}
-use Rattle.display.specs.Decimals.{digitsOf}
+use lib.ListN.{length, drop}
 use Rattle.display.specs.Parts.{Put}
 use Rattle.display.proofs.StoredTexts.{put-start, put-same, put-length}
-use Rattle.input.specs.Lines.{ascii, lineFeed}
-use Rattle.listing.specs.Listing.{Record, Answer, refused, listed, refusedTold, listedTold, told, stored, entries, recordWidth, listing}
+use Rattle.listing.specs.Listing.{Answer, refused, stored, entries, recordWidth}
 use Rattle.listing.proofs.ToldAnswers.{Records}
 use Rattle.report.specs.Text.{listingText, refusalText}
 use Rattle.report.specs.Program.{storedText}
