@@ -10,19 +10,19 @@ use Rattle.register_map.specs.Headers.{opening}
 use Rattle.register_map.specs.Scan.{Model, marked, scan}
 use Rattle.register_map.proofs.BehindTheMarker.{scan-behind, opening-behind}
 use Rattle.listing.specs.Reading.{Reading, reading}
-use Rattle.listing.specs.Listing.{Record, listed, walk, withRoom, listedBy, listing}
+use Rattle.listing.specs.Listing.{Record, listed, Answer, walk, recordsBy, withRoom, listing}
 use Rattle.listing.proofs.ListingCases.{catalog-refused, accepted-listed, unopened, opened}
 use Rattle.listing.proofs.WalksBehind.{headers-walked, listed-walks}
 
 module _ (catalog map more : List ℕ) (room : ℕ) (ends : scan map .ending ≡ marked) (fits : length (map ++ more) ≤ 65536) where
   by-opening : (read : Model → Reading) (o : Option ℕ) → opening map ≡ o
-      → listedBy read (map ++ more) room ≡ listedBy read map room
+      → recordsBy read (map ++ more) ≡ recordsBy read map
   by-opening read (some n) o =
-      unopened read (map ++ more) room (opening-behind map more ends fits ∙ o) ∙ sym (unopened read map room o)
+      unopened read (map ++ more) (opening-behind map more ends fits ∙ o) ∙ sym (unopened read map o)
   by-opening read none o =
-      opened read (map ++ more) room (opening-behind map more ends fits ∙ o)
-      ∙ ap (λ s. withRoom room (walk read (s .ending) 0 2 (s .models))) (scan-behind map more ends)
-      ∙ sym (opened read map room o)
+      opened read (map ++ more) (opening-behind map more ends fits ∙ o)
+      ∙ ap {B = Answer} (λ s. walk read (s .ending) 0 2 (s .models)) (scan-behind map more ends)
+      ∙ sym (opened read map o)
 
   by-verdict : (v : Checking.Verdict) → Checking.checked catalog ≡ v
       → listing catalog (map ++ more) room ≡ listing catalog map room
@@ -30,7 +30,7 @@ module _ (catalog map more : List ℕ) (room : ℕ) (ends : scan map .ending ≡
       catalog-refused catalog (map ++ more) room c ∙ sym (catalog-refused catalog map room c)
   by-verdict (Checking.accepted n) c =
       accepted-listed catalog (map ++ more) room c
-      ∙ by-opening (reading (definitions catalog)) (opening map) refl
+      ∙ ap (withRoom room) (by-opening (reading (definitions catalog)) (opening map) refl)
       ∙ sym (accepted-listed catalog map room c)
 
   -- Of a map whose models end at the marker, with at most 65,536 registers (20).

@@ -33,7 +33,7 @@ tiles-append at number from mid to (x ∷ xs) ys (q ∷ qs) rs t u =
 
 -- Points of a model that tile.
 abbrev Laid : ℕ → ℕ → List ModelPoint → List Point → Type 0
-Laid = Tiles (λ p. p .offset) (λ p. p .number)
+Laid = Tiles (λ p. p .offset) (λ p. p .definition .number)
 
 -- The points of an instance.
 points-laid : (body : List ℕ) (scope : Scope) (path : List ℕ) (offset : ℕ) (reach ps : List Point) → Each (SoundPoint reach) ps
@@ -65,7 +65,7 @@ instances-laid size one qs each (suc n) j offset =
     let r = instances-laid size one qs each n (suc j) (offset + size) in
     let e : offset + size + n * size ≡ offset + suc n * size = omega (arith, suc-mul n size) in
     subst (λ to. Laid offset to (one j offset ++ rest) (qs ++ repeated n qs)) e
-    (tiles-append (λ p. p .offset) (λ p. p .number) offset (offset + size) (offset + size + n * size) (one j offset) rest qs
+    (tiles-append (λ p. p .offset) (λ p. p .definition .number) offset (offset + size) (offset + size + n * size) (one j offset) rest qs
     (repeated n qs) (each j offset) r)
 
 -- The points of groups, instance by instance.
@@ -91,7 +91,7 @@ groups-laid body count level scope path offset top enclosing at (group h ps insi
     (ps ++ enclosing) (suc at) inside (e .3) in
     let same : o + pointsSize ps + groupsSize count inside ≡ o + size = omega arith in
     subst (λ to. Laid o to (own j o ++ lower j o) qs) same
-    (tiles-append (λ p. p .offset) (λ p. p .number) o (o + pointsSize ps) (o + pointsSize ps + groupsSize count inside)
+    (tiles-append (λ p. p .offset) (λ p. p .definition .number) o (o + pointsSize ps) (o + pointsSize ps + groupsSize count inside)
     (own j o) (lower j o) ps (laidPoints count inside) p q) in
     let mid = offset + count h * size in
     let i = instances-laid size (λ j o. own j o ++ lower j o) qs each (count h) 0 offset in
@@ -100,7 +100,7 @@ groups-laid body count level scope path offset top enclosing at (group h ps insi
     let first = instances (count h) 0 offset size (λ j o. own j o ++ lower j o) in
     let rest = groupsAt body count level scope path mid behind in
     subst (λ to. Laid offset to (first ++ rest) (repeated (count h) qs ++ laidPoints count behind)) same
-    (tiles-append (λ p. p .offset) (λ p. p .number) offset mid (mid + groupsSize count behind) first rest
+    (tiles-append (λ p. p .offset) (λ p. p .definition .number) offset mid (mid + groupsSize count behind) first rest
     (repeated (count h) qs) (laidPoints count behind) i b)
 
 -- ---- These are points of the definition
@@ -159,7 +159,7 @@ content-tiled d s body f =
       by = c .points ++ qs;
       defined = each-append P (c .points) qs ownDefined lowerDefined;
       tiles = subst (λ to. Laid 0 to (own ++ lower) (c .points ++ qs)) (laid-size (c .points) (c .points) c body (s .groups) f)
-          (tiles-append (λ p. p .offset) (λ p. p .number) 0 (pointsSize (c .points))
+          (tiles-append (λ p. p .offset) (λ p. p .definition .number) 0 (pointsSize (c .points))
           (pointsSize (c .points) + groupsSize count (c .groups)) own lower (c .points) qs p g);
     }
 

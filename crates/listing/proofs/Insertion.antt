@@ -56,7 +56,7 @@ insertion-told catalog map gaps out whole unknown short =
 pub shifted-numbers : (ms : List Model) (r : Record) → recordNumbers (shifted ms r)
     ≡ (r .index + length ms)
     ∷ r .id
-    ∷ r .point .number
+    ∷ r .point .definition .number
     ∷ r .point .level2
     ∷ r .point .level3
     ∷ r .point .level4

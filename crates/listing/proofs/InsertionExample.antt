@@ -19,7 +19,7 @@ use Rattle.register_map.specs.Insertion.{placed, lengthened, gapsBefore}
 use Rattle.listing.specs.Points.{ModelPoint, pointAt}
 use Rattle.listing.specs.Layout.{within, groupsSize, fillSize, countUnimplemented, fits, fillOf, pointsAt, groupsAt, contentAt}
 use Rattle.listing.specs.Reading.{endsWithPad, laidOut, readBy, topOf, reading}
-use Rattle.listing.specs.Listing.{Record, listed, walk, withRoom, listedBy, listing}
+use Rattle.listing.specs.Listing.{Record, listed, walk, recordsBy, allRecords, withRoom, listing}
 use Rattle.listing.specs.Stability.{MadeOfWholeModels, UnknownModel, movedAnswer, MovedByLower}
 use Rattle.listing.proofs.Insertion.{insertion}
 
@@ -51,7 +51,17 @@ unfolding scanFrom scan placed lengthened Scan.modelRegisters
 is-longer = refl
 
 abbrev point : ℕ → ModelPoint
-point raw = record { offset = 0; number = 1; level2 = 0; level3 = 0; level4 = 0; status = 0; raw = raw; scale = 0 }
+point raw =
+    record {
+      offset = 0;
+      definition = record { number = 1; typeCode = 2; size = 1; scaleKind = 0; scale = 0; mandatory = 0; access = 0 };
+      level2 = 0;
+      level3 = 0;
+      level4 = 0;
+      status = 0;
+      raw = raw;
+      scale = 0;
+    }
 
 abbrev model1 : Record
 model1 = record { index = 0; id = 1; address = 4; point = point 40 }
@@ -61,11 +71,11 @@ pub old : listing catalog plant 20
 unfolding rows rowAmong registersOf join shownRaw tooWide inRange classOf classified
     frameOf framesFrom isSizeOf checkFrom checked parsed opening scanFrom scan
     pointAt within groupsSize fillSize countUnimplemented fits fillOf pointsAt groupsAt contentAt
-    endsWithPad laidOut readBy topOf reading walk withRoom listedBy listing
+    endsWithPad laidOut readBy topOf reading walk recordsBy allRecords withRoom listing
 old = refl
 
 whole : MadeOfWholeModels plant
-unfolding MadeOfWholeModels frameOf framesFrom checkFrom checked parsed opening scanFrom scan topOf reading walk withRoom listedBy listing
+unfolding MadeOfWholeModels frameOf framesFrom checkFrom checked parsed opening scanFrom scan topOf reading walk recordsBy allRecords withRoom listing
 whole = (3, refl)
 
 well : (id : ℕ) (x : ℕ) (xs : List ℕ) → (id ≡ 0 → ⊥) → (id ≡ 65535 → ⊥) → WellFormed (record { id = id; body = x ∷ xs })

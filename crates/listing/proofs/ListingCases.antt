@@ -1,8 +1,9 @@
 -- The ways in which listing comes to its answer.
-use mathlib.Core.Path.{_≡_, refl, ap, _∙_}
+use mathlib.Core.Path.{_≡_, refl, sym, ap, _∙_}
 use mathlib.Core.List.{List}
 use mathlib.Core.Option.{Option, none, some}
 use Prim.Native.Nat.{ℕ, _*_, _≤_, _<_}
+use native.Mathlib.Omega.{arith}
 use borrow.Author.Tests.{ltb-true, ltb-false, le-ltb}
 use lib.Dec.{ltb}
 use lib.ListN.{length}
@@ -12,7 +13,7 @@ use Rattle.values.proofs.TestOutcomes.{by-test}
 use Rattle.register_map.specs.Headers.{opening}
 use Rattle.register_map.specs.Scan.{Model}
 use Rattle.listing.specs.Reading.{Reading, reading}
-use Rattle.listing.specs.Listing.{Record, recordWidth, Answer, refused, listed, withRoom, walked, listedBy, listing}
+use Rattle.listing.specs.Listing.{Record, recordWidth, Answer, refused, listed, walked, recordsBy, allRecords, withRoom, listing}
 
 -- ---- 1 to 11, 20 and 21, and 30
 
@@ -20,23 +21,23 @@ use Rattle.listing.specs.Listing.{Record, recordWidth, Answer, refused, 
 pub catalog-refused : (catalog map : List ℕ) (room : ℕ) {number place : ℕ}
     → Checking.checked catalog ≡ Checking.refused number place
     → listing catalog map room ≡ refused number place 0
-unfolding listing
-catalog-refused catalog map room e = rw (e, listing)
+unfolding allRecords withRoom listing
+catalog-refused catalog map room e = rw (e, allRecords, listing)
 
 pub accepted-listed : (catalog map : List ℕ) (room : ℕ) {n : ℕ} → Checking.checked catalog ≡ Checking.accepted n
-    → listing catalog map room ≡ listedBy (reading (definitions catalog)) map room
-unfolding listing
-accepted-listed catalog map room e = rw (e, listing)
+    → listing catalog map room ≡ withRoom room (recordsBy (reading (definitions catalog)) map)
+unfolding allRecords listing
+accepted-listed catalog map room e = rw (e, allRecords, listing)
 
 -- A map that is refused as a whole.
-module _ (read : Model → Reading) (map : List ℕ) (room : ℕ) where
-  pub unopened : {n : ℕ} → opening map ≡ some n → listedBy read map room ≡ refused n 0 0
-  unfolding listedBy
-  unopened o = rw (o, listedBy)
+module _ (read : Model → Reading) (map : List ℕ) where
+  pub unopened : {n : ℕ} → opening map ≡ some n → recordsBy read map ≡ refused n 0 0
+  unfolding recordsBy
+  unopened o = rw (o, recordsBy)
 
-  pub opened : opening map ≡ none → listedBy read map room ≡ withRoom room (walked read map)
-  unfolding listedBy
-  opened o = rw (o, listedBy)
+  pub opened : opening map ≡ none → recordsBy read map ≡ walked read map
+  unfolding recordsBy
+  opened o = rw (o, recordsBy)
 
 -- Records that have room are listed.
 pub with-room : (room : ℕ) (rs : List Record) (headers : ℕ) → recordWidth * length rs ≤ room
@@ -75,11 +76,12 @@ module _ (catalog map : List ℕ) (room : ℕ) where
       (λ t. noRoom w (ltb-true room (recordWidth * length rs) t)) (λ t. allListed w (ltb-false room (recordWidth * length rs) t))
 
   by-opening : (n : ℕ) → Checking.checked catalog ≡ Checking.accepted n → (o : Option ℕ) → opening map ≡ o
-      → Case catalog map room (listedBy (reading (definitions catalog)) map room)
-  by-opening n a (some k) o = rw (unopened (reading (definitions catalog)) map room o) (openingRefused a o)
+      → Case catalog map room (withRoom room (recordsBy (reading (definitions catalog)) map))
+  unfolding withRoom
+  by-opening n a (some k) o = rw (unopened (reading (definitions catalog)) map o) (openingRefused a o)
   by-opening n a none o =
       let answer = walked (reading (definitions catalog)) map in
-      rw (opened (reading (definitions catalog)) map room o)
+      rw (opened (reading (definitions catalog)) map o)
       (by-room answer (record { models = n; accepted = a; opens = o; walks = refl }))
 
   by-verdict : (v : Checking.Verdict) → Checking.checked catalog ≡ v → Case catalog map room (listing catalog map room)
@@ -94,10 +96,59 @@ module _ (catalog map : List ℕ) (room : ℕ) where
   pub listing-walks : {answer : Answer} → Walks catalog map answer → listing catalog map room ≡ withRoom room answer
   listing-walks w =
       accepted-listed catalog map room (w .accepted)
-      ∙ opened (reading (definitions catalog)) map room (w .opens)
-      ∙ ap (withRoom room) (w .walks)
+      ∙ ap (withRoom room) (opened (reading (definitions catalog)) map (w .opens) ∙ w .walks)
 
   -- Where the map does not open, that is the answer of every accepted catalog.
   pub listing-unopened : {models n : ℕ} → Checking.checked catalog ≡ Checking.accepted models → opening map ≡ some n
       → listing catalog map room ≡ refused n 0 0
-  listing-unopened a o = accepted-listed catalog map room a ∙ unopened (reading (definitions catalog)) map room o
+  unfolding withRoom
+  listing-unopened a o =
+      accepted-listed catalog map room a ∙ ap (withRoom room) (unopened (reading (definitions catalog)) map o)
+
+-- ---- All records, whatever the room
+
+module _ (catalog map : List ℕ) where
+  pub records-refused : {number place : ℕ} → Checking.checked catalog ≡ Checking.refused number place
+      → allRecords catalog map ≡ refused number place 0
+  unfolding allRecords
+  records-refused e = rw (e, allRecords)
+
+  pub records-accepted : {n : ℕ} → Checking.checked catalog ≡ Checking.accepted n
+      → allRecords catalog map ≡ recordsBy (reading (definitions catalog)) map
+  unfolding allRecords
+  records-accepted e = rw (e, allRecords)
+
+  -- Where the records are listed, a walk came to them.
+  pub records-walk : {rs : List Record} {headers : ℕ} → allRecords catalog map ≡ listed rs headers
+      → Walks catalog map (listed rs headers)
+  records-walk {rs} {headers} e = by-verdict (Checking.checked catalog) refl
+    where
+      by-opening : {n : ℕ} → Checking.checked catalog ≡ Checking.accepted n → (o : Option ℕ) → opening map ≡ o
+          → Walks catalog map (listed rs headers)
+      by-opening a (some k) o =
+          let q = sym e ∙ records-accepted a ∙ unopened (reading (definitions catalog)) map o in
+          let z : _≡_ {A = ℕ} 0 1 = cc in
+          absurd (omega arith)
+      by-opening {n} a none o =
+          record {
+            models = n;
+            accepted = a;
+            opens = o;
+            walks = sym (opened (reading (definitions catalog)) map o) ∙ sym (records-accepted a) ∙ e;
+          }
+
+      by-verdict : (v : Checking.Verdict) → Checking.checked catalog ≡ v → Walks catalog map (listed rs headers)
+      by-verdict (Checking.refused n place) c =
+          let q = sym e ∙ records-refused c in
+          let z : _≡_ {A = ℕ} 0 1 = cc in
+          absurd (omega arith)
+      by-verdict (Checking.accepted n) c = by-opening c (opening map) refl
+
+  -- And where a walk comes to an answer, it is that of all records.
+  pub walk-records : {answer : Answer} → Walks catalog map answer → allRecords catalog map ≡ answer
+  walk-records w = records-accepted (w .accepted) ∙ opened (reading (definitions catalog)) map (w .opens) ∙ w .walks
+
+-- Listing is all records, if there is room.
+pub listing-records : (catalog map : List ℕ) (room : ℕ) → listing catalog map room ≡ withRoom room (allRecords catalog map)
+unfolding listing
+listing-records catalog map room = refl

@@ -16,7 +16,7 @@ use Rattle.listing.specs.Listing.{Answer, walk, withRoom, listing}
 use Rattle.listing.specs.Stability.{UnknownModel, movedAnswer, MovedByLower}
 use Rattle.listing.proofs.EachLaws.{each-implied}
 use Rattle.listing.proofs.RefusalNumbers.{catalog-number}
-use Rattle.listing.proofs.ListingCases.{listing-walks}
+use Rattle.listing.proofs.ListingCases.{catalog-refused, listing-walks}
 use Rattle.listing.proofs.ReadingLeft.{unknown-left}
 use Rattle.listing.proofs.PointsInside.{accepted-inside}
 use Rattle.listing.proofs.WalkMoved.{walk-moved}
@@ -50,10 +50,9 @@ module _ (catalog : List ℕ) (room : ℕ) where
 
   module _ (map new : List ℕ) (ms : List Model) (gaps : List (List Model)) where
     by-refused : (number place : ℕ) → checked catalog ≡ Checking.refused number place → Moved catalog room map new ms gaps
-    unfolding listing
     by-refused number place e =
         let few = catalog-number number place catalog e .1 in
-        rw (e, listing) (sym (moved-catalog (length ms) gaps number place 0 few), lower-catalog ms gaps number place 0 few)
+        rw (catalog-refused catalog map room e, catalog-refused catalog new room e) (sym (moved-catalog (length ms) gaps number place 0 few), lower-catalog ms gaps number place 0 few)
 
     by-accepted : (n : ℕ) → checked catalog ≡ accepted n → HasModels map ms → HasModels new (allModels (placed ms gaps))
         → Each (Each (λ m. reading (definitions catalog) m ≡ unknown)) gaps → Moved catalog room map new ms gaps

@@ -35,17 +35,17 @@ accepted-tiled : (catalog : List ℕ) (n : ℕ) → checked catalog ≡ accepted
 accepted-tiled catalog n e = reading-tiled (definitions catalog) (accepted-is-sound catalog n e .0 .each)
 
 -- Points that fill the registers up to an end begin there at the latest,
-tiled-inside : (from end : ℕ) (ps : List ModelPoint) (qs : List Point) → Tiles (λ p. p .offset) (λ p. p .number) from end ps qs
+tiled-inside : (from end : ℕ) (ps : List ModelPoint) (qs : List Point) → Tiles (λ p. p .offset) (λ p. p .definition .number) from end ps qs
     → Each (λ p. p .offset ≤ end) ps
 tiled-inside from end [] [] t = tt
 tiled-inside from end [] (q ∷ qs) t = absurd t
 tiled-inside from end (p ∷ ps) [] t = absurd t
 tiled-inside from end (p ∷ ps) (q ∷ qs) t =
-    let u = upward (λ p. p .offset) (λ p. p .number) (from + q .size) end ps qs (t .3) in
+    let u = upward (λ p. p .offset) (λ p. p .definition .number) (from + q .size) end ps qs (t .3) in
     (omega (arith, t .0, u), tiled-inside (from + q .size) end ps qs (t .3))
 
 -- and are no more than these registers.
-tiled-few : (from end : ℕ) (ps : List ModelPoint) (qs : List Point) → Tiles (λ p. p .offset) (λ p. p .number) from end ps qs
+tiled-few : (from end : ℕ) (ps : List ModelPoint) (qs : List Point) → Tiles (λ p. p .offset) (λ p. p .definition .number) from end ps qs
     → from + length ps ≤ end
 tiled-few from end [] [] t = omega arith
 tiled-few from end [] (q ∷ qs) t = absurd t

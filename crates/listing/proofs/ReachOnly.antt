@@ -84,7 +84,7 @@ abbrev shownBy : List ℕ → List ℕ → ℕ → Point → ℕ → ℕ → Mod
 shownBy body path offset p status scale =
     record {
       offset = offset;
-      number = p .number;
+      definition = p;
       level2 = getD path 0 0;
       level3 = getD path 1 0;
       level4 = getD path 2 0;

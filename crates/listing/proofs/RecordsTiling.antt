@@ -77,8 +77,8 @@ body-filled catalog n e d o m same ps r =
 
 -- The records of points that tile a body.
 records-tile : (i at : ℕ) (m : Model) (from to : ℕ) (ps : List ModelPoint) (qs : List Point)
-    → Tiles (λ p. p .offset) (λ p. p .number) from to ps qs
-    → Tiles (λ r. r .address) (λ r. r .point .number) (at + 2 + from) (at + 2 + to) (map (recordOf i at (m .id)) ps) qs
+    → Tiles (λ p. p .offset) (λ p. p .definition .number) from to ps qs
+    → Tiles (λ r. r .address) (λ r. r .point .definition .number) (at + 2 + from) (at + 2 + to) (map (recordOf i at (m .id)) ps) qs
 records-tile i at m from to [] [] t = ap (λ n. at + 2 + n) t
 records-tile i at m from to [] (q ∷ qs) t = t
 records-tile i at m from to (p ∷ ps) [] t = t
@@ -88,7 +88,7 @@ records-tile i at m from to (p ∷ ps) (q ∷ qs) t =
       ap (λ n. at + 2 + n) (t .0),
       t .1,
       t .2,
-      subst (λ n. Tiles (λ r. r .address) (λ r. r .point .number) n (at + 2 + to) (map (recordOf i at (m .id)) ps) qs) same r,
+      subst (λ n. Tiles (λ r. r .address) (λ r. r .point .definition .number) n (at + 2 + to) (map (recordOf i at (m .id)) ps) qs) same r,
     )
 
 -- They have the model's id.
@@ -141,7 +141,7 @@ module _ (catalog registers : List ℕ) (room : ℕ) (rs : List Record) (headers
           let from : at + 2 + 0 ≡ at + 2 = omega arith in
           let to : at + 2 + l ≡ at + sizeOf m = omega arith in
           let own = map (recordOf i at (m .id)) ps in
-          let T : ℕ → ℕ → Type 0 = λ x y. Tiles (λ r. r .address) (λ r. r .point .number) x y own (b .by) in
+          let T : ℕ → ℕ → Type 0 = λ x y. Tiles (λ r. r .address) (λ r. r .point .definition .number) x y own (b .by) in
           subst (RecordsTiled d (at + 2) (at + sizeOf m)) (sym t)
           (record {
             by = b .by;

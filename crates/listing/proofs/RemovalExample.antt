@@ -17,7 +17,7 @@ use Rattle.register_map.specs.Scan.{scanFrom, scan}
 use Rattle.listing.specs.Points.{ModelPoint, pointAt}
 use Rattle.listing.specs.Layout.{within, groupsSize, fillSize, countUnimplemented, fits, fillOf, pointsAt, groupsAt, contentAt}
 use Rattle.listing.specs.Reading.{endsWithPad, laidOut, readBy, topOf, reading}
-use Rattle.listing.specs.Listing.{Record, recordWidth, listed, walk, withRoom, listedBy, listing}
+use Rattle.listing.specs.Listing.{Record, recordWidth, listed, walk, recordsBy, allRecords, withRoom, listing}
 use Rattle.listing.specs.Removed.{keepsId, recordsLeft}
 use Rattle.listing.proofs.Removal.{removal}
 
@@ -38,7 +38,17 @@ plant = 0x5375 ∷ 0x6E53 ∷ 1 ∷ 1 ∷ 40 ∷ 9 ∷ 2 ∷ 0 ∷ 0 ∷ 7 ∷ 1
 
 -- A point of these models with its value.
 abbrev point : ℕ → ModelPoint
-point raw = record { offset = 0; number = 1; level2 = 0; level3 = 0; level4 = 0; status = 0; raw = raw; scale = 0 }
+point raw =
+    record {
+      offset = 0;
+      definition = record { number = 1; typeCode = 2; size = 1; scaleKind = 0; scale = 0; mandatory = 0; access = 0 };
+      level2 = 0;
+      level3 = 0;
+      level4 = 0;
+      status = 0;
+      raw = raw;
+      scale = 0;
+    }
 
 abbrev model1 : Record
 model1 = record { index = 0; id = 1; address = 4; point = point 40 }
@@ -51,7 +61,7 @@ pub both-listed : listing catalog plant 20 ≡ listed (model1 ∷ model7 ∷ [])
 unfolding rows rowAmong registersOf join shownRaw tooWide inRange classOf classified
     frameOf framesFrom isSizeOf checkFrom checked parsed opening scanFrom scan
     pointAt within groupsSize fillSize countUnimplemented fits fillOf pointsAt groupsAt contentAt
-    endsWithPad laidOut readBy topOf reading walk withRoom listedBy listing
+    endsWithPad laidOut readBy topOf reading walk recordsBy allRecords withRoom listing
 both-listed = refl
 
 -- What is left of it without model 1.

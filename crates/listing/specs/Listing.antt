@@ -29,7 +29,7 @@ unfoldable pub recordNumbers : Record → List ℕ
 recordNumbers r =
     r .index
     ∷ r .id
-    ∷ r .point .number
+    ∷ r .point .definition .number
     ∷ r .point .level2
     ∷ r .point .level3
     ∷ r .point .level4
@@ -65,28 +65,31 @@ walk read ending index at (m ∷ ms) =
       | points ps ↦ withRecords (map (recordOf index at (m .id)) ps) (walk read ending (index + 1) (at + sizeOf m) ms)
     ]
 
+-- The map's models by how they are read.
+abbrev pub walked : (Model → Reading) → List ℕ → Answer
+walked read map = walk read (scan map .ending) 0 2 (scan map .models)
+
+-- The map by how its models are read: 20 and 21 first.
+unfoldable pub recordsBy : (Model → Reading) → List ℕ → Answer
+recordsBy read map = elim (opening map) [ some number ↦ refused number 0 0 | none ↦ walked read map ]
+
+-- 1 to 29, or all records of a map by a catalog, whatever the room for them: 1 to 11 first.
+unfoldable pub allRecords : List ℕ → List ℕ → Answer
+allRecords catalog map =
+    elim (Checking.checked catalog) [
+      | Checking.refused number place ↦ refused number place 0
+      | Checking.accepted models ↦ recordsBy (reading (definitions catalog)) map
+    ]
+
 -- 30: the list has fewer than ten entries a point; its place is the number of points.
 unfoldable pub withRoom : ℕ → Answer → Answer
 withRoom room (refused number place headers) = refused number place headers
 withRoom room (listed rs headers) =
     elim (ltb room (recordWidth * length rs)) [ true ↦ refused 30 (length rs) headers | false ↦ listed rs headers ]
 
--- The map's models by the definitions, whatever the room.
-abbrev pub walked : (Model → Reading) → List ℕ → Answer
-walked read map = walk read (scan map .ending) 0 2 (scan map .models)
-
--- The map by how its models are read: 20 and 21, header by header, and 30.
-unfoldable pub listedBy : (Model → Reading) → List ℕ → ℕ → Answer
-listedBy read map room =
-    elim (opening map) [ some number ↦ refused number 0 0 | none ↦ withRoom room (walked read map) ]
-
--- Listing a map by a catalog, into a list of so many entries: 1 to 11 first.
+-- Listing a map by a catalog, into a list of so many entries: 30 last.
 unfoldable pub listing : List ℕ → List ℕ → ℕ → Answer
-listing catalog map room =
-    elim (Checking.checked catalog) [
-      | Checking.refused number place ↦ refused number place 0
-      | Checking.accepted models ↦ listedBy (reading (definitions catalog)) map room
-    ]
+listing catalog map room = withRoom room (allRecords catalog map)
 
 -- ---- The answer and the output list
 

@@ -8,11 +8,11 @@ use Rattle.values.specs.Registers.{join, shownRaw}
 use Rattle.values.specs.Classes.{value, unimplemented, outOfRange, Classified, ofClass, tooWide, unknownType, classified}
 use Rattle.catalog.specs.Frames.{Point, fixedScale, scaleByPoint, sunssf}
 
--- A point of a model: where it lies behind the length register, its number, its instance numbers at levels 2, 3 and 4 (0 where
--- absent), its status, raw value and scale.
+-- A point of a model: where it lies behind the length register, the point of the catalog that it is by, its instance numbers at
+-- levels 2, 3 and 4 (0 where absent), its status, raw value and scale.
 pub record ModelPoint : Type 0 where
   pub offset : ℕ
-  pub number : ℕ
+  pub definition : Point
   pub level2 : ℕ
   pub level3 : ℕ
   pub level4 : ℕ
@@ -70,7 +70,7 @@ unfoldable pub pointAt : List ℕ → Scope → List ℕ → ℕ → Point → M
 pointAt body scope path offset p =
     record {
       offset = offset;
-      number = p .number;
+      definition = p;
       level2 = getD path 0 0;
       level3 = getD path 1 0;
       level4 = getD path 2 0;

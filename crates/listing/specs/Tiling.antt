@@ -37,13 +37,13 @@ Tiles at number from to (x ∷ xs) (q ∷ qs) =
 pub record BodyTiled (d : Definition) (len : ℕ) (ps : List ModelPoint) : Type 0 where
   pub by : List Point
   pub defined : Each (λ q. In q (definedPoints d)) by
-  pub tiles : Tiles (λ p. p .offset) (λ p. p .number) 0 len ps by
+  pub tiles : Tiles (λ p. p .offset) (λ p. p .definition .number) 0 len ps by
 
 -- Records are of a definition's model and, by its points, fill the registers from an address up to another.
 pub record RecordsTiled (d : Definition) (from to : ℕ) (rs : List Record) : Type 0 where
   pub by : List Point
   pub defined : Each (λ q. In q (definedPoints d)) by
-  pub tiles : Tiles (λ r. r .address) (λ r. r .point .number) from to rs by
+  pub tiles : Tiles (λ r. r .address) (λ r. r .point .definition .number) from to rs by
   pub ids : Each (λ r. r .id ≡ d .id) rs
 
 -- ---- The records of one model

@@ -55,51 +55,12 @@ pub fn list(catalog: &[u16], map: &[u16], out: &mut [u64]) -> Listing
     ensures { λ r. ⌜ answer r ≡ Listings.told (Listings.listing (now (catalog .entry)) (now (map .entry)) (length (now (out .entry)))) ⌝ }
     ensures { λ _. ⌜ now (out .exit) ≡ Listings.stored (Listings.listing (now (catalog .entry)) (now (map .entry)) (length (now (out .entry)))) (now (out .entry)) ⌝ }
 {
-    let checked = check(catalog);
-    match checked {
-        Checked::Models(_) => list_checked(catalog, map, out),
-        Checked::Refused { number, place } => Listing::Refused {
-            number,
-            place,
-            headers: 0,
-        },
-    }
-}
-
-// Lists by a catalog that was accepted.
-fn list_checked(catalog: &[u16], map: &[u16], out: &mut [u64]) -> Listing
-    requires { ⌜ Accepted (now catalog) ⌝ }
-    ensures { λ r. ⌜ answer r ≡ Listings.told (Listings.listedBy (reading (definitions (now (catalog .entry)))) (now (map .entry)) (length (now (out .entry)))) ⌝ }
-    ensures { λ _. ⌜ now (out .exit) ≡ Listings.stored (Listings.listedBy (reading (definitions (now (catalog .entry)))) (now (map .entry)) (length (now (out .entry)))) (now (out .entry)) ⌝ }
-{
-    let opening = opened(map);
-    match opening {
-        Opening::Opened => list_opened(catalog, map, out),
-        Opening::Refused(number) => Listing::Refused {
-            number,
-            place: 0,
-            headers: 0,
-        },
-    }
-}
-
-// Lists a map that begins with 5375 6E53 and is not too long: a first walk over its headers decides, a second one writes.
-fn list_opened(catalog: &[u16], map: &[u16], out: &mut [u64]) -> Listing
-    requires { ⌜ Accepted (now catalog) ⌝ }
-    requires { ⌜ opening (now map) ≡ none ⌝ }
-    ensures { λ r. ⌜ answer r ≡ Listings.told (Listings.withRoom (length (now (out .entry))) (Listings.walked (reading (definitions (now (catalog .entry)))) (now (map .entry)))) ⌝ }
-    ensures { λ _. ⌜ now (out .exit) ≡ Listings.stored (Listings.withRoom (length (now (out .entry))) (Listings.walked (reading (definitions (now (catalog .entry)))) (now (map .entry)))) (now (out .entry)) ⌝ }
-{
     let mut table = [0u16; NUMBERS];
-    let survey = survey_map(catalog, map, &mut table);
+    let survey = survey_plant(catalog, map, &mut table);
     match survey {
         Listing::Listed { points, headers } => {
             if out.len() / WIDTH < points {
-                return Listing::Refused {
-                    number: 30,
-                    place: points,
-                    headers,
-                };
+                return refused(30, points, headers);
             }
             put_map(catalog, map, &mut table, out);
             Listing::Listed { points, headers }
@@ -108,11 +69,34 @@ fn list_opened(catalog: &[u16], map: &[u16], out: &mut [u64]) -> Listing
             number,
             place,
             headers,
-        } => Listing::Refused {
-            number,
-            place,
-            headers,
-        },
+        } => refused(number, place, headers),
+    }
+}
+
+// 1 to 29, or the points of all known models and the headers: a walk over the headers that writes nothing.
+fn survey_plant(catalog: &[u16], map: &[u16], table: &mut [u16]) -> Listing
+    requires { ⌜ IsTable (now table) ⌝ }
+    ensures { λ r. ⌜ answer r ≡ Listings.told (Listings.allRecords (now (catalog .entry)) (now (map .entry))) ⌝ }
+    ensures { λ _. ⌜ IsTable (now (table .exit)) ⌝ }
+{
+    let checked = check(catalog);
+    match checked {
+        Checked::Models(_) => survey_checked(catalog, map, table),
+        Checked::Refused { number, place } => refused(number, place, 0),
+    }
+}
+
+// The same by a catalog that was accepted.
+fn survey_checked(catalog: &[u16], map: &[u16], table: &mut [u16]) -> Listing
+    requires { ⌜ Accepted (now catalog) ⌝ }
+    requires { ⌜ IsTable (now table) ⌝ }
+    ensures { λ r. ⌜ answer r ≡ Listings.told (Listings.recordsBy (reading (definitions (now (catalog .entry)))) (now (map .entry))) ⌝ }
+    ensures { λ _. ⌜ IsTable (now (table .exit)) ⌝ }
+{
+    let opening = opened(map);
+    match opening {
+        Opening::Opened => survey_map(catalog, map, table),
+        Opening::Refused(number) => refused(number, 0, 0),
     }
 }
 

@@ -14,7 +14,7 @@ use Rattle.register_map.specs.Scan.{scanFrom, scan}
 use Rattle.listing.specs.Points.{pointAt}
 use Rattle.listing.specs.Layout.{within, groupsSize, fillSize, countUnimplemented, fits, fillOf, pointsAt, instances, groupsAt, contentAt}
 use Rattle.listing.specs.Reading.{endsWithPad, allButLast, laidOut, readBy, topOf, reading}
-use Rattle.listing.specs.Listing.{recordNumbers, walk, withRoom, listedBy, listing}
+use Rattle.listing.specs.Listing.{recordNumbers, walk, recordsBy, allRecords, withRoom, listing}
 use Rattle.display.specs.Decimals.{lastDigits, digitCountWithin}
 use Rattle.input.specs.Lines.{ascii, lines}
 use Rattle.input.specs.Digits.{digitValue, isDigit, digitOr0, wordsOf}
@@ -53,5 +53,5 @@ cases =
 
 -- Every input prints what its case says.
 pub printed-so : map (λ (c : Case). output (c .0)) cases ≡ map (λ (c : Case). c .1) cases
-unfolding cases checkFrom checked framesFrom frameOf isSizeOf rows rowAmong mayScale registersOf twosComplement join shownRaw tooWide integer inRange classOf classified Definitions.parsed opening scanFrom scan pointAt within groupsSize fillSize countUnimplemented fits fillOf pointsAt instances groupsAt contentAt endsWithPad allButLast laidOut readBy topOf reading recordNumbers walk withRoom listedBy listing lastDigits digitCountWithin lines digitValue isDigit digitOr0 wordsOf mapFrom catalogFrom numbersLine recordLines listingText refusalText found
+unfolding cases checkFrom checked framesFrom frameOf isSizeOf rows rowAmong mayScale registersOf twosComplement join shownRaw tooWide integer inRange classOf classified Definitions.parsed opening scanFrom scan pointAt within groupsSize fillSize countUnimplemented fits fillOf pointsAt instances groupsAt contentAt endsWithPad allButLast laidOut readBy topOf reading recordNumbers walk recordsBy allRecords withRoom listing lastDigits digitCountWithin lines digitValue isDigit digitOr0 wordsOf mapFrom catalogFrom numbersLine recordLines listingText refusalText found
 printed-so = refl

@@ -1,56 +1,114 @@
--- `listing::list` meets its contract: 1 to 11 come first.
-use mathlib.Core.Path.{sym, ap, _∙_}
+-- `listing::list` meets its contract: the survey refuses or counts, then comes 30, then the records are written.
+use mathlib.Core.Path.{_≡_, sym, ap, subst, _∙_}
+use mathlib.Core.List.{List}
+use Prim.Native.Nat.{ℕ, _/_, _≤_}
+use native.Mathlib.Omega.{arith}
 use lib.ListN.{length}
-use Rattle.catalog.specs.Answers as Catalog
-use Rattle.listing.proofs.ListingCases.{accepted-listed, catalog-refused}
-use Rattle.listing.proofs.WholeAnswer.{answered-by, refused-answered}
+use Rattle.catalog.specs.Definitions.{definitions}
+use Rattle.listing.specs.Reading.{reading}
+use Rattle.listing.specs.Listing.{walked, allRecords, listedTold, told, stored, recordWidth}
+use Rattle.listing.specs.Promises.{WalkFits}
+use Rattle.listing.specs.Answers.{answer}
+use Rattle.listing.proofs.ListingCases.{Walks, records-walk, listing-records}
+use Rattle.listing.proofs.ToldAnswers.{told-listed}
+use Rattle.listing.proofs.WholeAnswer.{answered-by, no-room, has-room, before-room}
 use borrow.Author.Needs.{needs}
 use Rattle.listing.proofs.list.Statement.{statement}
 use Rattle.listing.proofs.list.Tie as tie
 
-check-requires : tie.Need-check-requires
-check-requires c κs = search needs
+-- A survey that counts points comes from a walk, whose records fit a list with room for as many.
+survey-walk : (catalog registers out : List ℕ) (points headers : ℕ) → listedTold points headers ≡ told (allRecords catalog registers)
+    → points ≤ length out / recordWidth
+    → (Walks catalog registers (allRecords catalog registers))
+    × (WalkFits (walked (reading (definitions catalog)) registers) out)
+    × (walked (reading (definitions catalog)) registers ≡ allRecords catalog registers)
+survey-walk catalog registers out points headers e room =
+    let r = told-listed (allRecords catalog registers) points headers e in
+    let w = subst (Walks catalog registers) (sym (r .is)) (records-walk catalog registers (r .is)) in
+    let fits = has-room out (allRecords catalog registers) points headers e room .0 in
+    (w, subst (λ a. WalkFits a out) (sym (w .walks)) fits, w .walks)
 
-enum-told : tie.Need-enum-told
-enum-told c = search needs
+slice-aggregate-survey-plant : tie.Need-slice-aggregate-survey-plant
+slice-aggregate-survey-plant c = search needs
 
-list-checked-requires : tie.Need-list-checked-requires
-list-checked-requires c κs =
-    let t = c .before in
-    (t .enum-told .given .0 .0, sym (t .before .before .check .ensures) ∙ ap Catalog.answer (t .enum-told .given .1))
+survey-plant-requires : tie.Need-survey-plant-requires
+survey-plant-requires c κs = search needs
 
-enum-known-checked : tie.Need-enum-known-checked
-enum-known-checked c = search needs
+enum-known-survey : tie.Need-enum-known-survey
+enum-known-survey c = search needs
+
+refused-requires : tie.Need-refused-requires
+refused-requires c κs = search needs
+
+returns : tie.Need-returns
+returns c =
+    let m = c .before .before .before .before .before .before in
+    let v = c .before .before .before .before .before .before .before .before .before .before .before .args in
+    let out = v .out .now in
+    let a = allRecords (v .catalog .now) (v .map .now) in
+    let g = c .before .before .before .survey .given in
+    let e = sym (ap answer (g .1)) ∙ m .survey-plant .ensures .0 in
+    let n = no-room out a (g .0 .0) (g .0 .1 .0) e (omega arith) in
+    answered-by out (listing-records (v .catalog .now) (v .map .now) (length out)) (c .refused .ensures ∙ n .0, n .1)
+
+slice-aggregate-put-map : tie.Need-slice-aggregate-put-map
+slice-aggregate-put-map c = search needs
+
+put-map-requires : tie.Need-put-map-requires
+put-map-requires c κs =
+    let m = c .before .before .before .before .before .before .before in
+    let v = c .before .before .before .before .before .before .before .before .before .before .before .before .args in
+    let g = c .before .before .before .before .survey .given in
+    let e = sym (ap answer (g .1)) ∙ m .survey-plant .ensures .0 in
+    let w = survey-walk (v .catalog .now) (v .map .now) (v .out .now) (g .0 .0) (g .0 .1 .0) e (omega arith) in
+    ((w .0 .models, w .0 .accepted), (w .0 .opens, (m .survey-plant .ensures .1, w .1)))
+
+enum-known-survey-2 : tie.Need-enum-known-survey-2
+enum-known-survey-2 c = search needs
+
+refused-requires-2 : tie.Need-refused-requires-2
+refused-requires-2 c κs = search needs
 
 same-length : tie.Need-same-length
 same-length c = search needs
 
-returns : tie.Need-returns
-returns c =
-    let v = c .before .before .before .before .before .before .before .before .before .before .args in
-    let out = v .out .now in
-    let t = c .before .before .before .before in
-    let e = sym (t .before .before .check .ensures) ∙ ap Catalog.answer (t .enum-told .given .1) in
-    answered-by out (accepted-listed (v .catalog .now) (v .map .now) (length out) e) (c .before .before .list-checked .ensures)
-
 returns-2 : tie.Need-returns-2
 returns-2 c =
-    let v = c .before .before .before .before .before .before .before .args in
+    let m = c .before .before .before .before .before .before .before .before .before .before .before in
+    let v = c .before .before .before .before .before .before .before .before .before .before .before .before .before .before .before .before .args in
     let out = v .out .now in
-    let g = c .before .checked .given in
-    let e = sym (c .before .before .before .check .ensures) ∙ ap Catalog.answer (g .1) in
-    answered-by out
-    (catalog-refused (v .catalog .now) (v .map .now) (length out) e)
-    (refused-answered out (g .0 .0) (g .0 .1 .0) 0)
+    let a = allRecords (v .catalog .now) (v .map .now) in
+    let g = c .before .before .before .before .before .before .before .before .survey .given in
+    let e = sym (ap answer (g .1)) ∙ m .survey-plant .ensures .0 in
+    let room = has-room out a (g .0 .0) (g .0 .1 .0) e (omega arith) in
+    let w = survey-walk (v .catalog .now) (v .map .now) out (g .0 .0) (g .0 .1 .0) e (omega arith) in
+    answered-by out (listing-records (v .catalog .now) (v .map .now) (length out) ∙ room .1)
+    (e, c .before .before .before .put-map .ensures ∙ ap (λ x. stored x out) (w .2))
+
+returns-3 : tie.Need-returns-3
+returns-3 c =
+    let m = c .before .before .before .before .before in
+    let v = c .before .before .before .before .before .before .before .before .before .before .args in
+    let out = v .out .now in
+    let a = allRecords (v .catalog .now) (v .map .now) in
+    let g = c .before .before .survey2 .given in
+    let e = sym (ap answer (g .1)) ∙ m .survey-plant .ensures .0 in
+    let n = before-room out a (g .0 .0) (g .0 .1 .0) (g .0 .1 .1 .0) e in
+    answered-by out (listing-records (v .catalog .now) (v .map .now) (length out)) (c .refused2 .ensures ∙ n .0, n .1)
 
 pub list-spec : {M : Type 1} → statement M
 list-spec =
     tie.close
     (tie.spec
-    check-requires
-    enum-told
-    list-checked-requires
-    enum-known-checked
-    same-length
+    slice-aggregate-survey-plant
+    survey-plant-requires
+    enum-known-survey
+    refused-requires
     returns
-    returns-2)
+    slice-aggregate-put-map
+    put-map-requires
+    enum-known-survey-2
+    refused-requires-2
+    same-length
+    returns-2
+    returns-3)

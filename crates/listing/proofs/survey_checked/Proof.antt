@@ -1,0 +1,58 @@
+-- `listing::survey_checked` meets its contract: 20 and 21 come next.
+use mathlib.Core.Path.{sym, ap, _∙_}
+use Rattle.catalog.specs.Definitions.{definitions}
+use Rattle.register_map.specs.Answers.{openingForm}
+use Rattle.listing.specs.Reading.{reading}
+use Rattle.listing.specs.Listing.{told}
+use Rattle.listing.proofs.ListingCases.{opened, unopened}
+use borrow.Author.Needs.{needs}
+use Rattle.listing.proofs.survey_checked.Statement.{statement}
+use Rattle.listing.proofs.survey_checked.Tie as tie
+
+opened-requires : tie.Need-opened-requires
+opened-requires c κs = search needs
+
+enum-told : tie.Need-enum-told
+enum-told c = search needs
+
+survey-map-requires : tie.Need-survey-map-requires
+survey-map-requires c κs =
+    let t = c .before in
+    let e = sym (t .before .before .opened .ensures) ∙ ap openingForm (t .enum-told .given .1) in
+    (c .before .before .before .before .before .before .before .pre .0, (e, c .before .before .before .before .before .before .before .pre .1))
+
+enum-known-opening : tie.Need-enum-known-opening
+enum-known-opening c = search needs
+
+refused-requires : tie.Need-refused-requires
+refused-requires c κs = search needs
+
+same-length : tie.Need-same-length
+same-length c = search needs
+
+returns : tie.Need-returns
+returns c =
+    let v = c .before .before .before .before .before .before .before .before .before .before .args in
+    let t = c .before .before .before .before in
+    let e = sym (t .before .before .opened .ensures) ∙ ap openingForm (t .enum-told .given .1) in
+    let s = c .before .before .survey-map .ensures in
+    (s .0 ∙ sym (ap told (opened (reading (definitions (v .catalog .now))) (v .map .now) e)), s .1)
+
+returns-2 : tie.Need-returns-2
+returns-2 c =
+    let v = c .before .before .before .before .before .before .before .before .args in
+    let e = sym (c .before .before .before .before .opened .ensures) ∙ ap openingForm (c .before .before .opening .given .1) in
+    (c .refused .ensures ∙ sym (ap told (unopened (reading (definitions (v .catalog .now))) (v .map .now) e)), c .before .before .before .before .before .before .before .before .pre .1)
+
+pub survey-checked-spec : {M : Type 1} → statement M
+survey-checked-spec =
+    tie.close
+    (tie.spec
+    opened-requires
+    enum-told
+    survey-map-requires
+    enum-known-opening
+    refused-requires
+    same-length
+    returns
+    returns-2)

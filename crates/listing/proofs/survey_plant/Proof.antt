@@ -1,0 +1,58 @@
+-- `listing::survey_plant` meets its contract: 1 to 11 come first.
+use mathlib.Core.Path.{sym, ap, _∙_}
+use Rattle.catalog.specs.Answers as Catalog
+use Rattle.listing.specs.Listing.{told}
+use Rattle.listing.proofs.ListingCases.{records-accepted, records-refused}
+use borrow.Author.Needs.{needs}
+use Rattle.listing.proofs.survey_plant.Statement.{statement}
+use Rattle.listing.proofs.survey_plant.Tie as tie
+
+check-requires : tie.Need-check-requires
+check-requires c κs = search needs
+
+enum-told : tie.Need-enum-told
+enum-told c = search needs
+
+survey-checked-requires : tie.Need-survey-checked-requires
+survey-checked-requires c κs =
+    let t = c .before in
+    (
+      (t .enum-told .given .0 .0, sym (t .before .before .check .ensures) ∙ ap Catalog.answer (t .enum-told .given .1)),
+      c .before .before .before .before .before .before .before .pre,
+    )
+
+enum-known-checked : tie.Need-enum-known-checked
+enum-known-checked c = search needs
+
+refused-requires : tie.Need-refused-requires
+refused-requires c κs = search needs
+
+same-length : tie.Need-same-length
+same-length c = search needs
+
+returns : tie.Need-returns
+returns c =
+    let v = c .before .before .before .before .before .before .before .before .before .before .args in
+    let t = c .before .before .before .before in
+    let e = sym (t .before .before .check .ensures) ∙ ap Catalog.answer (t .enum-told .given .1) in
+    let s = c .before .before .survey-checked .ensures in
+    (s .0 ∙ sym (ap told (records-accepted (v .catalog .now) (v .map .now) e)), s .1)
+
+returns-2 : tie.Need-returns-2
+returns-2 c =
+    let v = c .before .before .before .before .before .before .before .before .args in
+    let e = sym (c .before .before .before .before .check .ensures) ∙ ap Catalog.answer (c .before .before .checked .given .1) in
+    (c .refused .ensures ∙ sym (ap told (records-refused (v .catalog .now) (v .map .now) e)), c .before .before .before .before .before .before .before .before .pre)
+
+pub survey-plant-spec : {M : Type 1} → statement M
+survey-plant-spec =
+    tie.close
+    (tie.spec
+    check-requires
+    enum-told
+    survey-checked-requires
+    enum-known-checked
+    refused-requires
+    same-length
+    returns
+    returns-2)
