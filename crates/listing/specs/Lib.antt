@@ -2,6 +2,7 @@ pub mod Points
 pub mod Layout
 pub mod Reading
 pub mod Listing
+pub mod Finding
 pub mod Counts
 pub mod Stability
 pub mod Removed

@@ -15,8 +15,7 @@ enum-told c = search needs
 
 survey-checked-requires : tie.Need-survey-checked-requires
 survey-checked-requires c κs =
-    let t = c .before in
-    (
+    let t = c .before in (
       (t .enum-told .given .0 .0, sym (t .before .before .check .ensures) ∙ ap Catalog.answer (t .enum-told .given .1)),
       c .before .before .before .before .before .before .before .pre,
     )

@@ -1,0 +1,55 @@
+-- Finding a point of a map (document 01, "Writing": by its model's place, its number and a path of three instance numbers).
+use mathlib.Core.Bool.{Bool, true, false, _&&_}
+use mathlib.Core.List.{List, [], _∷_}
+use mathlib.Core.Option.{Option, none, some}
+use Prim.Native.Nat.{ℕ}
+use lib.Dec.{eqb}
+use lib.ListN.{getD}
+use Rattle.listing.specs.Points.{ModelPoint}
+use Rattle.listing.specs.Listing.{Record, allRecords}
+use Rattle.listing.specs.Listing as Listing
+
+-- Are a point's instance numbers at levels 2, 3 and 4 those of a path? (A level that it does not have has 0.)
+abbrev pub isAt : List ℕ → ModelPoint → Bool
+isAt path p = eqb (p .level2) (getD path 0 0) && (eqb (p .level3) (getD path 1 0) && eqb (p .level4) (getD path 2 0))
+
+-- Is it the point with a number at a path?
+abbrev pub isPoint : ℕ → List ℕ → ModelPoint → Bool
+isPoint number path p = eqb (p .definition .number) number && isAt path p
+
+-- Is it the record of that point in the model with an index?
+abbrev pub isRecord : ℕ → ℕ → List ℕ → Record → Bool
+isRecord index number path r = eqb (r .index) index && isPoint number path (r .point)
+
+-- The first of a list for which a test holds.
+unfoldable pub firstWith : {A : Type 0} → (A → Bool) → List A → Option A
+firstWith test [] = none
+firstWith test (x ∷ xs) = elim (test x) [ true ↦ some x | false ↦ firstWith test xs ]
+
+-- What finding a point comes to: a refusal of listing with its place, no such point, or its record.
+pub data Finding : Type 0 where
+  refused : ℕ → ℕ → Finding
+  nothing : Finding
+  found : Record → Finding
+
+-- The point with a number at a path, in the model with an index: of the records that listing defines.
+unfoldable pub finding : List ℕ → List ℕ → ℕ → ℕ → List ℕ → Finding
+finding catalog map index number path =
+    elim (allRecords catalog map) [
+      | Listing.refused n place headers ↦ refused n place
+      | Listing.listed rs headers ↦ elim (firstWith (isRecord index number path) rs) [ none ↦ nothing | some r ↦ found r ]
+    ]
+
+-- What is told of a record that is found: its address, its type, size and access by the catalog, and its raw value.
+pub data Told : Type 0 where
+  refusedTold : ℕ → ℕ → Told
+  nothingTold : Told
+  foundTold : ℕ → ℕ → ℕ → ℕ → ℕ → Told
+
+-- What is told of what it comes to.
+abbrev pub told : Finding → Told
+told (refused n place) = refusedTold n place
+told nothing = nothingTold
+told (found r) =
+    foundTold (r .address) (r .point .definition .typeCode) (r .point .definition .size) (r .point .definition .access)
+    (r .point .raw)

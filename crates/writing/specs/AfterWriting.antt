@@ -1,0 +1,113 @@
+-- What an accepted write makes of the records of a map: the point written, the points that it scales, and all others.
+use mathlib.Core.Path.{_≡_}
+use mathlib.Core.Bool.{Bool, true, false, _&&_}
+use mathlib.Core.List.{List, [], _∷_}
+use mathlib.Core.Option.{Option, none, some}
+use Prim.Native.Nat.{ℕ, zero, suc}
+use lib.Dec.{eqb}
+use Rattle.values.specs.Classes.{classified}
+use Rattle.catalog.specs.Frames.{scaleByPoint}
+use Rattle.catalog.specs.Rules.{among}
+use Rattle.catalog.specs.Definitions.{Groups, noGroup, group, Content, Definition, pointFrames, groupFrames}
+use Rattle.catalog.specs.Soundness.{numbersOf}
+use Rattle.listing.specs.Points.{ModelPoint, statusOf, scaleOf}
+use Rattle.listing.specs.Reading.{topOf}
+use Rattle.listing.specs.Listing.{Record}
+
+-- ---- Whose scale factor a point is
+
+-- How many instance numbers lead to the point with a number: 0 for one that is in none of these groups, so for a point of the
+-- top group.
+unfoldable pub depthIn : ℕ → Groups → ℕ
+depthIn number noGroup = 0
+depthIn number (group h ps inside behind) =
+    elim (among number (numbersOf (pointFrames ps))) [
+      | true ↦ 1
+      | false ↦ elim (among number (numbersOf (groupFrames inside))) [
+        | true ↦ suc (depthIn number inside)
+        | false ↦ depthIn number behind
+      ]
+    ]
+
+-- Do two paths agree in their first so many numbers?
+abbrev pub agreeTo : ℕ → List ℕ → List ℕ → Bool
+agreeTo zero xs ys = true
+agreeTo (suc n) [] ys = true
+agreeTo (suc n) (x ∷ xs) [] = true
+agreeTo (suc n) (x ∷ xs) (y ∷ ys) = eqb x y && agreeTo n xs ys
+
+-- The instance numbers of a point.
+abbrev pub pathOf : ModelPoint → List ℕ
+pathOf p = p .level2 ∷ p .level3 ∷ p .level4 ∷ []
+
+-- Is the first point the scale factor of the second, in a model by the top group of its definition? The second names its number,
+-- and it is of the same instance, or of the one around it (document 01, "Status of a point").
+abbrev pub isScaleFactorOf : Content → ModelPoint → ModelPoint → Bool
+isScaleFactorOf top w p =
+    eqb (p .definition .scaleKind) scaleByPoint
+    && (eqb (p .definition .scale) (w .definition .number)
+    && agreeTo (depthIn (w .definition .number) (top .groups)) (pathOf w) (pathOf p))
+
+-- ---- What becomes of a point
+
+-- The point written: it holds the raw value, it is neither unimplemented nor out of range, and if it was not out of range before,
+-- its status and scale stay.
+pub record Holds (raw : ℕ) (p q : ModelPoint) : Type 0 where
+  pub offset : q .offset ≡ p .offset
+  pub definition : q .definition ≡ p .definition
+  pub level2 : q .level2 ≡ p .level2
+  pub level3 : q .level3 ≡ p .level3
+  pub level4 : q .level4 ≡ p .level4
+  pub holds : q .raw ≡ raw
+  pub implemented : q .status ≡ 1 → ⊥
+  pub mandatory : q .status ≡ 2 → ⊥
+  pub inRange : q .status ≡ 5 → ⊥
+  pub sameStatus : (p .status ≡ 5 → ⊥) → q .status ≡ p .status
+  pub sameScale : (p .status ≡ 5 → ⊥) → q .scale ≡ p .scale
+
+-- A point whose scale factor now holds a raw value: the status and the scale that it gives, and all else as before.
+abbrev pub rescaled : ℕ → ModelPoint → ModelPoint
+rescaled raw p =
+    let status = statusOf (p .definition) (classified (p .definition .typeCode) (p .raw)) raw in
+    record {
+      offset = p .offset;
+      definition = p .definition;
+      level2 = p .level2;
+      level3 = p .level3;
+      level4 = p .level4;
+      status = status;
+      raw = p .raw;
+      scale = scaleOf (p .definition) status raw;
+    }
+
+-- A point p of a model has become q by writing a raw value to the point w of the same model: the point written, one whose scale
+-- factor it is, or another, which stays as it is.
+abbrev pub PointAfter : Content → ModelPoint → ℕ → ModelPoint → ModelPoint → Type 0
+PointAfter top w raw p q =
+    elim (eqb (p .offset) (w .offset)) [
+      | true ↦ Holds raw p q
+      | false ↦ elim (isScaleFactorOf top w p) [ true ↦ q ≡ rescaled raw p | false ↦ q ≡ p ]
+    ]
+
+-- The same of a point of any model, by whether its model is that of w, and the top group of that model's definition: a point of
+-- another model stays as it is.
+abbrev pub PointBecomes : Bool → Option Content → ModelPoint → ℕ → ModelPoint → ModelPoint → Type 0
+PointBecomes false top w raw p q = q ≡ p
+PointBecomes true none w raw p q = ⊥
+PointBecomes true (some top) w raw p q = PointAfter top w raw p q
+
+-- A record r has become s by writing a raw value to the point with the record w, by the definitions of a catalog.
+pub record RecordAfter (ds : List Definition) (w : Record) (raw : ℕ) (r s : Record) : Type 0 where
+  pub index : s .index ≡ r .index
+  pub id : s .id ≡ r .id
+  pub address : s .address ≡ r .address
+  pub point : PointBecomes (eqb (r .index) (w .index)) (topOf (w .id) ds) (w .point) raw (r .point) (s .point)
+
+-- ---- Lists
+
+-- The lists are as long as each other, and each pair of them is related.
+abbrev pub Pairwise : {A : Type 0} → (A → A → Type 0) → List A → List A → Type 0
+Pairwise R [] [] = Unit {0}
+Pairwise R [] (y ∷ ys) = ⊥
+Pairwise R (x ∷ xs) [] = ⊥
+Pairwise R (x ∷ xs) (y ∷ ys) = R x y × Pairwise R xs ys

@@ -1,0 +1,74 @@
+-- Writing a raw value to a point of a map (document 01, "Writing"): the answer, and the map behind it.
+use mathlib.Core.Bool.{Bool, true, false, not, _&&_}
+use mathlib.Core.List.{List}
+use mathlib.Core.Option.{Option, none, some}
+use Prim.Native.Nat.{ℕ}
+use lib.Dec.{eqb, ltb}
+use lib.Seq.{sets}
+use Rattle.values.specs.Registers.{split, tooWide}
+use Rattle.values.specs.Classes.{value, unimplemented, outOfRange, Classified, ofClass, unknownType, classified, isValue}
+use Rattle.values.specs.Classes as Classes
+use Rattle.catalog.specs.Frames.{Point, readOnly}
+use Rattle.listing.specs.Listing.{Record}
+use Rattle.listing.specs.Finding as Finding
+use Rattle.listing.specs.Finding.{finding}
+
+-- Are registers unimplemented, by what they are?
+abbrev pub isUnimplemented : Classified → Bool
+isUnimplemented (ofClass unimplemented) = true
+isUnimplemented (ofClass value) = false
+isUnimplemented (ofClass outOfRange) = false
+isUnimplemented Classes.tooWide = false
+isUnimplemented unknownType = false
+
+-- Can a point hold a raw value? It is a value of the point's type, and not too wide for its registers.
+abbrev pub canHold : Point → ℕ → Bool
+canHold p raw = isValue (classified (p .typeCode) raw) && not (tooWide (p .size) raw)
+
+-- The refusals of a point that is found, in order. 32: its access is R. 33: it takes over four registers. 34: its present
+-- registers are unimplemented. 35: the new value is unimplemented, out of range or too wide.
+unfoldable pub refusal : Record → ℕ → Option ℕ
+refusal r raw =
+    elim (eqb (r .point .definition .access) readOnly) [
+      | true ↦ some 32
+      | false ↦ elim (ltb 4 (r .point .definition .size)) [
+        | true ↦ some 33
+        | false ↦ elim (isUnimplemented (classified (r .point .definition .typeCode) (r .point .raw))) [
+          | true ↦ some 34
+          | false ↦ elim (canHold (r .point .definition) raw) [ true ↦ none | false ↦ some 35 ]
+        ]
+      ]
+    ]
+
+-- The map with a raw value in the registers of a point, the highest first. Only these change.
+unfoldable pub rewritten : Record → ℕ → List ℕ → List ℕ
+rewritten r raw map = sets map (r .address) (split (r .point .definition .size) raw)
+
+-- What writing comes to: a refusal with its place, or the new map.
+pub data Answer : Type 0 where
+  refused : ℕ → ℕ → Answer
+  written : List ℕ → Answer
+
+-- Writing a raw value to the point with a number at a path, in the model with an index. Listing's 1 to 29 come first. 31: there is
+-- no such point. 31 to 35 have place 0.
+unfoldable pub writing : List ℕ → List ℕ → ℕ → ℕ → List ℕ → ℕ → Answer
+writing catalog map index number path raw =
+    elim (finding catalog map index number path) [
+      | Finding.refused n place ↦ refused n place
+      | Finding.nothing ↦ refused 31 0
+      | Finding.found r ↦ elim (refusal r raw) [ some n ↦ refused n 0 | none ↦ written (rewritten r raw map) ]
+    ]
+
+-- The map behind an answer: a refusal changes nothing.
+abbrev pub mapBehind : Answer → List ℕ → List ℕ
+mapBehind (refused n place) map = map
+mapBehind (written new) map = new
+
+-- What is told of an answer: the refusal, or that the point is written.
+pub data Told : Type 0 where
+  refusedTold : ℕ → ℕ → Told
+  writtenTold : Told
+
+abbrev pub told : Answer → Told
+told (refused n place) = refusedTold n place
+told (written new) = writtenTold
