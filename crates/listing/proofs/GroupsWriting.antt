@@ -18,7 +18,7 @@ use Rattle.listing.specs.Layout.{withPoint, within, countOf, groupsSize,
 use Rattle.listing.specs.Counts.{groupsPoints}
 use Rattle.listing.specs.Walks.{scopeIn, Elsewhere, IsTable}
 use Rattle.listing.specs.Promises.{written}
-use Rattle.listing.specs.declared.records.Place.{Place}
+use Rattle.listing.specs.declared.records.Visit.{Visit}
 use Rattle.listing.proofs.GroupNumbers.{none-of-parts, NoneOf}
 use Rattle.listing.proofs.IntoGroups.{SoundBelow, beside}
 use Rattle.listing.proofs.CountsAgree as counts
@@ -140,7 +140,7 @@ none-passed : (count : Head → ℕ) (g : Groups) → Passed count 0 g
 none-passed count noGroup = tt
 none-passed count (group h ps inside behind) = omega arith
 
-module _ (body : List ℕ) (place : Place) (fill level : ℕ) (path table₀ out₀ : List ℕ) (records₀ offset₀ : ℕ) (g₀ : Groups) where
+module _ (body : List ℕ) (visit : Visit) (fill level : ℕ) (path table₀ out₀ : List ℕ) (records₀ offset₀ : ℕ) (g₀ : Groups) where
   abbrev counting : Head → ℕ
   counting = countOf (scopeIn table₀) fill
 
@@ -152,8 +152,8 @@ module _ (body : List ℕ) (place : Place) (fill level : ℕ) (path table₀ out
     pub sound : SoundBelow top enclosing level g
     pub agree : Agree enclosing (scopeIn table) (scopeIn table₀)
     pub passed : Passed counting j g
-    pub left : written place records (fromInstance body counting level (scopeIn table₀) path j offset g) out
-        ≡ written place records₀ (groupsAt body counting level (scopeIn table₀) path offset₀ g₀) out₀
+    pub left : written visit records (fromInstance body counting level (scopeIn table₀) path j offset g) out
+        ≡ written visit records₀ (groupsAt body counting level (scopeIn table₀) path offset₀ g₀) out₀
     pub points : records + pointsFrom counting j g ≡ records₀ + groupsPoints counting g₀
     pub size : offset + sizeFrom counting j g ≡ offset₀ + groupsSize counting g₀
     pub elsewhere : Elsewhere (numbersOf (groupFrames g₀)) table₀ table
@@ -166,9 +166,9 @@ module _ (body : List ℕ) (place : Place) (fill level : ℕ) (path table₀ out
       (table₁ out₁ table₂ out₂ : List ℕ) (records₂ offset₂ : ℕ) : Type 0 where
     pub noted : (n : ℕ) → scopeIn table₁ n ≡ within body offset ps (scopeIn table) n
     pub own : out₁
-        ≡ written place records (pointsAt body (within body offset ps (scopeIn table)) (set path (level - 2) j) offset ps) out
+        ≡ written visit records (pointsAt body (within body offset ps (scopeIn table)) (set path (level - 2) j) offset ps) out
     pub lower : out₂
-        ≡ written place (records + length ps)
+        ≡ written visit (records + length ps)
         (groupsAt body (countOf (scopeIn table₁) fill) (suc level) (scopeIn table₁) (set path (level - 2) j)
         (offset + pointsSize ps) inside)
         out₁
@@ -187,7 +187,7 @@ module _ (body : List ℕ) (place : Place) (fill level : ℕ) (path table₀ out
         sound = s;
         agree = λ p i. refl;
         passed = none-passed counting g₀;
-        left = ap (λ ps. written place records₀ ps out₀) (from-first body counting level (scopeIn table₀) path offset₀ g₀);
+        left = ap (λ ps. written visit records₀ ps out₀) (from-first body counting level (scopeIn table₀) path offset₀ g₀);
         points = ap (λ n. records₀ + n) (points-first counting g₀);
         size = ap (λ n. offset₀ + n) (size-first counting g₀);
         elsewhere = λ n e. refl;
@@ -197,41 +197,41 @@ module _ (body : List ℕ) (place : Place) (fill level : ℕ) (path table₀ out
       }
 
 -- No group is left: the list is the one that is asked for.
-pub writing-ends : {body : List ℕ} {place : Place} {fill level : ℕ} {path table₀ out₀ : List ℕ} {records₀ offset₀ : ℕ}
+pub writing-ends : {body : List ℕ} {visit : Visit} {fill level : ℕ} {path table₀ out₀ : List ℕ} {records₀ offset₀ : ℕ}
     {g₀ : Groups} {table out : List ℕ} {records offset j : ℕ}
-    → Writing body place fill level path table₀ out₀ records₀ offset₀ g₀ table out records offset j noGroup
-    → (out ≡ written place records₀ (groupsAt body (countOf (scopeIn table₀) fill) level (scopeIn table₀) path offset₀ g₀) out₀)
+    → Writing body visit fill level path table₀ out₀ records₀ offset₀ g₀ table out records offset j noGroup
+    → (out ≡ written visit records₀ (groupsAt body (countOf (scopeIn table₀) fill) level (scopeIn table₀) path offset₀ g₀) out₀)
     × (records ≡ records₀ + groupsPoints (countOf (scopeIn table₀) fill) g₀)
     × (offset ≡ offset₀ + groupsSize (countOf (scopeIn table₀) fill) g₀)
-writing-ends {place = place} {out = out} {records = records} w =
-    (sym (lists.written-none place records out) ∙ w .left, omega (arith, w .points), omega (arith, w .size))
+writing-ends {visit = visit} {out = out} {records = records} w =
+    (sym (lists.written-none visit records out) ∙ w .left, omega (arith, w .points), omega (arith, w .size))
 
 -- ---- One step
 
 -- Writing P and then Q, and then the rest.
-write-on : (place : Place) (records : ℕ) (ps qs rs : List ModelPoint) (out out₂ : List ℕ) (n m : ℕ)
+write-on : (visit : Visit) (records : ℕ) (ps qs rs : List ModelPoint) (out out₂ : List ℕ) (n m : ℕ)
     → length ps ≡ n → length qs ≡ m
-    → out₂ ≡ written place (records + n) qs (written place records ps out)
-    → written place (records + n + m) rs out₂ ≡ written place records ((ps ++ qs) ++ rs) out
-write-on place records ps qs rs out out₂ n m a b e =
+    → out₂ ≡ written visit (records + n) qs (written visit records ps out)
+    → written visit (records + n + m) rs out₂ ≡ written visit records ((ps ++ qs) ++ rs) out
+write-on visit records ps qs rs out out₂ n m a b e =
     let k : records + length (ps ++ qs) ≡ records + n + m = omega (arith, length-append ps qs) in
-    let f : written place records (ps ++ qs) out ≡ out₂ =
-    lists.written-append place records ps qs out
-    ∙ ap (λ x. written place (records + x) qs (written place records ps out)) a
+    let f : written visit records (ps ++ qs) out ≡ out₂ =
+    lists.written-append visit records ps qs out
+    ∙ ap (λ x. written visit (records + x) qs (written visit records ps out)) a
     ∙ sym e in
-    sym (lists.written-append place records (ps ++ qs) rs out
-    ∙ ap (λ x. written place x rs (written place records (ps ++ qs) out)) k
-    ∙ ap (written place (records + n + m) rs) f)
+    sym (lists.written-append visit records (ps ++ qs) rs out
+    ∙ ap (λ x. written visit x rs (written visit records (ps ++ qs) out)) k
+    ∙ ap (written visit (records + n + m) rs) f)
 
-module _ {body : List ℕ} {place : Place} {fill level : ℕ} {path table₀ out₀ : List ℕ} {records₀ offset₀ : ℕ} {g₀ : Groups}
+module _ {body : List ℕ} {visit : Visit} {fill level : ℕ} {path table₀ out₀ : List ℕ} {records₀ offset₀ : ℕ} {g₀ : Groups}
     {table out : List ℕ} {records offset j : ℕ} {h : Head} {ps : List Point} {inside behind : Groups}
-    (w : Writing body place fill level path table₀ out₀ records₀ offset₀ g₀ table out records offset j
+    (w : Writing body visit fill level path table₀ out₀ records₀ offset₀ g₀ table out records offset j
     (group h ps inside behind)) where
   abbrev count : Head → ℕ
   count = countOf (scopeIn table₀) fill
 
   abbrev State : List ℕ → List ℕ → ℕ → ℕ → ℕ → Groups → Type 0
-  State = Writing body place fill level path table₀ out₀ records₀ offset₀ g₀
+  State = Writing body visit fill level path table₀ out₀ records₀ offset₀ g₀
 
   -- A number around the instance is not one of its own.
   none-own : (p : Point) → In p (w .enclosing) → NoneOf (p .number) ps inside behind
@@ -265,7 +265,7 @@ module _ {body : List ℕ} {place : Place} {fill level : ℕ} {path table₀ out
   -- An instance has been written.
   pub writing-instance : j < count h
       → (table₁ out₁ table₂ out₂ : List ℕ) (records₂ offset₂ : ℕ)
-      → Instance body place fill level path table₀ out₀ records₀ offset₀ g₀ table out records offset j ps inside table₁ out₁
+      → Instance body visit fill level path table₀ out₀ records₀ offset₀ g₀ table out records offset j ps inside table₁ out₁
       table₂ out₂ records₂ offset₂
       → State table₂ out₂ records₂ offset₂ (j + 1) (group h ps inside behind)
   writing-instance l table₁ out₁ table₂ out₂ records₂ offset₂ x =
@@ -287,13 +287,13 @@ module _ {body : List ℕ} {place : Place} {fill level : ℕ} {path table₀ out
       ≡ Q =
       groups-agree body fill (w .top) (scopeIn table₁) s₀ tops path′ (offset + pointsSize ps) reach (suc level) inside
       (w .sound .sound .3) (scopeIn table₁) (within body offset ps s₀) inner in
-      let e : out₂ ≡ written place (records + length ps) Q (written place records P out) =
-      x .lower ∙ ap (λ y. written place (records + length ps) y out₁) q
-      ∙ ap (written place (records + length ps) Q) (x .own ∙ ap (λ y. written place records y out) p) in
+      let e : out₂ ≡ written visit (records + length ps) Q (written visit records P out) =
+      x .lower ∙ ap (λ y. written visit (records + length ps) y out₁) q
+      ∙ ap (written visit (records + length ps) Q) (x .own ∙ ap (λ y. written visit records y out) p) in
       let k₂ = records + length ps + groupsPoints count inside in
       let k : records₂ ≡ k₂ = omega (arith, x .counted, zp) in
       let o : offset₂ ≡ offset + (pointsSize ps + groupsSize count inside) = omega (arith, x .passedOn, zs) in
-      let W = write-on place records P Q R out out₂ (length ps) (groupsPoints count inside)
+      let W = write-on visit records P Q R out out₂ (length ps) (groupsPoints count inside)
       (pointCounts.points-counted body (within body offset ps s₀) path′ offset ps)
       (pointCounts.groups-counted body count (suc level) (within body offset ps s₀) path′ (offset + pointsSize ps) inside) e in
       record {
@@ -307,10 +307,10 @@ module _ {body : List ℕ} {place : Place} {fill level : ℕ} {path table₀ out
             ∙ within-elsewhere body offset ps (scopeIn table) (p .number) (n .ofPoints)
             ∙ w .agree p i;
         passed = omega (arith, l);
-        left = ap (λ y. written place y (fromInstance body count level s₀ path (j + 1) offset₂ G) out₂) k
-            ∙ ap (λ y. written place k₂ (fromInstance body count level s₀ path (j + 1) y G) out₂) o
+        left = ap (λ y. written visit y (fromInstance body count level s₀ path (j + 1) offset₂ G) out₂) k
+            ∙ ap (λ y. written visit k₂ (fromInstance body count level s₀ path (j + 1) y G) out₂) o
             ∙ W
-            ∙ ap (λ y. written place records y out) (sym (from-next body count level s₀ path j offset h ps inside behind l))
+            ∙ ap (λ y. written visit records y out) (sym (from-next body count level s₀ path j offset h ps inside behind l))
             ∙ w .left;
         points = omega (arith, k, w .points, points-next count j h ps inside behind l);
         size = omega (arith, o, w .size, size-next count j h ps inside behind l);
@@ -322,8 +322,8 @@ module _ {body : List ℕ} {place : Place} {fill level : ℕ} {path table₀ out
             ∙ w .elsewhere n f;
         among₀ = w .among₀;
         isTable = x .isTable;
-        sameLength = ap length e ∙ lists.written-length place (records + length ps) Q (written place records P out)
-            ∙ lists.written-length place records P out ∙ w .sameLength;
+        sameLength = ap length e ∙ lists.written-length visit (records + length ps) Q (written visit records P out)
+            ∙ lists.written-length visit records P out ∙ w .sameLength;
       }
 
   -- All instances of the first group have been written: on to the group behind it.
@@ -335,7 +335,7 @@ module _ {body : List ℕ} {place : Place} {fill level : ℕ} {path table₀ out
         sound = beside (w .top) (w .enclosing) level h ps inside behind (w .sound);
         agree = w .agree;
         passed = none-passed count behind;
-        left = ap (λ y. written place records y out)
+        left = ap (λ y. written visit records y out)
             (sym (from-last body count level (scopeIn table₀) path j offset h ps inside behind l))
             ∙ w .left;
         points = omega (arith, w .points, points-last count j h ps inside behind l);

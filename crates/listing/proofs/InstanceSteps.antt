@@ -12,8 +12,8 @@ use Rattle.listing.specs.Points.{Scope}
 use Rattle.listing.specs.Layout.{within, countOf, groupsSize, pointsAt, groupsAt}
 use Rattle.listing.specs.Counts.{groupsPoints}
 use Rattle.listing.specs.Walks.{heldAt, Stands, pastEnd, headOf, levelOf, scopeIn, noted, Elsewhere, IsTable}
-use Rattle.listing.specs.Promises.{written, RunAsks, GroupsAsk, BehindRun, BehindGroups}
-use Rattle.listing.specs.declared.records.Place.{Place}
+use Rattle.listing.specs.Promises.{capacity, written, RunAsks, GroupsAsk, BehindRun, BehindGroups}
+use Rattle.listing.specs.declared.records.Visit.{Visit}
 use Rattle.listing.specs.declared.records.Progress.{Progress}
 use Rattle.listing.proofs.Standing as standing
 use Rattle.listing.proofs.IntoGroups.{SoundBelow, below, sound-below, standing-at}
@@ -24,8 +24,8 @@ use Rattle.listing.proofs.GroupsWriting.{Writing}
 use Rattle.listing.proofs.Sizes.{points-sized}
 use Rattle.listing.proofs.NotedPoints.{noted-length, noted-scope, numbers-in-table}
 
-module _ {ws body : List ℕ} {place : Place} {fill levels : ℕ} {path table₀ out₀ : List ℕ} {start : Progress}
-    (asks : GroupsAsk ws body table₀ out₀ place fill levels path start) where
+module _ {ws body : List ℕ} {visit : Visit} {fill levels : ℕ} {path table₀ out₀ : List ℕ} {start : Progress}
+    (asks : GroupsAsk ws body table₀ out₀ visit fill levels path start) where
   abbrev counting : Head → ℕ
   counting = countOf (scopeIn table₀) fill
 
@@ -33,7 +33,7 @@ module _ {ws body : List ℕ} {place : Place} {fill levels : ℕ} {path table₀
   g₀ = heldAt ws (start .frame) .groups
 
   abbrev State : List ℕ → List ℕ → ℕ → ℕ → ℕ → Groups → Type 0
-  State = Writing body place fill (levelOf levels) path table₀ out₀ (start .records) (start .offset) g₀
+  State = Writing body visit fill (levelOf levels) path table₀ out₀ (start .records) (start .offset) g₀
 
   -- The walk stands at a frame, at instance j of the group there.
   abbrev At : List ℕ → List ℕ → ℕ → ℕ → ℕ → ℕ → Type 0
@@ -43,7 +43,7 @@ module _ {ws body : List ℕ} {place : Place} {fill levels : ℕ} {path table₀
   pub begins : At table₀ out₀ (start .records) (start .offset) 0 (start .frame)
   begins =
       let s = asks .standing .sound in
-      writing.writing-begins body place fill (levelOf levels) path table₀ out₀ (start .records) (start .offset) g₀ (s .top)
+      writing.writing-begins body visit fill (levelOf levels) path table₀ out₀ (start .records) (start .offset) g₀ (s .top)
       (s .enclosing)
       (sound-below s) (asks .isTable)
 
@@ -52,7 +52,7 @@ module _ {ws body : List ℕ} {place : Place} {fill levels : ℕ} {path table₀
     -- No group is there: all is written.
     pub ends : headOf (frameIn ws frame) ≡ none
         → (out
-        ≡ written place (start .records) (groupsAt body counting (levelOf levels) (scopeIn table₀) path (start .offset) g₀) out₀)
+        ≡ written visit (start .records) (groupsAt body counting (levelOf levels) (scopeIn table₀) path (start .offset) g₀) out₀)
         × (records ≡ start .records + groupsPoints counting g₀)
         × (offset ≡ start .offset + groupsSize counting g₀)
     ends e =
@@ -109,7 +109,7 @@ module _ {ws body : List ℕ} {place : Place} {fill levels : ℕ} {path table₀
         counted = omega (arith, count-there, l)
 
         -- What writing the instance's own points asks for.
-        pub own-asks : RunAsks ws body out place (record { records = records; offset = offset; frame = frame + 1 }) own
+        pub own-asks : RunAsks ws body out visit (record { records = records; offset = offset; frame = frame + 1 }) own
         own-asks =
             let z = writing.size-next counting j h own inside behind counted in
             let p = writing.points-next counting j h own inside behind counted in
@@ -120,14 +120,14 @@ module _ {ws body : List ℕ} {place : Place} {fill levels : ℕ} {path table₀
               address = asks .address;
               sized = points-sized (own ++ there .enclosing) own (there .sound .sound .2);
               inside = omega (arith, z, there .size, asks .inside);
-              room = omega (arith, p, there .points, there .sameLength, asks .room);
+              room = omega (arith, p, there .points, ap (capacity (visit .task)) (there .sameLength), asks .room);
             }
 
         module _ (words : (k : ℕ) → getD ws k 0 < 65536) {table₁ out₁ path₁ : List ℕ} {at₁ : Progress}
             (noting : table₁ ≡ noted body offset own table) (way : path₁ ≡ set path (levelOf levels - 2) j)
             (run : BehindRun (record { records = records; offset = offset; frame = frame + 1 }) own at₁)
             (wrote : out₁
-            ≡ written place records (pointsAt body (within body offset own (scopeIn table)) path₁ offset own) out) where
+            ≡ written visit records (pointsAt body (within body offset own (scopeIn table)) path₁ offset own) out) where
           -- The table holds the scope within the instance.
           in-table : (k : ℕ) → scopeIn table₁ k ≡ within body offset own (scopeIn table) k
           in-table k =
@@ -152,14 +152,14 @@ module _ {ws body : List ℕ} {place : Place} {fill levels : ℕ} {path table₀
               ∙ standing.behind-run ws (frame + 1) (standing.group-next ws frame s n h e .1) .1
 
           -- What writing the groups in the instance asks for.
-          pub lower-asks : GroupsAsk ws body table₁ out₁ place fill (levels - 1) path₁ at₁
+          pub lower-asks : GroupsAsk ws body table₁ out₁ visit fill (levels - 1) path₁ at₁
           lower-asks =
               let r = standing.behind-run ws (frame + 1) (standing.group-next ws frame s n h e .1) in
               let b = below (there .top) (there .enclosing) (levelOf levels) h own inside behind (there .sound) in
               let c = subst (λ k. SoundBelow (there .top) (own ++ there .enclosing) k inside) deeper b in
               let z = writing.size-next counting j h own inside behind counted in
               let p = writing.points-next counting j h own inside behind counted in
-              let o = lists.written-length place records
+              let o = lists.written-length visit records
               (pointsAt body (within body offset own (scopeIn table)) path₁ offset own) out in
               record {
                 standing = standing-at (subst (Stands ws) (sym (run .frame)) (r .2))
@@ -185,11 +185,9 @@ module _ {ws body : List ℕ} {place : Place} {fill levels : ℕ} {path table₀
                   lower-points,
                   p,
                   there .points,
-                  there .sameLength,
+                  ap (capacity (visit .task)) (ap length wrote ∙ o ∙ there .sameLength),
                   asks .room,
                   run .records,
-                  ap length wrote,
-                  o,
                 );
               }
 
@@ -197,7 +195,7 @@ module _ {ws body : List ℕ} {place : Place} {fill levels : ℕ} {path table₀
           pub further : {table₂ out₂ : List ℕ} {at₂ : Progress}
               → BehindGroups (heldAt ws (at₁ .frame) .groups) (countOf (scopeIn table₁) fill) at₁ at₂
               → out₂
-              ≡ written place (at₁ .records)
+              ≡ written visit (at₁ .records)
               (groupsAt body (countOf (scopeIn table₁) fill) (levelOf (levels - 1)) (scopeIn table₁) path₁ (at₁ .offset)
               (heldAt ws (at₁ .frame) .groups))
               out₁
@@ -207,14 +205,14 @@ module _ {ws body : List ℕ} {place : Place} {fill levels : ℕ} {path table₀
           further {table₂} {out₂} {at₂} b o x t =
               let P : Groups → Type 0 = λ g. Elsewhere (numbersOf (groupFrames g)) table₁ table₂ in
               let W : ℕ → ℕ → List ℕ → ℕ → Groups → List ℕ = λ r k p a g.
-              written place r (groupsAt body (countOf (scopeIn table₁) fill) k (scopeIn table₁) p a g) out₁ in
+              written visit r (groupsAt body (countOf (scopeIn table₁) fill) k (scopeIn table₁) p a g) out₁ in
               let path₂ = set path (levelOf levels - 2) j in
               let g₁ = heldAt ws (at₁ .frame) .groups in
               back (writing.writing-instance there counted table₁ out₁ table₂ out₂ (at₂ .records) (at₂ .offset)
               (record {
                 noted = in-table;
                 own = wrote
-                    ∙ ap (λ p. written place records (pointsAt body (within body offset own (scopeIn table)) p offset own) out)
+                    ∙ ap (λ p. written visit records (pointsAt body (within body offset own (scopeIn table)) p offset own) out)
                     way;
                 lower = o
                     ∙ ap (λ r. W r (levelOf (levels - 1)) path₁ (at₁ .offset) g₁) (run .records)

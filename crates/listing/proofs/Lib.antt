@@ -64,6 +64,7 @@ pub mod PointClasses
 pub mod PointStatus
 pub mod NotedPoints
 pub mod WrittenRecords
+pub mod SoughtPoints
 pub mod PointRuns
 pub mod GroupsWriting
 pub mod InstanceSteps

@@ -16,16 +16,18 @@ use Rattle.listing.specs.Listing as Listing
 use Rattle.listing.specs.Listing.{Record, recordWidth, recordOf, Answer, listed, walked, entries, stored}
 use Rattle.listing.specs.Walks.{pointsOf}
 use Rattle.listing.specs.Promises.{written, WalkFits}
-use Rattle.listing.specs.declared.records.Place.{Place}
+use Rattle.listing.specs.declared.records.Sought.{Sought}
+use Rattle.listing.specs.declared.records.Task.{Task}
+use Rattle.listing.specs.declared.records.Visit.{Visit}
 use Rattle.listing.proofs.WrittenRecords.{sets-append, entries-length, entries-append, written-none}
 use Rattle.listing.proofs.WalkSteps.{not-listed, in-front-listed}
 use Rattle.listing.proofs.MapSteps.{walkAt, modelAt, walk-starts, walk-at-end, walk-at-refused, walk-at-late, walk-at-unknown, walk-at-faulty, walk-at-points}
 
 -- Of no points nothing is written.
-pub nothing-written : (place : Place) (k : ℕ) (ps : List ModelPoint) (out : List ℕ) → ps ≡ []
-    → (k ≡ k + length ps) × (out ≡ written place k ps out)
-nothing-written place k ps out e =
-    (omega (arith, ap length e), sym (ap (λ qs. written place k qs out) e ∙ written-none place k out))
+pub nothing-written : (visit : Visit) (k : ℕ) (ps : List ModelPoint) (out : List ℕ) → ps ≡ []
+    → (k ≡ k + length ps) × (out ≡ written visit k ps out)
+nothing-written visit k ps out e =
+    (omega (arith, ap length e), sym (ap (λ qs. written visit k qs out) e ∙ written-none visit k out))
 
 -- The walk stands at a header with so many records written: what is left has room, and writing it gives the list behind the
 -- whole.
@@ -84,7 +86,8 @@ module _ {read : Model → Reading} {map before out : List ℕ} {at index record
   pub writing-late : {A : Type 0} → length map ≤ at → A
   writing-late past = not-listed (sym (walk-at-late read map index at past) ∙ here .rest)
 
-  module _ (short : length map ≤ 65536) {id len : ℕ} (h : headerAt (eqb at 2) (drop at map) ≡ model id len) where
+  module _ (sought : Sought) (short : length map ≤ 65536) {id len : ℕ}
+      (h : headerAt (eqb at 2) (drop at map) ≡ model id len) where
     -- The records of a model by its reading have room, and behind them the walk goes on.
     abbrev pub GoesOn : Reading → Type 0
     GoesOn r =
@@ -93,7 +96,7 @@ module _ {read : Model → Reading} {map before out : List ℕ} {at index record
         read
         map
         before
-        (written (record { index = index; id = id; address = at }) records (pointsOf r) out)
+        (written (record { index = index; id = id; address = at; task = Task.Records; sought = sought }) records (pointsOf r) out)
         (at + (2 + len))
         (index + 1)
         (records + length (pointsOf r))

@@ -20,8 +20,8 @@ use Rattle.listing.specs.Counts.{groupsPoints}
 use Rattle.listing.specs.Reading.{Reading, faulty, points, endsWithPad, allButLast, padLeftOut, belowTopPoints, countPointUnimplemented, notTheSize, laidOut, readBy, reading}
 use Rattle.listing.specs.Listing.{recordWidth}
 use Rattle.listing.specs.Walks.{heldAt, Accepted, scopeIn, begun, IsTable, AtGroups, pointsOf, HasPoints, Ready}
-use Rattle.listing.specs.Promises.{written, RunAsks, BehindRun, GroupsAsk, BehindGroups}
-use Rattle.listing.specs.declared.records.Place.{Place}
+use Rattle.listing.specs.Promises.{capacity, written, RunAsks, BehindRun, GroupsAsk, BehindGroups}
+use Rattle.listing.specs.declared.records.Visit.{Visit}
 use Rattle.listing.specs.declared.records.Progress.{Progress}
 use Rattle.listing.proofs.Standing as standing
 use Rattle.listing.proofs.AcceptedModels as models
@@ -134,9 +134,9 @@ each-begun P len offset (p ∷ ps) e = go (ltb offset len) (each-begun P len (of
 
 -- ---- The model at a frame
 
-module _ {ws : List ℕ} {id : ℕ} {body table : List ℕ} {first fill : ℕ} (place : Place) (records : ℕ) (out : List ℕ)
+module _ {ws : List ℕ} {id : ℕ} {body table : List ℕ} {first fill : ℕ} (visit : Visit) (records : ℕ) (out : List ℕ)
     (accepted : Accepted ws) (ready : Ready ws id body table first fill) (words : (k : ℕ) → getD ws k 0 < 65536)
-    (short : length body ≤ 65535) (address : place .address ≤ 65536) where
+    (short : length body ≤ 65535) (address : visit .address ≤ 65536) where
   abbrev top : Content
   top = heldAt ws first
 
@@ -239,15 +239,15 @@ module _ {ws : List ℕ} {id : ℕ} {body table : List ℕ} {first fill : ℕ} (
 
   -- ---- What is asked and what comes out
 
-  module _ (has : HasPoints read) (room : recordWidth * (records + length (pointsOf read)) ≤ length out) where
+  module _ (has : HasPoints read) (room : recordWidth * (records + length (pointsOf read)) ≤ capacity (visit .task) (length out)) where
     how : HowRead id top body (readBy id top body)
     how = how-read id top body (subst HasPoints read-here has)
 
     -- What writing the top points asks for.
-    pub run-asks : RunAsks ws body out place start laid
+    pub run-asks : RunAsks ws body out visit start laid
     run-asks = go (readBy id top body) read-here how
       where
-        asks : pointsSize laid ≤ length body → length laid ≤ length (pointsOf read) → RunAsks ws body out place start laid
+        asks : pointsSize laid ≤ length body → length laid ≤ length (pointsOf read) → RunAsks ws body out visit start laid
         asks inside few =
             record {
               stands = ready .stands;
@@ -259,7 +259,7 @@ module _ {ws : List ℕ} {id : ℕ} {body table : List ℕ} {first fill : ℕ} (
               room = omega (arith, few, room);
             }
 
-        go : (r : Reading) → read ≡ r → HowRead id top body r → RunAsks ws body out place start laid
+        go : (r : Reading) → read ≡ r → HowRead id top body r → RunAsks ws body out visit start laid
         go r q (leftOut e) =
             let l = pads.left-out id top (length body) e in
             let b = pads.begun-but-pad ps id top (length body) sound-points e in
@@ -304,7 +304,7 @@ module _ {ws : List ℕ} {id : ℕ} {body table : List ℕ} {first fill : ℕ} (
         go r q (full f) = (f, q)
 
     module _ {at₁ : Progress} (run : BehindRun start laid at₁) (f : Full top body) (q : read ≡ points (contentAt top body))
-        {out₁ : List ℕ} (wrote : out₁ ≡ written place records (pointsAt body (scopeIn table) noInstance 0 laid) out) where
+        {out₁ : List ℕ} (wrote : out₁ ≡ written visit records (pointsAt body (scopeIn table) noInstance 0 laid) out) where
       frame-there : at₁ .frame ≡ first + length ps
       frame-there = run .frame ∙ ap (λ rs. first + length rs) (all-laid f)
 
@@ -315,10 +315,10 @@ module _ {ws : List ℕ} {id : ℕ} {body table : List ℕ} {first fill : ℕ} (
       counted = ap (λ x. length (pointsOf x)) q ∙ pointCounts.content-counted top body
 
       -- What writing the groups asks for.
-      pub groups-ask : GroupsAsk ws body table out₁ place fill 3 noInstance at₁
+      pub groups-ask : GroupsAsk ws body table out₁ visit fill 3 noInstance at₁
       groups-ask =
           let b = all-laid f in
-          let o = lists.written-length place records (pointsAt body (scopeIn table) noInstance 0 laid) out in
+          let o = lists.written-length visit records (pointsAt body (scopeIn table) noInstance 0 laid) out in
           record {
             standing = subst (λ k. AtGroups ws k 3) (sym frame-there)
                 (top-groups ws id first accepted (ready .stands) (ready .known));
@@ -344,8 +344,7 @@ module _ {ws : List ℕ} {id : ℕ} {body table : List ℕ} {first fill : ℕ} (
               room,
               run .records,
               ap length b,
-              ap length wrote,
-              o,
+              ap (capacity (visit .task)) (ap length wrote ∙ o),
             );
           }
 
@@ -364,26 +363,26 @@ module _ {ws : List ℕ} {id : ℕ} {body table : List ℕ} {first fill : ℕ} (
           )
 
       pub list-behind : {out₂ : List ℕ} → out₂
-          ≡ written place (at₁ .records)
+          ≡ written visit (at₁ .records)
           (groupsAt body (countOf (scopeIn table) fill) 2 (scopeIn table) noInstance (at₁ .offset)
           (heldAt ws (at₁ .frame) .groups)) out₁
-          → out₂ ≡ written place records (pointsOf read) out
+          → out₂ ≡ written visit records (pointsOf read) out
       list-behind e =
           let P = pointsAt body (topScope ps body) noInstance 0 ps in
           let Q = groupsAt body (countsOf top body) 2 (topScope ps body) noInstance (pointsSize ps) (top .groups) in
           let W : ℕ → ℕ → Groups → List ℕ → List ℕ = λ r a g l.
-          written place r (groupsAt body (countOf (scopeIn table) fill) 2 (scopeIn table) noInstance a g) l in
+          written visit r (groupsAt body (countOf (scopeIn table) fill) 2 (scopeIn table) noInstance a g) l in
           let b = all-laid f in
           let n = pointCounts.points-counted body (topScope ps body) noInstance 0 ps in
           let r : at₁ .records ≡ records + length P = omega (arith, run .records, ap length b, n) in
           let a : at₁ .offset ≡ pointsSize ps = omega (arith, run .offset, ap pointsSize b) in
-          let o : out₁ ≡ written place records P out =
-          wrote ∙ ap (λ x. written place records x out) (same-points ps b resolved) in
+          let o : out₁ ≡ written visit records P out =
+          wrote ∙ ap (λ x. written visit records x out) (same-points ps b resolved) in
           e
           ∙ ap (λ x. W x (at₁ .offset) (heldAt ws (at₁ .frame) .groups) out₁) r
           ∙ ap (λ x. W (records + length P) x (heldAt ws (at₁ .frame) .groups) out₁) a
           ∙ ap (λ x. W (records + length P) (pointsSize ps) x out₁) groups-there
           ∙ ap (W (records + length P) (pointsSize ps) (top .groups)) o
-          ∙ ap (λ x. written place (records + length P) x (written place records P out)) (same-groups f (pointsSize ps))
-          ∙ sym (lists.written-append place records P Q out)
-          ∙ ap (λ x. written place records x out) (sym (content-parts top body) ∙ sym (ap pointsOf q))
+          ∙ ap (λ x. written visit (records + length P) x (written visit records P out)) (same-groups f (pointsSize ps))
+          ∙ sym (lists.written-append visit records P Q out)
+          ∙ ap (λ x. written visit records x out) (sym (content-parts top body) ∙ sym (ap pointsOf q))

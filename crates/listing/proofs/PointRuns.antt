@@ -6,7 +6,6 @@ use mathlib.Core.Option.{none, some}
 use Prim.Native.Nat.{ℕ, _+_, _*_, _/_, _≤_, _<_}
 use native.Mathlib.Omega.{arith}
 use lib.ListN.{length, getD}
-use lib.Seq.{sets, length-sets}
 use Rattle.values.specs.Each.{Each}
 use Rattle.catalog.specs.Frames.{Point, frameIn}
 use Rattle.catalog.specs.Rules.{isSizeOf}
@@ -15,22 +14,22 @@ use Rattle.listing.specs.Points.{ModelPoint, registersAt, pointAt}
 use Rattle.listing.specs.Layout.{pointsAt}
 use Rattle.listing.specs.Listing.{recordNumbers, recordWidth}
 use Rattle.listing.specs.Walks.{heldAt, pointOf, scopeIn, begun}
-use Rattle.listing.specs.Promises.{ShownOf, recordAt, written, RunAsks, BehindRun}
+use Rattle.listing.specs.Promises.{ShownOf, recordAt, capacity, written, PointFits, RunAsks, BehindRun}
 use Rattle.listing.specs.declared.points.Shown.{Shown}
-use Rattle.listing.specs.declared.records.Place.{Place}
+use Rattle.listing.specs.declared.records.Visit.{Visit}
 use Rattle.listing.specs.declared.records.Progress.{Progress}
 use Rattle.listing.proofs.Standing as standing
 use Rattle.listing.proofs.NotedPoints.{begun-past, begun-first}
-use Rattle.listing.proofs.WrittenRecords.{written-none, written-one, written-append}
+use Rattle.listing.proofs.WrittenRecords.{written-none, written-length, written-append}
 
 -- The numbers of a record from what is shown of its point.
-pub shown-numbers : (place : Place) (body table path : List ℕ) (offset : ℕ) (p : Point) (shown : Shown)
+pub shown-numbers : (visit : Visit) (body table path : List ℕ) (offset : ℕ) (p : Point) (shown : Shown)
     → ShownOf p (registersAt body offset p) (scopeIn table (p .scale)) shown
-    → place .index ∷ place .id ∷ p .number ∷ getD path 0 0 ∷ getD path 1 0 ∷ getD path 2 0 ∷ (place .address + 2 + offset)
+    → visit .index ∷ visit .id ∷ p .number ∷ getD path 0 0 ∷ getD path 1 0 ∷ getD path 2 0 ∷ (visit .address + 2 + offset)
     ∷ shown .status ∷ shown .raw ∷ shown .scale ∷ []
-    ≡ recordNumbers (recordAt place (pointAt body (scopeIn table) path offset p))
+    ≡ recordNumbers (recordAt visit (pointAt body (scopeIn table) path offset p))
 unfolding recordNumbers pointAt
-shown-numbers place body table path offset p shown s = rw (s .status, s .raw, s .scale)
+shown-numbers visit body table path offset p shown s = rw (s .status, s .raw, s .scale)
 
 -- The points that are left to write.
 abbrev pub leftAt : List ℕ → List ℕ → Progress → List Point
@@ -41,11 +40,11 @@ abbrev pub shownAt : List ℕ → List ℕ → List ℕ → List ℕ → Progres
 shownAt ws body table path at = pointsAt body (scopeIn table) path (at .offset) (leftAt ws body at)
 
 -- Writing those that are left gives what writing all of them gives.
-pub record StillWrites (ws body table : List ℕ) (place : Place) (path : List ℕ) (out₀ : List ℕ) (at₀ : Progress) (out : List ℕ)
+pub record StillWrites (ws body table : List ℕ) (visit : Visit) (path : List ℕ) (out₀ : List ℕ) (at₀ : Progress) (out : List ℕ)
     (at : Progress) : Type 0 where
-  pub asks : RunAsks ws body out place at (leftAt ws body at)
-  pub holds : written place (at .records) (shownAt ws body table path at) out
-      ≡ written place (at₀ .records) (shownAt ws body table path at₀) out₀
+  pub asks : RunAsks ws body out visit at (leftAt ws body at)
+  pub holds : written visit (at .records) (shownAt ws body table path at) out
+      ≡ written visit (at₀ .records) (shownAt ws body table path at₀) out₀
   pub behind : BehindRun at₀ (leftAt ws body at₀) (record {
     records = at .records + length (leftAt ws body at);
     offset = at .offset + pointsSize (leftAt ws body at);
@@ -58,20 +57,20 @@ abbrev pub pastPoint : Progress → Point → Progress
 pastPoint at p = record { records = at .records + 1; offset = at .offset + p .size; frame = at .frame + 1 }
 
 -- All are left.
-pub still-all : (ws body table : List ℕ) (place : Place) (path out : List ℕ) (at : Progress)
-    → RunAsks ws body out place at (leftAt ws body at) → StillWrites ws body table place path out at out at
-still-all ws body table place path out at a =
+pub still-all : (ws body table : List ℕ) (visit : Visit) (path out : List ℕ) (at : Progress)
+    → RunAsks ws body out visit at (leftAt ws body at) → StillWrites ws body table visit path out at out at
+still-all ws body table visit path out at a =
     record { asks = a; holds = refl; behind = record { records = refl; offset = refl; frame = refl }; same = refl }
 
-module _ {ws body table : List ℕ} {place : Place} {path out₀ : List ℕ} {at₀ : Progress} {out : List ℕ} {at : Progress}
-    (s : StillWrites ws body table place path out₀ at₀ out at) where
+module _ {ws body table : List ℕ} {visit : Visit} {path out₀ : List ℕ} {at₀ : Progress} {out : List ℕ} {at : Progress}
+    (s : StillWrites ws body table visit path out₀ at₀ out at) where
   -- The walk stands in the catalog.
   pub still-within : at .frame < length ws / 8
   still-within = standing.stands-within ws (at .frame) (s .asks .stands)
 
   -- None is left.
   still-none : leftAt ws body at ≡ []
-      → BehindRun at₀ (leftAt ws body at₀) at × (out ≡ written place (at₀ .records) (shownAt ws body table path at₀) out₀)
+      → BehindRun at₀ (leftAt ws body at₀) at × (out ≡ written visit (at₀ .records) (shownAt ws body table path at₀) out₀)
   unfolding pointsAt
   still-none e =
       let b = s .behind in
@@ -84,17 +83,17 @@ module _ {ws body table : List ℕ} {place : Place} {path out₀ : List ℕ} {at
           offset = omega (arith, b .offset, z);
           frame = omega (arith, b .frame, n);
         },
-        sym (ap (λ (ps : List ModelPoint). written place (at .records) ps out) shown ∙ written-none place (at .records) out)
+        sym (ap (λ (ps : List ModelPoint). written visit (at .records) ps out) shown ∙ written-none visit (at .records) out)
             ∙ s .holds,
       )
 
   -- None begins behind the end of the body, or where no point stands.
   pub still-past : length body ≤ at .offset
-      → BehindRun at₀ (leftAt ws body at₀) at × (out ≡ written place (at₀ .records) (shownAt ws body table path at₀) out₀)
+      → BehindRun at₀ (leftAt ws body at₀) at × (out ≡ written visit (at₀ .records) (shownAt ws body table path at₀) out₀)
   still-past h = still-none (begun-past (length body) (at .offset) (heldAt ws (at .frame) .points) h)
 
   pub still-other : pointOf (frameIn ws (at .frame)) ≡ none
-      → BehindRun at₀ (leftAt ws body at₀) at × (out ≡ written place (at₀ .records) (shownAt ws body table path at₀) out₀)
+      → BehindRun at₀ (leftAt ws body at₀) at × (out ≡ written visit (at₀ .records) (shownAt ws body table path at₀) out₀)
   unfolding begun
   still-other f =
       let e = standing.no-point ws (at .frame) (s .asks .stands) f in
@@ -109,21 +108,26 @@ module _ {ws body table : List ℕ} {place : Place} {path out₀ : List ℕ} {at
         ∙ begun-first (length body) (at .offset) p (heldAt ws (at .frame + 1) .points) h
 
     -- It lies in the body, and has room.
-    pub first-fits : (isSizeOf (p .typeCode) (p .size) ≡ true)
-        × (at .offset + p .size ≤ length body)
-        × (recordWidth * (at .records + 1) ≤ length out)
+    pub first-fits : PointFits body (at .offset) visit p
+        × (recordWidth * (at .records + 1) ≤ capacity (visit .task) (length out))
     first-fits =
         let next = standing.point-next ws (at .frame) (s .asks .stands) p f in
         let sized = subst (Each (λ q. isSizeOf (q .typeCode) (q .size) ≡ true)) (next .0) (s .asks .sized) in
         let n = ap length first-left in
-        let z = ap pointsSize first-left in
-        (sized .0, omega (arith, s .asks .inside, z), omega (arith, s .asks .room, n))
+        let z = ap pointsSize first-left in (
+          record {
+            sized = sized .0;
+            inside = omega (arith, s .asks .inside, z);
+            short = s .asks .short;
+            address = s .asks .address;
+          },
+          omega (arith, s .asks .room, n),
+        )
 
     -- Once its record is written, the others are left.
     pub still-first : (out′ : List ℕ)
-        → out′
-        ≡ sets out (recordWidth * at .records) (recordNumbers (recordAt place (pointAt body (scopeIn table) path (at .offset) p)))
-        → StillWrites ws body table place path out₀ at₀ out′ (pastPoint at p)
+        → out′ ≡ written visit (at .records) (pointAt body (scopeIn table) path (at .offset) p ∷ []) out
+        → StillWrites ws body table visit path out₀ at₀ out′ (pastPoint at p)
     unfolding pointsAt
     still-first out′ e =
         let a = s .asks in
@@ -138,9 +142,7 @@ module _ {ws body table : List ℕ} {place : Place} {path out₀ : List ℕ} {at
         let k = at .records in
         let shown : shownAt ws body table path at ≡ x ∷ xs =
         ap (λ (ps : List Point). pointsAt body (scopeIn table) path (at .offset) ps) first-left in
-        let one : written place k (x ∷ []) out ≡ out′ = written-one place k x out ∙ sym e in
-        let same : length out′ ≡ length out =
-        ap length e ∙ length-sets out (recordWidth * k) (recordNumbers (recordAt place x)) in
+        let same : length out′ ≡ length out = ap length e ∙ written-length visit k (x ∷ []) out in
         record {
           asks = record {
             stands = next .2;
@@ -149,11 +151,11 @@ module _ {ws body table : List ℕ} {place : Place} {path out₀ : List ℕ} {at
             address = a .address;
             sized = sized .1;
             inside = omega (arith, a .inside, z);
-            room = omega (arith, a .room, n, same);
+            room = omega (arith, a .room, n, ap (capacity (visit .task)) same);
           };
-          holds = sym (ap (λ (ps : List ModelPoint). written place k ps out) shown
-              ∙ written-append place k (x ∷ []) xs out
-              ∙ ap (λ (o : List ℕ). written place (k + 1) xs o) one)
+          holds = sym (ap (λ (ps : List ModelPoint). written visit k ps out) shown
+              ∙ written-append visit k (x ∷ []) xs out
+              ∙ ap (λ (o : List ℕ). written visit (k + 1) xs o) (sym e))
               ∙ s .holds;
           behind = record {
             records = omega (arith, b .records, n);

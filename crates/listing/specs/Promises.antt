@@ -1,10 +1,10 @@
 -- What private functions ask for and promise each other.
 use mathlib.Core.Path.{_≡_}
-use mathlib.Core.Bool.{true, false, _&&_, _||_}
-use mathlib.Core.List.{List, map}
+use mathlib.Core.Bool.{Bool, true, false, _&&_, _||_}
+use mathlib.Core.List.{List, [], _∷_, map}
 use Prim.Native.Nat.{ℕ, _+_, _*_, _-_, _/_, _%_, _≤_, min}
-use lib.Dec.{eqb, ltb}
-use lib.ListN.{length, take, drop}
+use lib.Dec.{eqb, ltb, leb}
+use lib.ListN.{length, take, drop, getD}
 use lib.Seq.{sets}
 use Rattle.values.specs.Each.{Each}
 use Rattle.values.specs.Registers.{join, shownRaw}
@@ -17,13 +17,16 @@ use Rattle.listing.specs.Layout.{countOf, groupsSize, fillSize, countUni
 use Rattle.listing.specs.Counts.{groupsPoints, fillPoints, sizeOr0}
 use Rattle.listing.specs.Reading.{endsWithPad}
 use Rattle.listing.specs.Listing as Listing
+use Rattle.listing.specs.Finding.{isPoint}
 use Rattle.listing.specs.Walks.{heldAt, Stands, Ready, scopeIn, IsTable, AtGroups}
 use Rattle.listing.specs.declared.frames.Found.{Found}
 use Rattle.listing.specs.declared.extents.Run.{Run}
 use Rattle.listing.specs.declared.extents.Extent.{Extent}
 use Rattle.listing.specs.declared.surveys.Survey.{Survey}
 use Rattle.listing.specs.declared.points.Shown.{Shown}
-use Rattle.listing.specs.declared.records.Place.{Place}
+use Rattle.listing.specs.declared.records.Sought.{Sought}
+use Rattle.listing.specs.declared.records.Task.{Task}
+use Rattle.listing.specs.declared.records.Visit.{Visit}
 use Rattle.listing.specs.declared.records.Progress.{Progress}
 
 -- The walk stands at the definition that was found.
@@ -95,27 +98,78 @@ pub record ShownOf (p : Frames.Point) (registers : List ℕ) (register : ℕ) (r
   pub raw : r .raw ≡ shownRaw registers
   pub scale : r .scale ≡ scaleOf p (statusOf p (classified (p .typeCode) (join registers)) register) register
 
--- The record of a point of the model at a place.
-abbrev pub recordAt : Place → ModelPoint → Listing.Record
-recordAt place = Listing.recordOf (place .index) (place .address) (place .id)
+-- The record of a point of a model that is walked.
+abbrev pub recordAt : Visit → ModelPoint → Listing.Record
+recordAt visit = Listing.recordOf (visit .index) (visit .address) (visit .id)
 
--- The body of a length of the model at a place.
-abbrev pub bodyAt : List ℕ → Place → ℕ → List ℕ
-bodyAt registers place len = take len (drop (place .address + 2) registers)
+-- The body of a length of a model that is walked.
+abbrev pub bodyAt : List ℕ → Visit → ℕ → List ℕ
+bodyAt registers visit len = take len (drop (visit .address + 2) registers)
 
--- A list behind records of the model at a place, the first of them as record number `count`.
-abbrev pub written : Place → ℕ → List ModelPoint → List ℕ → List ℕ
-written place count ps out = sets out (Listing.recordWidth * count) (Listing.entries (map (recordAt place) ps))
+-- What a search writes: that a point is found, its address, its type, size and access, and its raw value.
+abbrev pub foundNumbers : Listing.Record → List ℕ
+foundNumbers r =
+    1
+    ∷ r .address
+    ∷ r .point .definition .typeCode
+    ∷ r .point .definition .size
+    ∷ r .point .definition .access
+    ∷ r .point .raw
+    ∷ []
+
+-- How many numbers these are.
+abbrev pub foundWidth : ℕ
+foundWidth = 6
+
+-- Are two paths the same in their three numbers?
+abbrev pub isSamePath : List ℕ → List ℕ → Bool
+isSamePath xs ys =
+    eqb (getD xs 0 0) (getD ys 0 0) && (eqb (getD xs 1 0) (getD ys 1 0) && eqb (getD xs 2 0) (getD ys 2 0))
+
+-- A list behind a record that a search meets: it is written where it is the one sought and none was before it.
+abbrev pub seen : Sought → Listing.Record → List ℕ → List ℕ
+seen sought r out =
+    elim (eqb (getD out 0 0) 0 && isPoint (sought .number) (sought .path .instances) (r .point)) [
+      | true ↦ sets out 0 (foundNumbers r)
+      | false ↦ out
+    ]
+
+-- A list behind all records that a search meets.
+abbrev pub searched : Sought → List Listing.Record → List ℕ → List ℕ
+searched sought [] out = out
+searched sought (r ∷ rs) out = searched sought rs (seen sought r out)
+
+-- A list behind records, the first of them as record number `count`: all are written one behind the other, or the one sought.
+abbrev pub visited : Task → Sought → ℕ → List Listing.Record → List ℕ → List ℕ
+visited Task.Records sought count rs out = sets out (Listing.recordWidth * count) (Listing.entries rs)
+visited Task.Search sought count rs out = searched sought rs out
+
+-- A list behind points of a model that is walked.
+abbrev pub written : Visit → ℕ → List ModelPoint → List ℕ → List ℕ
+written visit count ps out = visited (visit .task) (visit .sought) count (map (recordAt visit) ps) out
+
+-- How many numbers of records a list can take: as many as it has entries; a search takes any record of a map, if the list can
+-- take what is told of one.
+abbrev pub capacity : Task → ℕ → ℕ
+capacity Task.Records entries = entries
+capacity Task.Search entries = elim (leb foundWidth entries) [ true ↦ Listing.recordWidth * 65536 | false ↦ 0 ]
+
+-- A point is sized by its type, and lies in the body of a model that is walked.
+pub record PointFits (body : List ℕ) (offset : ℕ) (visit : Visit) (p : Frames.Point) : Type 0 where
+  pub sized : isSizeOf (p .typeCode) (p .size) ≡ true
+  pub inside : offset + p .size ≤ length body
+  pub short : length body ≤ 65535
+  pub address : visit .address ≤ 65536
 
 -- What writing the points of an instance asks for: they stand at the frame, lie in the body, and have room.
-pub record RunAsks (ws body out : List ℕ) (place : Place) (at : Progress) (ps : List Frames.Point) : Type 0 where
+pub record RunAsks (ws body out : List ℕ) (visit : Visit) (at : Progress) (ps : List Frames.Point) : Type 0 where
   pub stands : Stands ws (at .frame)
   pub few : length ws / 8 ≤ 4096
   pub short : length body ≤ 65535
-  pub address : place .address ≤ 65536
+  pub address : visit .address ≤ 65536
   pub sized : Each (λ p. isSizeOf (p .typeCode) (p .size) ≡ true) (heldAt ws (at .frame) .points)
   pub inside : at .offset + pointsSize ps ≤ length body
-  pub room : Listing.recordWidth * (at .records + length ps) ≤ length out
+  pub room : Listing.recordWidth * (at .records + length ps) ≤ capacity (visit .task) (length out)
 
 -- How far writing has come behind points.
 pub record BehindRun (at : Progress) (ps : List Frames.Point) (r : Progress) : Type 0 where
@@ -124,16 +178,17 @@ pub record BehindRun (at : Progress) (ps : List Frames.Point) (r : Progress) : T
   pub frame : r .frame ≡ at .frame + length ps
 
 -- What writing groups asks for: the walk stands at them, they lie in the body, and have room.
-pub record GroupsAsk (ws body table out : List ℕ) (place : Place) (fill levels : ℕ) (path : List ℕ) (at : Progress) : Type 0 where
+pub record GroupsAsk (ws body table out : List ℕ) (visit : Visit) (fill levels : ℕ) (path : List ℕ) (at : Progress) : Type 0 where
   pub standing : AtGroups ws (at .frame) levels
   pub isTable : IsTable table
   pub threeLevels : length path ≡ 3
   pub atMost3 : levels ≤ 3
   pub filling : fill ≤ 65535
   pub short : length body ≤ 65535
-  pub address : place .address ≤ 65536
+  pub address : visit .address ≤ 65536
   pub inside : at .offset + groupsSize (countOf (scopeIn table) fill) (heldAt ws (at .frame) .groups) ≤ length body
-  pub room : Listing.recordWidth * (at .records + groupsPoints (countOf (scopeIn table) fill) (heldAt ws (at .frame) .groups)) ≤ length out
+  pub room : Listing.recordWidth * (at .records + groupsPoints (countOf (scopeIn table) fill) (heldAt ws (at .frame) .groups))
+      ≤ capacity (visit .task) (length out)
 
 -- How far writing has come behind groups.
 pub record BehindGroups (gs : Groups) (count : Frames.Head → ℕ) (at r : Progress) : Type 0 where

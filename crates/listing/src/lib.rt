@@ -8,7 +8,10 @@ mod surveys;
 
 use catalog::Checked;
 use catalog::check;
-use records::Place;
+use records::InstancePath;
+use records::Sought;
+use records::Task;
+use records::Visit;
 pub use records::WIDTH;
 use records::put_model;
 use register_map::FIRST_HEADER;
@@ -31,7 +34,7 @@ ghost use Rattle.listing.specs.Reading.{reading};
 ghost use Rattle.listing.specs.Listing as Listings;
 ghost use Rattle.listing.specs.Walks.{Accepted, IsTable, pointsOf, readIn};
 ghost use Rattle.listing.specs.Answers.{answer};
-ghost use Rattle.listing.specs.Promises.{written, WalkFits, bodyAt};
+ghost use Rattle.listing.specs.Promises.{capacity, written, WalkFits, bodyAt};
 
 // What `list` answers: the points and the headers; or the number of a refusal, its place and the headers
 // before it.
@@ -159,6 +162,12 @@ fn put_map(catalog: &[u16], map: &[u16], table: &mut [u16], out: &mut [u64])
     requires { ⌜ WalkFits (Listings.walked (reading (definitions (now catalog))) (now map)) (now out) ⌝ }
     ensures { λ _. ⌜ now (out .exit) ≡ Listings.stored (Listings.walked (reading (definitions (now (catalog .entry)))) (now (map .entry))) (now (out .entry)) ⌝ }
 {
+    let sought = Sought {
+        number: 0,
+        path: InstancePath {
+            instances: [0, 0, 0],
+        },
+    };
     let mut at = FIRST_HEADER;
     let mut index = 0usize;
     let mut records = 0usize;
@@ -166,12 +175,14 @@ fn put_map(catalog: &[u16], map: &[u16], table: &mut [u16], out: &mut [u64])
         let header = header_at(map, at);
         match header {
             Header::Model { id, length } => {
-                let place = Place {
+                let visit = Visit {
                     index,
                     id,
                     address: at,
+                    task: Task::Records,
+                    sought,
                 };
-                records = put_known(catalog, map, table, out, place, length as usize, records);
+                records = put_known(catalog, map, table, out, visit, length as usize, records);
                 at += 2 + length as usize;
                 index += 1;
             }
@@ -187,20 +198,20 @@ fn put_known(
     map: &[u16],
     table: &mut [u16],
     out: &mut [u64],
-    place: Place,
+    visit: Visit,
     length: usize,
     records: usize,
 ) -> usize
     requires { ⌜ Accepted (now catalog) ⌝ }
     requires { ⌜ IsTable (now table) ⌝ }
-    requires { ⌜ (place .address + 2 + length ≤ Lists.length (now map)) × (length ≤ 65535) × (Lists.length (now map) ≤ 65536) ⌝ }
-    requires { ⌜ Listings.recordWidth * (records + Lists.length (pointsOf (readIn (now catalog) (place .id) (bodyAt (now map) place length)))) ≤ Lists.length (now out) ⌝ }
-    ensures { λ r. ⌜ r ≡ records + Lists.length (pointsOf (readIn (now (catalog .entry)) (place .id) (bodyAt (now (map .entry)) place length))) ⌝ }
-    ensures { λ _. ⌜ now (out .exit) ≡ written place records (pointsOf (readIn (now (catalog .entry)) (place .id) (bodyAt (now (map .entry)) place length))) (now (out .entry)) ⌝ }
+    requires { ⌜ (visit .address + 2 + length ≤ Lists.length (now map)) × (length ≤ 65535) × (Lists.length (now map) ≤ 65536) ⌝ }
+    requires { ⌜ Listings.recordWidth * (records + Lists.length (pointsOf (readIn (now catalog) (visit .id) (bodyAt (now map) visit length)))) ≤ capacity (visit .task) (Lists.length (now out)) ⌝ }
+    ensures { λ r. ⌜ r ≡ records + Lists.length (pointsOf (readIn (now (catalog .entry)) (visit .id) (bodyAt (now (map .entry)) visit length))) ⌝ }
+    ensures { λ _. ⌜ now (out .exit) ≡ written visit records (pointsOf (readIn (now (catalog .entry)) (visit .id) (bodyAt (now (map .entry)) visit length))) (now (out .entry)) ⌝ }
     ensures { λ _. ⌜ IsTable (now (table .exit)) ⌝ }
 {
-    let body = part(map, place.address + 2, length);
-    let survey = survey_model(catalog, table, place.id, body);
+    let body = part(map, visit.address + 2, length);
+    let survey = survey_model(catalog, table, visit.id, body);
     match survey {
         Survey::Unknown => records,
         Survey::Refused(_) => records,
@@ -208,6 +219,6 @@ fn put_known(
             first,
             points: _,
             fill,
-        } => put_model(catalog, table, out, place, body, first, fill, records),
+        } => put_model(catalog, table, out, visit, body, first, fill, records),
     }
 }

@@ -1,4 +1,4 @@
-// The records of one model, written into the output list.
+// The walk over the points of one model: their records, written into the output list, or the point sought.
 use crate::extents::count_of;
 use crate::frames::GroupOr;
 use crate::frames::PointOr;
@@ -10,39 +10,55 @@ use crate::scopes::note_run;
 use crate::surveys::LOWER_LEVELS;
 use catalog::Point;
 use values::part;
+use values::raw_value;
 ghost use mathlib.Core.Path.{_≡_};
-ghost use mathlib.Core.Bool.{true};
+ghost use mathlib.Core.List.{[], _∷_};
 ghost use Prim.Native.Nat.{_+_, _*_, _-_, _≤_, _<_};
 ghost use lib.ListN.{length, set};
 ghost use lib.Seq.{sets};
-ghost use Rattle.catalog.specs.Rules.{isSizeOf};
 ghost use Rattle.catalog.specs.Definitions.{groupFrames};
 ghost use Rattle.catalog.specs.Soundness as Soundness;
 ghost use Rattle.catalog.specs.Answers.{pointForm};
 ghost use Rattle.listing.specs.Points.{pointAt};
-ghost use Rattle.listing.specs.Layout.{within, countOf, pointsAt, groupsAt};
+ghost use Rattle.listing.specs.Layout.{within, nothing, countOf, pointsAt, groupsAt};
 ghost use Rattle.listing.specs.Listing.{recordNumbers, recordWidth};
 ghost use Rattle.listing.specs.Walks.{heldAt, Accepted, levelOf, scopeIn, noted, IsTable, Elsewhere, pointsOf, HasPoints, Ready, readIn, begunAt};
-ghost use Rattle.listing.specs.Promises.{recordAt, written, RunAsks, BehindRun, GroupsAsk, BehindGroups};
+ghost use Rattle.listing.specs.Promises.{recordAt, foundWidth, isSamePath, seen, capacity, written, PointFits, RunAsks, BehindRun, GroupsAsk, BehindGroups};
 
 // The numbers of a record.
 pub const WIDTH: usize = 10;
 
 // The instance numbers at levels 2, 3 and 4, 0 where absent.
-pub(crate) struct InstancePath {
-    pub(crate) instances: [u16; 3],
+pub struct InstancePath {
+    pub instances: [u16; 3],
 }
 
-// A model in a map: its index, its id, and the address of its header.
-pub(crate) struct Place {
+// A point that is searched for, by its number and its path.
+pub(crate) struct Sought {
+    pub(crate) number: u16,
+    pub(crate) path: InstancePath,
+}
+
+// What the walk writes of the points that it meets: of each its record; or of the first that is sought what is
+// told of it.
+pub(crate) enum Task {
+    Records,
+    Search,
+}
+
+// A model that is walked: its index, its id, the address of its header, what is written of its points, and the
+// point that a search is for. (An enum that holds an array is not covered, so the task does not hold the path.)
+pub(crate) struct Visit {
     pub(crate) index: usize,
     pub(crate) id: u16,
     pub(crate) address: usize,
+    pub(crate) task: Task,
+    pub(crate) sought: Sought,
 }
 
-// A model whose records are written: its place, and the count of its fill group.
+// A model whose groups are walked: the visit, and the count of its fill group.
 struct Model {
-    place: Place,
+    visit: Visit,
     fill: usize,
 }
 
@@ -58,19 +74,19 @@ pub(crate) fn put_model(
     catalog: &[u16],
     table: &mut [u16],
     out: &mut [u64],
-    place: Place,
+    visit: Visit,
     body: &[u16],
     first: usize,
     fill: usize,
     records: usize,
 ) -> usize
     requires { ⌜ Accepted (now catalog) ⌝ }
-    requires { ⌜ Ready (now catalog) (place .id) (now body) (now table) first fill ⌝ }
-    requires { ⌜ HasPoints (readIn (now catalog) (place .id) (now body)) ⌝ }
-    requires { ⌜ (length (now body) ≤ 65535) × (place .address ≤ 65536) ⌝ }
-    requires { ⌜ recordWidth * (records + length (pointsOf (readIn (now catalog) (place .id) (now body)))) ≤ length (now out) ⌝ }
-    ensures { λ r. ⌜ r ≡ records + length (pointsOf (readIn (now (catalog .entry)) (place .id) (now (body .entry)))) ⌝ }
-    ensures { λ _. ⌜ now (out .exit) ≡ written place records (pointsOf (readIn (now (catalog .entry)) (place .id) (now (body .entry)))) (now (out .entry)) ⌝ }
+    requires { ⌜ Ready (now catalog) (visit .id) (now body) (now table) first fill ⌝ }
+    requires { ⌜ HasPoints (readIn (now catalog) (visit .id) (now body)) ⌝ }
+    requires { ⌜ (length (now body) ≤ 65535) × (visit .address ≤ 65536) ⌝ }
+    requires { ⌜ recordWidth * (records + length (pointsOf (readIn (now catalog) (visit .id) (now body)))) ≤ capacity (visit .task) (length (now out)) ⌝ }
+    ensures { λ r. ⌜ r ≡ records + length (pointsOf (readIn (now (catalog .entry)) (visit .id) (now (body .entry)))) ⌝ }
+    ensures { λ _. ⌜ now (out .exit) ≡ written visit records (pointsOf (readIn (now (catalog .entry)) (visit .id) (now (body .entry)))) (now (out .entry)) ⌝ }
     ensures { λ _. ⌜ IsTable (now (table .exit)) ⌝ }
 {
     let path = InstancePath {
@@ -81,11 +97,11 @@ pub(crate) fn put_model(
         offset: 0,
         frame: first,
     };
-    let behind_points = put_run(catalog, table, out, place, body, path, start);
+    let behind_points = put_run(catalog, table, out, visit, body, path, start);
     if behind_points.offset == body.len() {
         return behind_points.records;
     }
-    let model = Model { place, fill };
+    let model = Model { visit, fill };
     let behind = put_groups(
         catalog,
         table,
@@ -105,22 +121,22 @@ fn put_run(
     catalog: &[u16],
     table: &[u16],
     out: &mut [u64],
-    place: Place,
+    visit: Visit,
     body: &[u16],
     path: InstancePath,
     start: Progress,
 ) -> Progress
     requires { ⌜ IsTable (now table) × (length (path .instances) ≡ 3) ⌝ }
-    requires { ⌜ RunAsks (now catalog) (now body) (now out) place start (begunAt (now catalog) (now body) (start .offset) (start .frame)) ⌝ }
+    requires { ⌜ RunAsks (now catalog) (now body) (now out) visit start (begunAt (now catalog) (now body) (start .offset) (start .frame)) ⌝ }
     ensures { λ r. ⌜ BehindRun start (begunAt (now (catalog .entry)) (now (body .entry)) (start .offset) (start .frame)) r ⌝ }
-    ensures { λ _. ⌜ now (out .exit) ≡ written place (start .records) (pointsAt (now (body .entry)) (scopeIn (now (table .entry))) (path .instances) (start .offset) (begunAt (now (catalog .entry)) (now (body .entry)) (start .offset) (start .frame))) (now (out .entry)) ⌝ }
+    ensures { λ _. ⌜ now (out .exit) ≡ written visit (start .records) (pointsAt (now (body .entry)) (scopeIn (now (table .entry))) (path .instances) (start .offset) (begunAt (now (catalog .entry)) (now (body .entry)) (start .offset) (start .frame))) (now (out .entry)) ⌝ }
 {
     let mut at = start;
     while at.offset < body.len() {
         let next = point_at(catalog, at.frame);
         match next {
             PointOr::Point(point) => {
-                put_point(table, out, place, body, path, at, point);
+                put_point(table, out, visit, body, path, at, point);
                 at = Progress {
                     records: at.records + 1,
                     offset: at.offset + point.size as usize,
@@ -145,9 +161,9 @@ fn put_groups(
     path: InstancePath,
     start: Progress,
 ) -> Progress
-    requires { ⌜ GroupsAsk (now catalog) (now body) (now table) (now out) (model .place) (model .fill) levels (path .instances) start ⌝ }
+    requires { ⌜ GroupsAsk (now catalog) (now body) (now table) (now out) (model .visit) (model .fill) levels (path .instances) start ⌝ }
     ensures { λ r. ⌜ BehindGroups (heldAt (now (catalog .entry)) (start .frame) .groups) (countOf (scopeIn (now (table .entry))) (model .fill)) start r ⌝ }
-    ensures { λ _. ⌜ now (out .exit) ≡ written (model .place) (start .records) (groupsAt (now (body .entry)) (countOf (scopeIn (now (table .entry))) (model .fill)) (levelOf levels) (scopeIn (now (table .entry))) (path .instances) (start .offset) (heldAt (now (catalog .entry)) (start .frame) .groups)) (now (out .entry)) ⌝ }
+    ensures { λ _. ⌜ now (out .exit) ≡ written (model .visit) (start .records) (groupsAt (now (body .entry)) (countOf (scopeIn (now (table .entry))) (model .fill)) (levelOf levels) (scopeIn (now (table .entry))) (path .instances) (start .offset) (heldAt (now (catalog .entry)) (start .frame) .groups)) (now (out .entry)) ⌝ }
     ensures { λ _. ⌜ Elsewhere (Soundness.numbersOf (groupFrames (heldAt (now (catalog .entry)) (start .frame) .groups))) (now (table .entry)) (now (table .exit)) ⌝ }
     ensures { λ _. ⌜ IsTable (now (table .exit)) ⌝ }
 {
@@ -160,7 +176,7 @@ fn put_groups(
             GroupOr::Group(head) => {
                 if j < count_of(table, head, model.fill) {
                     let within = instance_path(path, levels, j as u16);
-                    let own = put_own(catalog, table, out, model.place, body, within, at);
+                    let own = put_own(catalog, table, out, model.visit, body, within, at);
                     let end = put_groups(catalog, table, out, model, body, levels - 1, within, own);
                     at = at_frame(end, at.frame);
                     j += 1;
@@ -180,15 +196,15 @@ fn put_own(
     catalog: &[u16],
     table: &mut [u16],
     out: &mut [u64],
-    place: Place,
+    visit: Visit,
     body: &[u16],
     path: InstancePath,
     at: Progress,
 ) -> Progress
     requires { ⌜ IsTable (now table) × (length (path .instances) ≡ 3) ⌝ }
-    requires { ⌜ RunAsks (now catalog) (now body) (now out) place (record { records = at .records; offset = at .offset; frame = at .frame + 1 }) (heldAt (now catalog) (at .frame + 1) .points) ⌝ }
+    requires { ⌜ RunAsks (now catalog) (now body) (now out) visit (record { records = at .records; offset = at .offset; frame = at .frame + 1 }) (heldAt (now catalog) (at .frame + 1) .points) ⌝ }
     ensures { λ r. ⌜ BehindRun (record { records = at .records; offset = at .offset; frame = at .frame + 1 }) (heldAt (now (catalog .entry)) (at .frame + 1) .points) r ⌝ }
-    ensures { λ _. ⌜ now (out .exit) ≡ written place (at .records) (pointsAt (now (body .entry)) (within (now (body .entry)) (at .offset) (heldAt (now (catalog .entry)) (at .frame + 1) .points) (scopeIn (now (table .entry)))) (path .instances) (at .offset) (heldAt (now (catalog .entry)) (at .frame + 1) .points)) (now (out .entry)) ⌝ }
+    ensures { λ _. ⌜ now (out .exit) ≡ written visit (at .records) (pointsAt (now (body .entry)) (within (now (body .entry)) (at .offset) (heldAt (now (catalog .entry)) (at .frame + 1) .points) (scopeIn (now (table .entry)))) (path .instances) (at .offset) (heldAt (now (catalog .entry)) (at .frame + 1) .points)) (now (out .entry)) ⌝ }
     ensures { λ _. ⌜ now (table .exit) ≡ noted (now (body .entry)) (at .offset) (heldAt (now (catalog .entry)) (at .frame + 1) .points) (now (table .entry)) ⌝ }
 {
     let behind = at.frame + 1;
@@ -198,7 +214,7 @@ fn put_own(
         frame: behind,
     };
     note_run(catalog, behind, body, at.offset, table);
-    put_run(catalog, table, out, place, body, path, first)
+    put_run(catalog, table, out, visit, body, path, first)
 }
 
 // As far as before, but at another frame.
@@ -223,46 +239,116 @@ fn instance_path(path: InstancePath, levels: usize, j: u16) -> InstancePath
     InstancePath { instances }
 }
 
-// Writes the record of a point.
+// Writes what is asked of a point.
 fn put_point(
     table: &[u16],
     out: &mut [u64],
-    place: Place,
+    visit: Visit,
     body: &[u16],
     path: InstancePath,
     at: Progress,
     point: Point,
 )
     requires { ⌜ IsTable (now table) × (length (path .instances) ≡ 3) ⌝ }
-    requires { ⌜ isSizeOf (pointForm point .typeCode) (pointForm point .size) ≡ true ⌝ }
-    requires { ⌜ (at .offset + pointForm point .size ≤ length (now body)) × (length (now body) ≤ 65535) × (place .address ≤ 65536) ⌝ }
+    requires { ⌜ PointFits (now body) (at .offset) visit (pointForm point) ⌝ }
+    requires { ⌜ recordWidth * (at .records + 1) ≤ capacity (visit .task) (length (now out)) ⌝ }
+    ensures { λ _. ⌜ now (out .exit) ≡ written visit (at .records) (pointAt (now (body .entry)) (scopeIn (now (table .entry))) (path .instances) (at .offset) (pointForm point) ∷ []) (now (out .entry)) ⌝ }
+{
+    let task = visit.task;
+    match task {
+        Task::Records => put_record(table, out, visit, body, path, at, point),
+        Task::Search => put_found(out, visit, body, path, at.offset, point),
+    }
+}
+
+// Writes the record of a point.
+fn put_record(
+    table: &[u16],
+    out: &mut [u64],
+    visit: Visit,
+    body: &[u16],
+    path: InstancePath,
+    at: Progress,
+    point: Point,
+)
+    requires { ⌜ IsTable (now table) × (length (path .instances) ≡ 3) ⌝ }
+    requires { ⌜ PointFits (now body) (at .offset) visit (pointForm point) ⌝ }
     requires { ⌜ recordWidth * (at .records + 1) ≤ length (now out) ⌝ }
-    ensures { λ _. ⌜ now (out .exit) ≡ sets (now (out .entry)) (recordWidth * at .records) (recordNumbers (recordAt place (pointAt (now (body .entry)) (scopeIn (now (table .entry))) (path .instances) (at .offset) (pointForm point)))) ⌝ }
+    ensures { λ _. ⌜ now (out .exit) ≡ sets (now (out .entry)) (recordWidth * at .records) (recordNumbers (recordAt visit (pointAt (now (body .entry)) (scopeIn (now (table .entry))) (path .instances) (at .offset) (pointForm point)))) ⌝ }
 {
     let registers = part(body, at.offset, point.size as usize);
     let shown = show(point, registers, table[point.scale as usize]);
     let numbers = [
-        place.index as u64,
-        place.id as u64,
+        visit.index as u64,
+        visit.id as u64,
         point.number as u64,
         path.instances[0] as u64,
         path.instances[1] as u64,
         path.instances[2] as u64,
-        (place.address + 2 + at.offset) as u64,
+        (visit.address + 2 + at.offset) as u64,
         shown.status,
         shown.raw,
         shown.scale,
     ];
-    put(out, WIDTH * at.records, numbers);
+    put(out, WIDTH * at.records, &numbers);
 }
 
-// Writes the ten numbers of a record.
-fn put(out: &mut [u64], at: usize, numbers: [u64; 10])
-    requires { ⌜ at + 10 ≤ length (now out) ⌝ }
-    ensures { λ _. ⌜ now (out .exit) ≡ sets (now (out .entry)) at numbers ⌝ }
+// Writes what is told of a point, if it is the one sought and none was before it.
+fn put_found(
+    out: &mut [u64],
+    visit: Visit,
+    body: &[u16],
+    path: InstancePath,
+    offset: usize,
+    point: Point,
+)
+    requires { ⌜ PointFits (now body) offset visit (pointForm point) ⌝ }
+    requires { ⌜ foundWidth ≤ length (now out) ⌝ }
+    ensures { λ _. ⌜ now (out .exit) ≡ seen (visit .sought) (recordAt visit (pointAt (now (body .entry)) nothing (path .instances) offset (pointForm point))) (now (out .entry)) ⌝ }
+{
+    if out[0] != 0 {
+        return;
+    }
+    if point.number != visit.sought.number {
+        return;
+    }
+    if !same_path(path, visit.sought.path) {
+        return;
+    }
+    let registers = part(body, offset, point.size as usize);
+    let numbers = [
+        1,
+        (visit.address + 2 + offset) as u64,
+        point.type_code as u64,
+        point.size as u64,
+        point.access as u64,
+        raw_value(registers),
+    ];
+    put(out, 0, &numbers);
+}
+
+// Are two paths the same in all three numbers?
+fn same_path(a: InstancePath, b: InstancePath) -> bool
+    ensures { λ r. ⌜ r ≡ isSamePath (a .instances) (b .instances) ⌝ }
+{
+    let x = a.instances;
+    let y = b.instances;
+    if x[0] != y[0] {
+        return false;
+    }
+    if x[1] != y[1] {
+        return false;
+    }
+    x[2] == y[2]
+}
+
+// Writes numbers into a list, one behind the other.
+fn put(out: &mut [u64], at: usize, numbers: &[u64])
+    requires { ⌜ at + length (now numbers) ≤ length (now out) ⌝ }
+    ensures { λ _. ⌜ now (out .exit) ≡ sets (now (out .entry)) at (now (numbers .entry)) ⌝ }
 {
     let mut k = 0;
-    while k < WIDTH {
+    while k < numbers.len() {
         out[at + k] = numbers[k];
         k += 1;
     }

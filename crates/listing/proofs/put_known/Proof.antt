@@ -10,7 +10,7 @@ use Rattle.listing.specs.Reading.{Reading, reading}
 use Rattle.listing.specs.Listing.{recordWidth}
 use Rattle.listing.specs.Walks.{pointsOf}
 use Rattle.listing.specs.Answers.{surveyForm}
-use Rattle.listing.specs.Promises.{ReadyBy, written}
+use Rattle.listing.specs.Promises.{ReadyBy, capacity, written}
 use Rattle.listing.proofs.MapSurvey.{no-points-unknown, no-points-refused, has-points}
 use Rattle.listing.proofs.MapRecords.{nothing-written}
 use borrow.Author.Needs.{needs}
@@ -28,8 +28,8 @@ survey-model-requires c κs =
     let s = c .before .before .before .before .before .before .before in
     let v = s .args in
     let n = v .length in
-    let ws = drop (v .place .address + 2) (v .map .now) in
-    let long = length-take-le n ws (omega (arith, s .pre .1 .1 .0 .0, length-drop (v .place .address + 2) (v .map .now))) in
+    let ws = drop (v .visit .address + 2) (v .map .now) in
+    let long = length-take-le n ws (omega (arith, s .pre .1 .1 .0 .0, length-drop (v .visit .address + 2) (v .map .now))) in
     (s .pre .0, (s .pre .1 .0, omega (arith, ap length (c .before .part .ensures), long)))
 
 enum-told : tie.Need-enum-told
@@ -47,13 +47,13 @@ put-model-requires c κs =
     let s = m .before .before .before .before .before .before .before .before in
     let v = s .args in
     let n = v .length in
-    let ws = drop (v .place .address + 2) (v .map .now) in
-    let read : List ℕ → Reading = λ body. reading (definitions (v .catalog .now)) (record { id = v .place .id; body = body }) in
+    let ws = drop (v .visit .address + 2) (v .map .now) in
+    let read : List ℕ → Reading = λ body. reading (definitions (v .catalog .now)) (record { id = v .visit .id; body = body }) in
     let same = m .before .before .part .ensures in
-    let long = length-take-le n ws (omega (arith, s .pre .1 .1 .0 .0, length-drop (v .place .address + 2) (v .map .now))) in
-    let Ready = ReadyBy (v .catalog .now) (v .place .id) (m .before .before .part .result .now) (m .survey-model .last .1 .0) in
+    let long = length-take-le n ws (omega (arith, s .pre .1 .1 .0 .0, length-drop (v .visit .address + 2) (v .map .now))) in
+    let Ready = ReadyBy (v .catalog .now) (v .visit .id) (m .before .before .part .result .now) (m .survey-model .last .1 .0) in
     let ready = subst Ready (c .before .before .before .survey .given .1) (m .survey-model .ensures .1 .0) in
-    let Room : List ℕ → Type 0 = λ b. recordWidth * (v .records + length (pointsOf (read b))) ≤ length (v .out .now) in
+    let Room : List ℕ → Type 0 = λ b. recordWidth * (v .records + length (pointsOf (read b))) ≤ capacity (v .visit .task) (length (v .out .now)) in
     let room = subst Room (sym same) (s .pre .1 .1 .1) in
     let has = has-points (read (m .before .before .part .result .now))
     (sym (ap surveyForm (c .before .before .before .survey .given .1)) ∙ m .survey-model .ensures .0) in
@@ -68,12 +68,12 @@ returns c =
     let s = m .before .before .before .before .before .before .before .before in
     let v = s .args in
     let n = v .length in
-    let ws = drop (v .place .address + 2) (v .map .now) in
-    let read : List ℕ → Reading = λ body. reading (definitions (v .catalog .now)) (record { id = v .place .id; body = body }) in
+    let ws = drop (v .visit .address + 2) (v .map .now) in
+    let read : List ℕ → Reading = λ body. reading (definitions (v .catalog .now)) (record { id = v .visit .id; body = body }) in
     let same = m .before .before .part .ensures in
     let seen = sym (ap surveyForm (c .enum-told .given .1)) ∙ m .survey-model .ensures .0 in
     let none = ap (λ b. pointsOf (read b)) (sym same) ∙ no-points-unknown (read (m .before .before .part .result .now)) seen in
-    let w = nothing-written (v .place) (v .records) (pointsOf (read (take n ws))) (v .out .now) none in
+    let w = nothing-written (v .visit) (v .records) (pointsOf (read (take n ws))) (v .out .now) none in
     (w .0, (w .1, m .survey-model .ensures .1 .1))
 
 same-length-2 : tie.Need-same-length-2
@@ -85,12 +85,12 @@ returns-2 c =
     let s = m .before .before .before .before .before .before .before .before in
     let v = s .args in
     let n = v .length in
-    let ws = drop (v .place .address + 2) (v .map .now) in
-    let read : List ℕ → Reading = λ body. reading (definitions (v .catalog .now)) (record { id = v .place .id; body = body }) in
+    let ws = drop (v .visit .address + 2) (v .map .now) in
+    let read : List ℕ → Reading = λ body. reading (definitions (v .catalog .now)) (record { id = v .visit .id; body = body }) in
     let same = m .before .before .part .ensures in
     let seen = sym (ap surveyForm (c .enum-told2 .given .1)) ∙ m .survey-model .ensures .0 in
     let none = ap (λ b. pointsOf (read b)) (sym same) ∙ no-points-refused (read (m .before .before .part .result .now)) seen in
-    let w = nothing-written (v .place) (v .records) (pointsOf (read (take n ws))) (v .out .now) none in
+    let w = nothing-written (v .visit) (v .records) (pointsOf (read (take n ws))) (v .out .now) none in
     (w .0, (w .1, m .survey-model .ensures .1 .1))
 
 same-length-3 : tie.Need-same-length-3
@@ -103,11 +103,11 @@ returns-3 : tie.Need-returns-3
 returns-3 c =
     let m = c .before .before .before .before .before .before .before .before .before .before .before .before in
     let v = m .before .before .before .before .before .before .before .before .args in
-    let read : List ℕ → Reading = λ body. reading (definitions (v .catalog .now)) (record { id = v .place .id; body = body }) in
+    let read : List ℕ → Reading = λ body. reading (definitions (v .catalog .now)) (record { id = v .visit .id; body = body }) in
     let same = m .before .before .part .ensures in
     let put = c .before .before .before .before .put-model .ensures in (
       put .0 ∙ ap (λ b. v .records + length (pointsOf (read b))) same,
-      (put .1 .0 ∙ ap (λ b. written (v .place) (v .records) (pointsOf (read b)) (v .out .now)) same, put .1 .1),
+      (put .1 .0 ∙ ap (λ b. written (v .visit) (v .records) (pointsOf (read b)) (v .out .now)) same, put .1 .1),
     )
 
 pub put-known-spec : {M : Type 1} → statement M

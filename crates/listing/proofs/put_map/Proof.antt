@@ -1,6 +1,6 @@
 -- `listing::put_map` meets its contract: at each header, writing the records that are left gives the list behind the whole.
 use mathlib.Core.Path.{sym, ap, subst, _∙_}
-use mathlib.Core.List.{List}
+use mathlib.Core.List.{List, [], _∷_}
 use Prim.Native.Nat.{ℕ, _+_, _-_}
 use native.Mathlib.Omega.{arith}
 use lib.Dec.{eqb}
@@ -11,17 +11,22 @@ use Rattle.register_map.proofs.HeaderLaws.{opening-none}
 use Rattle.register_map.proofs.HeaderCases.{model-ends}
 use Rattle.listing.specs.Reading.{reading}
 use Rattle.listing.specs.Walks.{IsTable}
+use Rattle.listing.specs.declared.records.Sought.{Sought}
 use Rattle.listing.proofs.MapRecords.{WritingMap, writing-starts, writing-ends, writing-refused, writing-late, writing-goes-on}
 use borrow.Author.Needs.{needs}
 use Rattle.listing.proofs.put_map.Statement.{statement}
 use Rattle.listing.proofs.put_map.Tie as tie
 
+-- Listing searches for nothing.
+abbrev nothingSought : Sought
+nothingSought = record { number = 0; path = record { instances = 0 ∷ 0 ∷ 0 ∷ [] } }
+
 abbrev Inv-loop : tie.InvT-loop
-Inv-loop catalog map table₀ out₀ at₀ index₀ records₀ table out at index records =
+Inv-loop catalog map table₀ out₀ sought at₀ index₀ records₀ table out at index records =
     WritingMap (reading (definitions catalog)) map out₀ out at index records × IsTable table
 
 abbrev μ-loop : tie.MeasureT-loop
-μ-loop catalog map table₀ out₀ at₀ index₀ records₀ table out at index records = length map - at
+μ-loop catalog map table₀ out₀ sought at₀ index₀ records₀ table out at index records = length map - at
 
 loop-holds : tie.Need-loop-holds Inv-loop μ-loop
 loop-holds c =
@@ -46,7 +51,7 @@ put-known-requires c κs =
     let g = k .header .given in
     let h = sym (k .before .before .header-at .ensures) ∙ ap headerForm (g .1) in
     let short = opening-none (s .args .map .now) (s .pre .1 .0) .0 in
-    let next = writing-goes-on (l .inv .0) short h in
+    let next = writing-goes-on (l .inv .0) nothingSought short h in
     let ends = model-ends (eqb (l .at) 2) (s .args .map .now) (l .at) h in
     (s .pre .0, (l .inv .1, ((omega (arith, ends), omega (arith, ends, short), short), next .0)))
 
@@ -73,7 +78,7 @@ loop-again c =
     let g = k .header .given in
     let h = sym (k .before .before .header-at .ensures) ∙ ap headerForm (g .1) in
     let short = opening-none (s .args .map .now) (s .pre .1 .0) .0 in
-    let next = writing-goes-on (l .inv .0) short h in
+    let next = writing-goes-on (l .inv .0) nothingSought short h in
     let p = c .before .before .before .before .put-known in
     let read = reading (definitions (s .args .catalog .now)) in
     let Goes : List ℕ → ℕ → Type 0 =

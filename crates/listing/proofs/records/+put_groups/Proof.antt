@@ -57,7 +57,7 @@ known t = (
 
 abbrev Inv-loop : lts.InvT-loop
 Inv-loop catalog table₀ out₀ model body levels path frames at₀ j₀ table out at j =
-    Writing body (model .place) (model .fill) (levelOf levels) (path .instances) table₀ out₀ (at₀ .records) (at₀ .offset)
+    Writing body (model .visit) (model .fill) (levelOf levels) (path .instances) table₀ out₀ (at₀ .records) (at₀ .offset)
     (heldAt catalog (at₀ .frame) .groups) table out (at .records) (at .offset) j (heldAt catalog (at .frame) .groups)
     × Stands catalog (at .frame)
     × (heldAt catalog (at .frame) .points ≡ [])

@@ -1,4 +1,4 @@
--- `listing::records::put` meets its contract: storing the numbers that are left gives what storing all ten gives.
+-- `listing::records::put` meets its contract: storing the numbers that are left gives what storing all gives.
 use mathlib.Core.Path.{_≡_, refl, _∙_}
 use Prim.Native.Nat.{_+_, _-_, _≤_}
 use native.Mathlib.Nat.{add-zero}
@@ -12,10 +12,10 @@ use Rattle.listing.proofs.records.put.Tie as tie
 
 abbrev Inv-loop : tie.InvT-loop
 Inv-loop out₀ at numbers k₀ out k =
-    (sets out (at + k) (drop k numbers) ≡ sets out₀ at numbers) × (length out ≡ length out₀) × (k ≤ 10)
+    (sets out (at + k) (drop k numbers) ≡ sets out₀ at numbers) × (length out ≡ length out₀) × (k ≤ length numbers)
 
 abbrev μ-loop : tie.MeasureT-loop
-μ-loop out₀ at numbers k₀ out k = 10 - k
+μ-loop out₀ at numbers k₀ out k = length numbers - k
 
 loop-holds : tie.Need-loop-holds Inv-loop μ-loop
 loop-holds c = (rw add-zero, refl, search needs)
@@ -23,8 +23,8 @@ loop-holds c = (rw add-zero, refl, search needs)
 mul-out : tie.Need-mul-out Inv-loop μ-loop
 mul-out c = search needs
 
-array-read-out : tie.Need-array-read-out Inv-loop μ-loop
-array-read-out c = search needs
+shared-slice-read-out : tie.Need-shared-slice-read-out Inv-loop μ-loop
+shared-slice-read-out c = search needs
 
 add-out : tie.Need-add-out Inv-loop μ-loop
 add-out c = search needs
@@ -43,10 +43,12 @@ loop-less c = search needs
 
 loop-again : tie.Need-loop-again Inv-loop μ-loop
 loop-again c =
-    let a = c .before .before .args in
-    let l = c .before .loop in
-    let ten : length (a .t3) ≡ 10 = search needs in
-    (sets-more (l .out) (a .at) (l .k) (a .t3) (omega arith) ∙ l .inv .0, simp length-set (l .inv .1), omega arith)
+    let a = c .before .before .before .args in
+    let l = c .before .before .loop in (
+      sets-more (l .out) (a .at) (l .k) (a .numbers .now) (omega arith) ∙ l .inv .0,
+      simp length-set (l .inv .1),
+      omega arith,
+    )
 
 same-length : tie.Need-same-length Inv-loop μ-loop
 same-length c = search needs
@@ -55,9 +57,8 @@ returns : tie.Need-returns Inv-loop μ-loop
 returns c =
     let a = c .before .before .args in
     let l = c .before .loop in
-    let ten : length (a .t3) ≡ 10 = search needs in
-    let past : length (a .t3) ≤ l .k = omega arith in
-    rw (drop-of-length-le (a .t3) past) at (l .inv .0)
+    let past : length (a .numbers .now) ≤ l .k = omega arith in
+    rw (drop-of-length-le (a .numbers .now) past) at (l .inv .0)
 
 pub put-spec : {M : Type 1} → statement M
 put-spec =
@@ -67,7 +68,7 @@ put-spec =
     μ-loop
     loop-holds
     mul-out
-    array-read-out
+    shared-slice-read-out
     add-out
     mul-out-2
     slice-write-out

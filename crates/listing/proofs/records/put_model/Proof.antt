@@ -21,7 +21,7 @@ put-run-requires c κs =
     let pre = at-start .pre in
     let rest = pre .1 .1 in
     let words : (k : ℕ) → getD (v .catalog .now) k 0 < 65536 = λ k. omega (arith, at-slices .shared-slice-known .given k) in
-    let asks = model.run-asks (v .place) (v .records) (v .out .now) (pre .0) (pre .1 .0) words (rest .1 .0 .0) (rest .1 .0 .1)
+    let asks = model.run-asks (v .visit) (v .records) (v .out .now) (pre .0) (pre .1 .0) words (rest .1 .0 .0) (rest .1 .0 .1)
     (rest .0) (rest .1 .1) in
     ((pre .1 .0 .isTable, refl), asks)
 
@@ -43,11 +43,11 @@ returns c =
     let run = at-put-run .put-run .ensures .0 in
     let e : pointsSize (begun (length (v .body .now)) 0 (heldAt (v .catalog .now) (v .first) .points)) ≡ length (v .body .now) =
     omega (arith, run .offset, c .if1) in
-    let a = model.all-points (v .place) (v .records) (v .out .now) (pre .0) (pre .1 .0) words (rest .1 .0 .0) (rest .1 .0 .1)
+    let a = model.all-points (v .visit) (v .records) (v .out .now) (pre .0) (pre .1 .0) words (rest .1 .0 .0) (rest .1 .0 .1)
     (rest .0) (rest .1 .1) e in
     let n = counts.points-counted (v .body .now) (scopeIn (v .table .now)) noInstance 0
     (begun (length (v .body .now)) 0 (heldAt (v .catalog .now) (v .first) .points)) in
-    let wrote = at-put-run .put-run .ensures .1 ∙ ap (λ x. written (v .place) (v .records) x (v .out .now)) a in
+    let wrote = at-put-run .put-run .ensures .1 ∙ ap (λ x. written (v .visit) (v .records) x (v .out .now)) a in
     (omega (arith, run .records, n, ap length a), (wrote, pre .1 .0 .isTable))
 
 put-groups-requires : tie.Need-put-groups-requires
@@ -60,9 +60,9 @@ put-groups-requires c κs =
     let rest = pre .1 .1 in
     let words : (k : ℕ) → getD (v .catalog .now) k 0 < 65536 = λ k. omega (arith, at-slices .shared-slice-known .given k) in
     let run = at-put-run .put-run .ensures .0 in
-    let f = model.else-full (v .place) (v .records) (v .out .now) (pre .0) (pre .1 .0) words (rest .1 .0 .0) (rest .1 .0 .1)
+    let f = model.else-full (v .visit) (v .records) (v .out .now) (pre .0) (pre .1 .0) words (rest .1 .0 .0) (rest .1 .0 .1)
     (rest .0) (rest .1 .1) (λ e. c .before .before .if1 .left (omega (arith, run .offset, e))) in
-    model.groups-ask (v .place) (v .records) (v .out .now) (pre .0) (pre .1 .0) words (rest .1 .0 .0) (rest .1 .0 .1) (rest .0)
+    model.groups-ask (v .visit) (v .records) (v .out .now) (pre .0) (pre .1 .0) words (rest .1 .0 .0) (rest .1 .0 .1) (rest .0)
     (rest .1 .1) run (f .0) (f .1) (at-put-run .put-run .ensures .1)
 
 same-length-3 : tie.Need-same-length-3
@@ -83,14 +83,14 @@ returns-2 c =
     let rest = pre .1 .1 in
     let words : (k : ℕ) → getD (v .catalog .now) k 0 < 65536 = λ k. omega (arith, at-slices .shared-slice-known .given k) in
     let run = at-put-run .put-run .ensures .0 in
-    let f = model.else-full (v .place) (v .records) (v .out .now) (pre .0) (pre .1 .0) words (rest .1 .0 .0) (rest .1 .0 .1)
+    let f = model.else-full (v .visit) (v .records) (v .out .now) (pre .0) (pre .1 .0) words (rest .1 .0 .0) (rest .1 .0 .1)
     (rest .0) (rest .1 .1) (λ e. at-if1 .if1 .left (omega (arith, run .offset, e))) in
     let wrote = at-put-run .put-run .ensures .1 in
     let g = at-put-groups .put-groups .ensures in (
-      model.records-behind (v .place) (v .records) (v .out .now) (pre .0) (pre .1 .0) words (rest .1 .0 .0) (rest .1 .0 .1)
+      model.records-behind (v .visit) (v .records) (v .out .now) (pre .0) (pre .1 .0) words (rest .1 .0 .0) (rest .1 .0 .1)
           (rest .0) (rest .1 .1) run (f .0) (f .1) wrote (g .0),
       (
-        model.list-behind (v .place) (v .records) (v .out .now) (pre .0) (pre .1 .0) words (rest .1 .0 .0) (rest .1 .0 .1)
+        model.list-behind (v .visit) (v .records) (v .out .now) (pre .0) (pre .1 .0) words (rest .1 .0 .0) (rest .1 .0 .1)
             (rest .0) (rest .1 .1) run (f .0) (f .1) wrote (g .1 .0),
         g .1 .1 .1,
       ),

@@ -46,7 +46,7 @@ put-run-requires c κs =
     ∙ noted-length (a .body .now) (a .at .offset) (ownBegun s) (a .table .now)
     ∙ s .pre .0 .0 in (
       (isTable, s .pre .0 .1),
-      subst (λ (ps : List Point). RunAsks (a .catalog .now) (a .body .now) (a .out .now) (a .place) (start s) ps)
+      subst (λ (ps : List Point). RunAsks (a .catalog .now) (a .body .now) (a .out .now) (a .visit) (start s) ps)
           (sym (all-begun s)) (s .pre .1),
     )
 
@@ -73,7 +73,7 @@ returns c =
     (s .pre .0 .0) numbers all (noting .note-run .ensures) in (
       subst (λ (ps : List Point). BehindRun (start s) ps (put .result)) all (put .ensures .0),
       (
-        put .ensures .1 ∙ ap (λ (ps : List ModelPoint). written (a .place) (a .at .records) ps (a .out .now)) points,
+        put .ensures .1 ∙ ap (λ (ps : List ModelPoint). written (a .visit) (a .at .records) ps (a .out .now)) points,
         noting .note-run .ensures ∙ ap (λ (ps : List Point). noted body (a .at .offset) ps (a .table .now)) all,
       ),
     )

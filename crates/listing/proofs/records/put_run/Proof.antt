@@ -6,22 +6,23 @@ use borrow.Author.Needs.{needs}
 use lib.ListN.{length}
 use Rattle.catalog.specs.Answers.{pointForm}
 use Rattle.listing.specs.Answers.{pointOrForm}
+use Rattle.listing.proofs.WrittenRecords.{capacity-bound}
 use Rattle.listing.proofs.PointRuns.{StillWrites, still-all, still-within, still-past, still-other, first-fits, still-first}
 use Rattle.listing.proofs.records.put_run.Statement.{statement}
 use Rattle.listing.proofs.records.put_run.Tie as tie
 
 abbrev Inv-loop : tie.InvT-loop
-Inv-loop catalog table out₀ place body path at₀ out at =
-    StillWrites catalog body table place (path .instances) out₀ at₀ out at
+Inv-loop catalog table out₀ visit body path at₀ out at =
+    StillWrites catalog body table visit (path .instances) out₀ at₀ out at
 
 abbrev μ-loop : tie.MeasureT-loop
-μ-loop catalog table out₀ place body path at₀ out at = length catalog / 8 - at .frame
+μ-loop catalog table out₀ visit body path at₀ out at = length catalog / 8 - at .frame
 
 loop-holds : tie.Need-loop-holds Inv-loop μ-loop
 loop-holds c =
     let s = c .before .before .before .before in
     let a = s .args in
-    still-all (a .catalog .now) (a .body .now) (a .table .now) (a .place) (a .path .instances) (a .out .now) (a .start)
+    still-all (a .catalog .now) (a .body .now) (a .table .now) (a .visit) (a .path .instances) (a .out .now) (a .start)
     (s .pre .1)
 
 point-at-requires : tie.Need-point-at-requires Inv-loop μ-loop
@@ -37,10 +38,19 @@ put-point-requires c κs =
     let read = c .before .before in
     let f = sym (read .before .before .point-at .ensures) ∙ ap pointOrForm (read .next .given .1) in
     let fits = first-fits i (pointForm (read .next .given .0 .0)) (c .before .before .before .before .before .if1 .taken) f in
-    (head .before .before .before .before .before .pre .0, (fits .0, ((fits .1, i .asks .short, i .asks .address), fits .2)))
+    (head .before .before .before .before .before .pre .0, (fits .0, fits .1))
 
 add-t16 : tie.Need-add-t16 Inv-loop μ-loop
-add-t16 c = search needs
+add-t16 c =
+    let put = c .before .before .before in
+    let read = put .before .before .before in
+    let test = read .before .before .before in
+    let l = test .before .before .loop in
+    let start = test .before .before .before .before .before .before .before in
+    let f = sym (read .before .before .point-at .ensures) ∙ ap pointOrForm (read .next .given .1) in
+    let fits = first-fits (l .inv) (pointForm (read .next .given .0 .0)) (test .if1 .taken) f in
+    let bound = capacity-bound (start .args .visit .task) (length (l .out)) in
+    omega (arith, fits .1, bound, l .inv .same, start .good .1 .1 .0 .0)
 
 cast-t17 : tie.Need-cast-t17 Inv-loop μ-loop
 cast-t17 c = search needs

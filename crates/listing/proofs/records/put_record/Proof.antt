@@ -1,0 +1,137 @@
+-- `listing::records::put_record` meets its contract: the ten numbers of a point's record are written.
+use mathlib.Core.Path.{_≡_, sym, ap, subst, _∙_}
+use mathlib.Core.Bool.{true}
+use mathlib.Core.List.{List}
+use Prim.Native.Nat.{ℕ, _*_, _≤_}
+use native.Mathlib.Omega.{arith}
+use lib.ListN.{length, getD, drop, length-drop}
+use lib.Seq.{sets, length-take-le}
+use Rattle.catalog.specs.Rules.{isSizeOf}
+use Rattle.catalog.specs.Answers.{pointForm}
+use Rattle.listing.specs.Points.{registersAt}
+use Rattle.listing.specs.Listing.{recordWidth}
+use Rattle.listing.specs.Walks.{scopeIn}
+use Rattle.listing.specs.Promises.{ShownOf}
+use Rattle.listing.proofs.PointRuns.{shown-numbers}
+use mir.Syntax.{w16, w64}
+use mir.Val.{Fits}
+use borrow.Author.Needs.{needs, elem-fits-field}
+use Rattle.listing.proofs.records.put_record.Statement.{statement}
+use Rattle.listing.proofs.records.put_record.Tie as tie
+
+-- An instance number is 16 bits.
+instance-fits : (c : tie.Start) (k : ℕ) → Fits w64 (getD (c .args .t5 .instances) k 0)
+instance-fits c k =
+    let held = c .good .1 .1 .1 .1 .0 .1 .1 .0 in
+    elem-fits-field w16 w64 (c .args .t5 .instances) (held .0) k (held .1 .1) tt
+
+cast-part : tie.Need-cast-part
+cast-part c = search needs
+
+part-requires : tie.Need-part-requires
+part-requires c κs = search needs
+
+cast-show : tie.Need-cast-show
+cast-show c = search needs
+
+mul-show : tie.Need-mul-show
+mul-show c = search needs
+
+shared-slice-read-show : tie.Need-shared-slice-read-show
+shared-slice-read-show c = search needs
+
+show-requires : tie.Need-show-requires
+show-requires c κs =
+    let s = c .before .before .before .before .before .before .before in
+    let a = s .args in
+    let p = pointForm (a .point) in
+    let rest = drop (a .at .offset) (a .body .now) in
+    let fits : p .size ≤ length rest = rw length-drop (omega (arith, s .pre .1 .0 .inside)) in
+    let call = c .before .before .part in
+    let n : length (call .result .now) ≡ p .size = ap length (call .ensures) ∙ length-take-le (p .size) rest fits in
+    subst (λ (k : ℕ). isSizeOf (p .typeCode) k ≡ true) (sym n) (s .pre .1 .0 .sized)
+
+cast-t17 : tie.Need-cast-t17
+cast-t17 c = search needs
+
+cast-t18 : tie.Need-cast-t18
+cast-t18 c = search needs
+
+element-copy-out-t15 : tie.Need-element-copy-out-t15
+element-copy-out-t15 c = search needs
+
+cast-t21 : tie.Need-cast-t21
+cast-t21 c = instance-fits (c .before .before .before .before .before .before .before .before .before .before .before) 0
+
+element-copy-out-t24 : tie.Need-element-copy-out-t24
+element-copy-out-t24 c = search needs
+
+cast-t25 : tie.Need-cast-t25
+cast-t25 c = instance-fits (c .before .before .before .before .before .before .before .before .before .before .before .before) 1
+
+element-copy-out-t28 : tie.Need-element-copy-out-t28
+element-copy-out-t28 c = search needs
+
+cast-t29 : tie.Need-cast-t29
+cast-t29 c = instance-fits (c .before .before .before .before .before .before .before .before .before .before .before .before .before) 2
+
+add-t12 : tie.Need-add-t12
+add-t12 c = omega (arith, c .before .before .before .before .before .before .before .before .before .before .before .before .before .before .pre .1 .0 .address)
+
+add-t13 : tie.Need-add-t13
+add-t13 c =
+    let asked = c .before .before .before .before .before .before .before .before .before .before .before .before .before .before .before .pre .1 .0 in
+    omega (arith, asked .inside, asked .short, asked .address)
+
+mul-put : tie.Need-mul-put
+mul-put c =
+    let s = c .before .before .before .before .before .before .before .before .before .before .before .before .before .before .before .before .before in
+    omega (arith, s .pre .1 .1, s .good .1 .0 .0)
+
+slice-aggregate-put : tie.Need-slice-aggregate-put
+slice-aggregate-put c = search needs
+
+put-requires : tie.Need-put-requires
+put-requires c κs = omega (arith, c .before .before .before .before .before .before .before .before .before .before .before .before .before .before .before .before .before .before .pre .1 .1)
+
+same-length : tie.Need-same-length
+same-length c = search needs
+
+returns : tie.Need-returns
+returns c =
+    let show = c .before .before .before .before .before .before .before .before .before .before .before .before .before in
+    let a = c .before .before .before .before .before .before .before .before .before .before .before .before .before .before .before .before .before .before .before .before .before .args in
+    let p = pointForm (a .point) in
+    let register = scopeIn (a .table .now) (p .scale) in
+    let shown = show .show .result in
+    let is : ShownOf p (registersAt (a .body .now) (a .at .offset) p) register shown =
+    subst (λ (rs : List ℕ). ShownOf p rs register shown) (show .before .before .before .part .ensures) (show .show .ensures) in
+    c .before .before .put .ensures
+    ∙ ap (λ (ns : List ℕ). sets (a .out .now) (recordWidth * a .at .records) ns)
+    (shown-numbers (a .visit) (a .body .now) (a .table .now) (a .t5 .instances) (a .at .offset) p shown is)
+
+pub put-record-spec : {M : Type 1} → statement M
+put-record-spec =
+    tie.close
+    (tie.spec
+    cast-part
+    part-requires
+    cast-show
+    mul-show
+    shared-slice-read-show
+    show-requires
+    cast-t17
+    cast-t18
+    element-copy-out-t15
+    cast-t21
+    element-copy-out-t24
+    cast-t25
+    element-copy-out-t28
+    cast-t29
+    add-t12
+    add-t13
+    mul-put
+    slice-aggregate-put
+    put-requires
+    same-length
+    returns)
