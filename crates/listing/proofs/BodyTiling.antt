@@ -184,7 +184,7 @@ pad-tiled d s body t l =
     }
 
 -- No fault is a reading of points.
-not-points : {A : Type 0} (fault : Fault) (ps : List ModelPoint) → faulty fault ≡ points ps → A
+pub not-points : {A : Type 0} (fault : Fault) (ps : List ModelPoint) → faulty fault ≡ points ps → A
 not-points fault ps e = let z : _≡_ {A = ℕ} 0 1 = cc in absurd (omega arith)
 
 -- A model that is read by a sound definition.

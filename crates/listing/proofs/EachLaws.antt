@@ -3,6 +3,7 @@ use mathlib.Core.List.{List, [], _∷_, _++_}
 use Prim.Native.Nat.{ℕ, zero, suc}
 use lib.ListN.{drop}
 use Rattle.values.specs.Each.{Each}
+use Rattle.catalog.specs.Soundness.{In, first, later}
 
 -- What follows of each.
 pub each-implied : {A : Type 0} (P Q : A → Type 0) → ((x : A) → P x → Q x) → (xs : List A) → Each P xs → Each Q xs
@@ -13,6 +14,15 @@ each-implied P Q f (x ∷ xs) e = (f x (e .0), each-implied P Q f xs (e .1))
 pub each-append : {A : Type 0} (P : A → Type 0) (xs ys : List A) → Each P xs → Each P ys → Each P (xs ++ ys)
 each-append P [] ys e f = f
 each-append P (x ∷ xs) ys e f = (e .0, each-append P xs ys (e .1) f)
+
+pub each-parts : {A : Type 0} (P : A → Type 0) (xs ys : List A) → Each P (xs ++ ys) → Each P xs × Each P ys
+each-parts P [] ys e = (tt, e)
+each-parts P (x ∷ xs) ys e = let r = each-parts P xs ys (e .1) in ((e .0, r .0), r .1)
+
+-- What holds of each holds of one.
+pub of-one : {A : Type 0} (P : A → Type 0) (x : A) (xs : List A) → In x xs → Each P xs → P x
+of-one P x (y ∷ xs) first e = e .0
+of-one P x (y ∷ xs) (later i) e = of-one P x xs i (e .1)
 
 -- Of each behind the first so many.
 pub each-drop : {A : Type 0} (P : A → Type 0) (i : ℕ) (xs : List A) → Each P xs → Each P (drop i xs)

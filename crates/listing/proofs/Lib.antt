@@ -73,4 +73,7 @@ pub mod ModelWriting
 pub mod MapSteps
 pub mod MapSurvey
 pub mod MapRecords
+pub mod Searches
+pub mod ListedPoints
+pub mod FoundNumbers
 pub mod WholeAnswer

@@ -21,7 +21,7 @@ use Rattle.catalog.specs.Rules.{isSizeOf}
 use Rattle.values.proofs.TestOutcomes.{clash, both}
 
 -- The row of a type and its size by it.
-row-of-size : (code size : ℕ) → isSizeOf code size ≡ true → (r : TypeRow) × (rowOf code ≡ some r) × (size ≤ r .most)
+pub row-of-size : (code size : ℕ) → isSizeOf code size ≡ true → (r : TypeRow) × (rowOf code ≡ some r) × (size ≤ r .most)
 unfolding isSizeOf registersOf
 row-of-size code size = go (rowOf code) refl
   where

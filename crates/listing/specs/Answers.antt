@@ -8,6 +8,8 @@ use Rattle.catalog.specs.Definitions.{Content}
 use Rattle.listing.specs.Listing as Listing
 use Rattle.listing.specs.Walks.{heldAt, Surveyed, surveyedUnknown, surveyedRefused, surveyedPoints}
 use Rattle.listing.specs.declared.Listing as Code
+use Rattle.listing.specs.Finding as Finding
+use Rattle.listing.specs.declared.search.Finding as CodeFinding
 use Rattle.listing.specs.declared.frames.PointOr.{PointOr}
 use Rattle.listing.specs.declared.frames.GroupOr.{GroupOr}
 use Rattle.listing.specs.declared.frames.Found.{Found}
@@ -17,6 +19,13 @@ use Rattle.listing.specs.declared.surveys.Survey.{Survey}
 abbrev pub answer : Code.Listing → Listing.Told
 answer (Code.Listing.Listed points headers) = Listing.listedTold points headers
 answer (Code.Listing.Refused number place headers) = Listing.refusedTold number place headers
+
+-- The answer of `find`.
+abbrev pub findingForm : CodeFinding.Finding → Finding.Told
+findingForm (CodeFinding.Finding.Found t) =
+    Finding.foundTold (t .address) (t .«type_code») (t .size) (t .access) (t .raw)
+findingForm CodeFinding.Finding.Nothing = Finding.nothingTold
+findingForm (CodeFinding.Finding.Refused number place) = Finding.refusedTold number place
 
 -- A frame's point, if it is a point frame.
 abbrev pub pointOrForm : PointOr → Option Frames.Point

@@ -2,6 +2,7 @@
 use mathlib.Core.Path.{_≡_}
 use mathlib.Core.Bool.{Bool, true, false, _&&_, _||_}
 use mathlib.Core.List.{List, [], _∷_, map}
+use mathlib.Core.Option.{none, some}
 use Prim.Native.Nat.{ℕ, _+_, _*_, _-_, _/_, _%_, _≤_, min}
 use lib.Dec.{eqb, ltb, leb}
 use lib.ListN.{length, take, drop, getD}
@@ -17,6 +18,7 @@ use Rattle.listing.specs.Layout.{countOf, groupsSize, fillSize, countUni
 use Rattle.listing.specs.Counts.{groupsPoints, fillPoints, sizeOr0}
 use Rattle.listing.specs.Reading.{endsWithPad}
 use Rattle.listing.specs.Listing as Listing
+use Rattle.listing.specs.Finding as Finding
 use Rattle.listing.specs.Finding.{isPoint}
 use Rattle.listing.specs.Walks.{heldAt, Stands, Ready, scopeIn, IsTable, AtGroups}
 use Rattle.listing.specs.declared.frames.Found.{Found}
@@ -199,3 +201,31 @@ pub record BehindGroups (gs : Groups) (count : Frames.Head → ℕ) (at r : Prog
 abbrev pub WalkFits : Listing.Answer → List ℕ → Type 0
 WalkFits (Listing.refused number place headers) out = ⊥
 WalkFits (Listing.listed rs headers) out = Listing.recordWidth * length rs ≤ length out
+
+-- The answer is no refusal.
+abbrev pub IsListed : Listing.Answer → Type 0
+IsListed (Listing.refused number place headers) = ⊥
+IsListed (Listing.listed rs headers) = Unit {0}
+
+-- A list behind a search of all records of an answer, for a point of the model with an index.
+abbrev pub foundIn : Listing.Answer → ℕ → Sought → List ℕ → List ℕ
+foundIn (Listing.refused number place headers) model sought out = out
+foundIn (Listing.listed rs headers) model sought out =
+    elim (Finding.firstWith (Finding.isRecord model (sought .number) (sought .path .instances)) rs) [
+      | none ↦ out
+      | some r ↦ sets out 0 (foundNumbers r)
+    ]
+
+-- The type, size and access that a search wrote are 16 bits.
+pub record NarrowFound (found : List ℕ) : Type 0 where
+  pub typeCode : getD found 2 0 ≤ 65535
+  pub size : getD found 3 0 ≤ 65535
+  pub access : getD found 4 0 ≤ 65535
+
+-- What is told by the numbers that a search wrote.
+abbrev pub toldBy : List ℕ → Finding.Told
+toldBy found =
+    elim (eqb (getD found 0 0) 0) [
+      | true ↦ Finding.nothingTold
+      | false ↦ Finding.foundTold (getD found 1 0) (getD found 2 0) (getD found 3 0) (getD found 4 0) (getD found 5 0)
+    ]

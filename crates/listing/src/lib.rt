@@ -1,14 +1,16 @@
-// Lists the points of a register map by a catalog of model definitions (refusals 1 to 11 and 20 to 30).
+// Lists the points of a register map by a catalog of model definitions (refusals 1 to 11 and 20 to 30), and finds
+// one of them.
 mod extents;
 mod frames;
 mod points;
 mod records;
 mod scopes;
+mod search;
 mod surveys;
 
 use catalog::Checked;
 use catalog::check;
-use records::InstancePath;
+pub use records::InstancePath;
 use records::Sought;
 use records::Task;
 use records::Visit;
@@ -20,6 +22,9 @@ use register_map::Opening;
 use register_map::header_at;
 use register_map::opened;
 use scopes::NUMBERS;
+pub use search::Finding;
+pub use search::Target;
+pub use search::find;
 use surveys::Survey;
 use surveys::survey_model;
 use values::part;

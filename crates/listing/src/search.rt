@@ -1,0 +1,124 @@
+// Finds one point of a register map, by the index of its model, its number and its path.
+use crate::Listing;
+use crate::put_known;
+use crate::records::InstancePath;
+use crate::records::Sought;
+use crate::records::Task;
+use crate::records::Visit;
+use crate::scopes::NUMBERS;
+use crate::survey_plant;
+use register_map::FIRST_HEADER;
+use register_map::Header;
+use register_map::header_at;
+ghost use mathlib.Core.Path.{_≡_};
+ghost use mathlib.Core.Option.{none};
+ghost use Prim.Native.Nat.{_≤_};
+ghost use lib.ListN.{length, getD};
+ghost use Rattle.catalog.specs.Definitions.{definitions};
+ghost use Rattle.register_map.specs.Headers.{opening};
+ghost use Rattle.listing.specs.Reading.{reading};
+ghost use Rattle.listing.specs.Listing.{walked};
+ghost use Rattle.listing.specs.Finding as Findings;
+ghost use Rattle.listing.specs.Walks.{Accepted, IsTable};
+ghost use Rattle.listing.specs.Answers.{findingForm};
+ghost use Rattle.listing.specs.Promises.{foundWidth, foundIn, IsListed, toldBy, NarrowFound};
+
+// The numbers that the walk tells of the point sought.
+const FOUND_WIDTH: usize = 6;
+
+// A point: its address, its type, size and access by the catalog, and its raw value (0 if it takes over four
+// registers).
+pub struct Target {
+    pub address: usize,
+    pub type_code: u16,
+    pub size: u16,
+    pub access: u16,
+    pub raw: u64,
+}
+
+// What `find` answers: the point, that there is none, or a refusal of listing with its place.
+pub enum Finding {
+    Found(Target),
+    Nothing,
+    Refused { number: u16, place: usize },
+}
+
+// Finds a point. All refusals are decided before, as for listing; then the points of its model are walked, and of
+// no other.
+pub fn find(catalog: &[u16], map: &[u16], model: usize, point: u16, path: InstancePath) -> Finding
+    ensures { λ r. ⌜ findingForm r ≡ Findings.told (Findings.finding (now (catalog .entry)) (now (map .entry)) model point (path .instances)) ⌝ }
+{
+    let mut table = [0u16; NUMBERS];
+    let survey = survey_plant(catalog, map, &mut table);
+    match survey {
+        Listing::Listed { .. } => {
+            let sought = Sought {
+                number: point,
+                path,
+            };
+            let mut found = [0u64; FOUND_WIDTH];
+            search_map(catalog, map, &mut table, &mut found, model, sought);
+            told(found)
+        }
+        Listing::Refused { number, place, .. } => Finding::Refused { number, place },
+    }
+}
+
+// Searches a map that was surveyed for a point of the model with an index.
+fn search_map(
+    catalog: &[u16],
+    map: &[u16],
+    table: &mut [u16],
+    found: &mut [u64],
+    model: usize,
+    sought: Sought,
+)
+    requires { ⌜ Accepted (now catalog) ⌝ }
+    requires { ⌜ opening (now map) ≡ none ⌝ }
+    requires { ⌜ IsTable (now table) ⌝ }
+    requires { ⌜ IsListed (walked (reading (definitions (now catalog))) (now map)) ⌝ }
+    requires { ⌜ (foundWidth ≤ length (now found)) × (getD (now found) 0 0 ≡ 0) ⌝ }
+    ensures { λ _. ⌜ now (found .exit) ≡ foundIn (walked (reading (definitions (now (catalog .entry)))) (now (map .entry))) model sought (now (found .entry)) ⌝ }
+{
+    let mut at = FIRST_HEADER;
+    let mut index = 0usize;
+    while at < map.len() {
+        let header = header_at(map, at);
+        match header {
+            Header::Model { id, length } => {
+                if index == model {
+                    let visit = Visit {
+                        index,
+                        id,
+                        address: at,
+                        task: Task::Search,
+                        sought,
+                    };
+                    put_known(catalog, map, table, found, visit, length as usize, 0);
+                    return;
+                }
+                at += 2 + length as usize;
+                index += 1;
+            }
+            Header::End => return,
+            Header::Refused(_) => return,
+        }
+    }
+}
+
+// The answer by the numbers that a search wrote.
+fn told(found: [u64; 6]) -> Finding
+    requires { ⌜ NarrowFound found ⌝ }
+    ensures { λ r. ⌜ findingForm r ≡ toldBy found ⌝ }
+{
+    if found[0] == 0 {
+        return Finding::Nothing;
+    }
+    Finding::Found(Target {
+        address: found[1] as usize,
+        type_code: found[2] as u16,
+        size: found[3] as u16,
+        access: found[4] as u16,
+        raw: found[5],
+    })
+}
