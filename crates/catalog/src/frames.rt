@@ -40,7 +40,7 @@ pub(crate) const UINT16: u16 = 2;
 
 pub const SUNSSF: u16 = 8;
 
-pub(crate) const READ_ONLY: u16 = 0;
+pub const READ_ONLY: u16 = 0;
 
 // The named words of a point frame. Scale is the fixed scale factor or the number of the point that gives it.
 pub struct Point {

@@ -13,6 +13,7 @@ pub use frames::Frame;
 pub use frames::Head;
 pub use frames::PAD;
 pub use frames::Point;
+pub use frames::READ_ONLY;
 pub use frames::SCALE_BY_POINT;
 pub use frames::SUNSSF;
 use frames::WORDS;

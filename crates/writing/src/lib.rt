@@ -1,1 +1,149 @@
 // Writes a raw value to a point of a register map (refusals 1 to 11, 20 to 29 and 31 to 35).
+use catalog::READ_ONLY;
+use listing::Finding;
+use listing::InstancePath;
+use listing::Target;
+use listing::find;
+use values::Class;
+use values::Classified;
+use values::classify;
+use values::is_value;
+use values::too_wide;
+ghost use mathlib.Core.Path.{_≡_};
+ghost use mathlib.Core.Bool.{_&&_, not};
+ghost use Prim.Native.Nat.{_+_, _/_, _%_, _^_, _≤_};
+ghost use lib.ListN.{length};
+ghost use lib.Seq.{sets};
+ghost use Rattle.values.specs.Registers.{split, tooWide};
+ghost use Rattle.values.specs.Classes.{classified, isValue};
+ghost use Rattle.writing.specs.Writing as Writings;
+ghost use Rattle.writing.specs.Answers.{answer};
+ghost use Rattle.writing.specs.Promises.{recordOf, answerTo, refusalForm};
+
+// What `write` answers: that the point is written, or the number of a refusal and its place.
+pub enum Written {
+    Done,
+    Refused { number: u16, place: usize },
+}
+
+// Whether a point takes a value, or by which number it is refused.
+enum Verdict {
+    Takes,
+    Refuses(u16),
+}
+
+// Writes a raw value to the point with a number at a path, in the model with an index. All refusals are decided
+// before anything is written. The time is that of listing's survey, and then grows with the points of that model.
+pub fn write(
+    catalog: &[u16],
+    map: &mut [u16],
+    model: usize,
+    point: u16,
+    path: InstancePath,
+    raw: u64,
+) -> Written
+    ensures { λ r. ⌜ answer r ≡ Writings.told (Writings.writing (now (catalog .entry)) (now (map .entry)) model point (path .instances) raw) ⌝ }
+    ensures { λ _. ⌜ now (map .exit) ≡ Writings.mapBehind (Writings.writing (now (catalog .entry)) (now (map .entry)) model point (path .instances) raw) (now (map .entry)) ⌝ }
+{
+    let finding = find(catalog, map, model, point, path);
+    match finding {
+        Finding::Found(target) => write_to(map, target, raw),
+        Finding::Nothing => Written::Refused {
+            number: 31,
+            place: 0,
+        },
+        Finding::Refused { number, place } => Written::Refused { number, place },
+    }
+}
+
+// Writes a raw value to a point that was found.
+fn write_to(map: &mut [u16], target: Target, raw: u64) -> Written
+    requires { ⌜ target .address + target .size ≤ length (now map) ⌝ }
+    ensures { λ r. ⌜ answer r ≡ Writings.told (answerTo (recordOf target) raw (now (map .entry))) ⌝ }
+    ensures { λ _. ⌜ now (map .exit) ≡ Writings.mapBehind (answerTo (recordOf target) raw (now (map .entry))) (now (map .entry)) ⌝ }
+{
+    let verdict = judge(target, raw);
+    match verdict {
+        Verdict::Takes => {
+            put_registers(map, target.address, target.size as usize, raw);
+            Written::Done
+        }
+        Verdict::Refuses(number) => Written::Refused { number, place: 0 },
+    }
+}
+
+// 32 to 35, in order.
+fn judge(target: Target, raw: u64) -> Verdict
+    ensures { λ r. ⌜ refusalForm r ≡ Writings.refusal (recordOf target) raw ⌝ }
+{
+    if target.access == READ_ONLY {
+        return Verdict::Refuses(32);
+    }
+    if 4 < target.size {
+        return Verdict::Refuses(33);
+    }
+    if is_unimplemented(target.type_code, target.raw) {
+        return Verdict::Refuses(34);
+    }
+    if !can_hold(target, raw) {
+        return Verdict::Refuses(35);
+    }
+    Verdict::Takes
+}
+
+// Is a raw number the unimplemented pattern of a type?
+fn is_unimplemented(type_code: u16, raw: u64) -> bool
+    ensures { λ r. ⌜ r ≡ Writings.isUnimplemented (classified «type_code» raw) ⌝ }
+{
+    let class = classify(type_code, raw);
+    match class {
+        Classified::Of(class) => match class {
+            Class::Value => false,
+            Class::Unimplemented => true,
+            Class::OutOfRange => false,
+        },
+        Classified::TooWide => false,
+        Classified::UnknownType => false,
+    }
+}
+
+// Can a point hold a raw value? A string is as wide as its registers, and not as its type at its longest.
+fn can_hold(target: Target, raw: u64) -> bool
+    ensures { λ r. ⌜ r ≡ (isValue (classified (target .«type_code») raw) && not (tooWide (target .size) raw)) ⌝ }
+{
+    is_value(target.type_code, raw) && !too_wide(target.size, raw)
+}
+
+// Writes the registers of a raw value, the highest first.
+fn put_registers(map: &mut [u16], address: usize, size: usize, raw: u64)
+    requires { ⌜ (size ≤ 4) × (address + size ≤ length (now map)) ⌝ }
+    ensures { λ _. ⌜ now (map .exit) ≡ sets (now (map .entry)) address (split size raw) ⌝ }
+{
+    let mut k = 0;
+    while k < size {
+        map[address + k] = register_of(raw, size - 1 - k);
+        k += 1;
+    }
+}
+
+// The register of a raw value that has so many behind it.
+fn register_of(raw: u64, behind: usize) -> u16
+    requires { ⌜ behind ≤ 3 ⌝ }
+    ensures { λ r. ⌜ r ≡ raw / 65536 ^ behind % 65536 ⌝ }
+{
+    (raw / power(behind) % 0x10000) as u16
+}
+
+// What a one in the register counts that has so many behind it.
+fn power(behind: usize) -> u64
+    requires { ⌜ behind ≤ 3 ⌝ }
+    ensures { λ r. ⌜ r ≡ 65536 ^ behind ⌝ }
+    ensures { λ r. ⌜ 1 ≤ r ⌝ }
+{
+    match behind {
+        0 => 1,
+        1 => 0x10000,
+        2 => 0x100000000,
+        _ => 0x1000000000000,
+    }
+}

@@ -1,0 +1,27 @@
+-- `writing::can_hold` meets its contract: the type is asked first, then the width.
+use mathlib.Core.Path.{sym, ap, _∙_}
+use mathlib.Core.Bool.{not, _&&_}
+use Rattle.values.specs.Registers.{tooWide}
+use borrow.Author.Needs.{needs}
+use Rattle.writing.proofs.can_hold.Statement.{statement}
+use Rattle.writing.proofs.can_hold.Tie as tie
+
+is-value-requires : tie.Need-is-value-requires
+is-value-requires c κs = search needs
+
+too-wide-requires : tie.Need-too-wide-requires
+too-wide-requires c κs = search needs
+
+returns : tie.Need-returns
+returns c =
+    let t = c .before .before .before .args in
+    ap not (c .too-wide .ensures)
+    ∙ sym (ap (λ b. b && not (tooWide (t .target .size) (t .raw))) (sym (c .before .before .is-value .ensures) ∙ c .before .if1 .taken))
+
+returns-2 : tie.Need-returns-2
+returns-2 c =
+    let t = c .before .before .args in
+    c .if1 .left ∙ sym (ap (λ b. b && not (tooWide (t .target .size) (t .raw))) (sym (c .before .is-value .ensures) ∙ c .if1 .left))
+
+pub can-hold-spec : {M : Type 1} → statement M
+can-hold-spec = tie.close (tie.spec is-value-requires too-wide-requires returns returns-2)

@@ -1,0 +1,45 @@
+-- What private functions promise each other.
+use mathlib.Core.List.{List}
+use mathlib.Core.Option.{Option, none, some}
+use Prim.Native.Nat.{ℕ}
+use Rattle.catalog.specs.Frames.{Point}
+use Rattle.listing.specs.Listing.{Record}
+use Rattle.listing.specs.declared.search.Target.{Target}
+use Rattle.writing.specs.Writing.{refusal, rewritten, Answer, refused, written}
+use Rattle.writing.specs.declared.Verdict.{Verdict}
+
+-- A record with what `find` tells of one; a write asks for nothing else.
+abbrev pub recordOf : Target → Record
+recordOf t =
+    record {
+      index = 0;
+      id = 0;
+      address = t .address;
+      point = record {
+        offset = 0;
+        definition = record {
+          number = 0;
+          typeCode = t .«type_code»;
+          size = t .size;
+          scaleKind = 0;
+          scale = 0;
+          mandatory = 0;
+          access = t .access;
+        };
+        level2 = 0;
+        level3 = 0;
+        level4 = 0;
+        status = 0;
+        raw = t .raw;
+        scale = 0;
+      };
+    }
+
+-- What writing to a point that is found comes to.
+abbrev pub answerTo : Record → ℕ → List ℕ → Answer
+answerTo r raw map = elim (refusal r raw) [ some n ↦ refused n 0 | none ↦ written (rewritten r raw map) ]
+
+-- The number of a refusal, if there is one.
+abbrev pub refusalForm : Verdict → Option ℕ
+refusalForm Verdict.Takes = none
+refusalForm (Verdict.Refuses number) = some number
