@@ -21,7 +21,10 @@ abbrev μ-loop : tie.MeasureT-loop
 μ-loop map₀ address size raw k₀ map k = size - k
 
 loop-holds : tie.Need-loop-holds Inv-loop μ-loop
-loop-holds c = (rw add-zero, refl, omega arith)
+loop-holds c =
+    let a = c .before .args in
+    let all : a .size - 0 ≡ a .size = omega arith in
+    (rw (add-zero, all), refl, omega arith)
 
 sub-register-of : tie.Need-sub-register-of Inv-loop μ-loop
 sub-register-of c = search needs

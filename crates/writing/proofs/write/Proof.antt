@@ -1,54 +1,61 @@
+-- `writing::write` meets its contract: by what is found.
+use mathlib.Core.Path.{sym, ap, _∙_}
+use Rattle.listing.specs.Answers.{findingForm}
+use Rattle.writing.specs.Writing.{told, mapBehind}
+use Rattle.writing.proofs.FoundTargets.{writing-refused, writing-nothing, writing-found, target-inside}
 use borrow.Author.Needs.{needs}
 use Rattle.writing.proofs.write.Statement.{statement}
 use Rattle.writing.proofs.write.Tie as tie
-use Rattle.writing.proofs.write.Reads as reads
-use Rattle.writing.proofs.write.Lts as lts
-use Rattle.listing.proofs.find.Reads as find-reads
-use Rattle.writing.proofs.write_to.Reads as write-to-reads
 
--- src/lib.rt:48:9
 find-requires : tie.Need-find-requires
 find-requires c κs = search needs
 
--- src/lib.rt:50:24
 enum-known-finding : tie.Need-enum-known-finding
 enum-known-finding c = search needs
 
--- src/lib.rt:50:35
 write-to-requires : tie.Need-write-to-requires
-write-to-requires c κs = ?
+write-to-requires c κs =
+    let v = c .before .before .before .before .before .before .before .before .args in
+    let g = c .before .before .finding .given in
+    let e = ap findingForm (sym (g .1)) ∙ c .before .before .before .before .find .ensures in
+    target-inside (v .catalog .now) (v .map .now) (v .model) (v .point) (v .path .instances) (v .raw) (g .0 .0) e
 
--- src/lib.rt:51:29
 enum-told : tie.Need-enum-told
 enum-told c = search needs
 
--- src/lib.rt:55:28
 enum-known-finding-2 : tie.Need-enum-known-finding-2
 enum-known-finding-2 c = search needs
 
--- src/lib.rt:37:1
 same-length : tie.Need-same-length
 same-length c = search needs
 
--- src/lib.rt:37:1
 returns : tie.Need-returns
-returns c = ?
+returns c =
+    let v = c .before .before .before .before .before .before .before .before .before .before .before .args in
+    let g = c .before .before .before .before .before .finding .given in
+    let e = ap findingForm (sym (g .1)) ∙ c .before .before .before .before .before .before .before .find .ensures in
+    let a = writing-found (v .catalog .now) (v .map .now) (v .model) (v .point) (v .path .instances) (v .raw) (g .0 .0) e in
+    let w = c .before .before .write-to .ensures in
+    (w .0 ∙ ap told a, w .1 ∙ ap (λ x. mapBehind x (v .map .now)) a)
 
--- src/lib.rt:37:1
 same-length-2 : tie.Need-same-length-2
 same-length-2 c = search needs
 
--- src/lib.rt:37:1
 returns-2 : tie.Need-returns-2
-returns-2 c = ?
+returns-2 c =
+    let v = c .before .before .before .before .before .before .args in
+    let e = ap findingForm (sym (c .enum-told .given .1)) ∙ c .before .before .find .ensures in
+    writing-nothing (v .catalog .now) (v .map .now) (v .model) (v .point) (v .path .instances) (v .raw) e
 
--- src/lib.rt:37:1
 same-length-3 : tie.Need-same-length-3
 same-length-3 c = search needs
 
--- src/lib.rt:37:1
 returns-3 : tie.Need-returns-3
-returns-3 c = ?
+returns-3 c =
+    let v = c .before .before .before .before .before .before .before .args in
+    let g = c .before .finding2 .given in
+    let e = ap findingForm (sym (g .1)) ∙ c .before .before .before .find .ensures in
+    writing-refused (v .catalog .now) (v .map .now) (v .model) (v .point) (v .path .instances) (v .raw) (g .0 .0) (g .0 .1 .0) e
 
 pub write-spec : {M : Type 1} → statement M
 write-spec =

@@ -1,42 +1,44 @@
+-- `writing::write_to` meets its contract: by the verdict.
+use mathlib.Core.Path.{sym, ap, _∙_}
+use Rattle.writing.specs.Promises.{recordOf, refusalForm}
+use Rattle.writing.proofs.WritingCases.{refusal-none}
+use Rattle.writing.proofs.FoundTargets.{refuses, takes}
 use borrow.Author.Needs.{needs}
 use Rattle.writing.proofs.write_to.Statement.{statement}
 use Rattle.writing.proofs.write_to.Tie as tie
-use Rattle.writing.proofs.write_to.Reads as reads
-use Rattle.writing.proofs.write_to.Lts as lts
-use Rattle.writing.proofs.judge.Reads as judge-reads
-use Rattle.writing.proofs.put_registers.Reads as put-registers-reads
 
--- src/lib.rt:65:9
 judge-requires : tie.Need-judge-requires
 judge-requires c κs = search needs
 
--- src/lib.rt:68:27
 enum-told : tie.Need-enum-told
 enum-told c = search needs
 
--- src/lib.rt:68:48
 cast-put-registers : tie.Need-cast-put-registers
 cast-put-registers c = search needs
 
--- src/lib.rt:68:13
 put-registers-requires : tie.Need-put-registers-requires
-put-registers-requires c κs = ?
+put-registers-requires c κs =
+    let s = c .before .before .before .before .before .before in
+    let e = sym (c .before .before .before .before .judge .ensures) ∙ ap refusalForm (c .before .before .enum-told .given .1) in
+    (refusal-none (recordOf (s .args .target)) (s .args .raw) e .small, s .pre)
 
--- src/lib.rt:71:26
 enum-known-verdict : tie.Need-enum-known-verdict
 enum-known-verdict c = search needs
 
--- src/lib.rt:60:1
 same-length : tie.Need-same-length
 same-length c = search needs
 
--- src/lib.rt:60:1
 returns : tie.Need-returns
-returns c = ?
+returns c =
+    let v = c .before .before .before .before .before .before .before .before .before .args in
+    let e = ap refusalForm (sym (c .before .before .before .before .before .enum-told .given .1)) ∙ c .before .before .before .before .before .before .before .judge .ensures in
+    takes (recordOf (v .target)) (v .raw) (v .map .now) e (c .before .before .put-registers .ensures)
 
--- src/lib.rt:60:1
 returns-2 : tie.Need-returns-2
-returns-2 c = ?
+returns-2 c =
+    let v = c .before .before .before .before .before .args in
+    let e = ap refusalForm (sym (c .before .verdict .given .1)) ∙ c .before .before .before .judge .ensures in
+    refuses (recordOf (v .target)) (v .raw) (v .map .now) e
 
 pub write-to-spec : {M : Type 1} → statement M
 write-to-spec =

@@ -1,0 +1,53 @@
+-- The first of a list for which a test holds: it is one of the list, and there is one where the test holds of any.
+use mathlib.Core.Path.{_≡_, refl, sym, _∙_}
+use mathlib.Core.Bool.{Bool, true, false}
+use mathlib.Core.List.{List, [], _∷_}
+use mathlib.Core.Option.{none, some}
+use Prim.Native.Nat.{ℕ}
+use native.Mathlib.Omega.{arith}
+use Rattle.values.specs.Each.{Each}
+use Rattle.catalog.specs.Soundness.{In, first, later}
+use Rattle.listing.specs.Finding.{firstWith}
+
+-- Nothing is not something.
+pub not-none : {A B : Type 0} {x : B} → none ≡ some x → A
+not-none e = let z : _≡_ {A = ℕ} 0 1 = cc in absurd (omega arith)
+
+module _ {A : Type 0} (test : A → Bool) where
+  -- By whether the test holds of the first one.
+  pub found-here : (x : A) (xs : List A) → test x ≡ true → firstWith test (x ∷ xs) ≡ some x
+  unfolding firstWith
+  found-here x xs e = rw (e, firstWith)
+
+  pub found-behind : (x : A) (xs : List A) → test x ≡ false → firstWith test (x ∷ xs) ≡ firstWith test xs
+  unfolding firstWith
+  found-behind x xs e = rw (e, firstWith)
+
+  -- What is found is one of the list, and the test holds of it.
+  pub found-in : (xs : List A) (w : A) → firstWith test xs ≡ some w → In w xs × (test w ≡ true)
+  unfolding firstWith
+  found-in [] w e = not-none e
+  found-in (x ∷ xs) w e = go (test x) refl (found-in xs w)
+    where
+      go : (b : Bool) → test x ≡ b → (firstWith test xs ≡ some w → In w xs × (test w ≡ true)) → In w (x ∷ xs) × (test w ≡ true)
+      go true t rest =
+          let same : x ≡ w = cc (found-here x xs t) in
+          (rw (← same) first, rw (← same) t)
+      go false t rest =
+          let r = rest (sym (found-behind x xs t) ∙ e) in
+          (later (r .0), r .1)
+
+  -- Where nothing is found, the test holds of none.
+  pub none-found : (xs : List A) → firstWith test xs ≡ none → Each (λ x. test x ≡ false) xs
+  none-found [] e = tt
+  none-found (x ∷ xs) e = go (test x) refl (none-found xs)
+    where
+      go : (b : Bool) → test x ≡ b → (firstWith test xs ≡ none → Each (λ x. test x ≡ false) xs)
+          → Each (λ x. test x ≡ false) (x ∷ xs)
+      go true t rest = not-none (sym e ∙ found-here x xs t)
+      go false t rest = (t, rest (sym (found-behind x xs t) ∙ e))
+
+-- What holds of each holds of one of them.
+pub each-in : {A : Type 0} (P : A → Type 0) (xs : List A) (x : A) → Each P xs → In x xs → P x
+each-in P (y ∷ ys) x e first = e .0
+each-in P (y ∷ ys) x e (later i) = each-in P ys x (e .1) i

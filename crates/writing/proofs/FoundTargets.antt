@@ -1,0 +1,142 @@
+-- The point that `find` tells of: its record, where it lies, and what writing to it comes to.
+use mathlib.Core.Path.{_≡_, refl, sym, ap, _∙_}
+use mathlib.Core.List.{List}
+use mathlib.Core.Option.{Option, none, some}
+use Prim.Native.Nat.{ℕ, _+_, _≤_}
+use native.Mathlib.Omega.{arith}
+use lib.ListN.{length}
+use lib.Seq.{sets}
+use Rattle.values.specs.Registers.{split}
+use Rattle.listing.specs.Listing.{Record, allRecords}
+use Rattle.listing.specs.Listing as Listing
+use Rattle.listing.specs.Finding.{isRecord, firstWith, finding}
+use Rattle.listing.specs.Finding as Finding
+use Rattle.listing.specs.declared.search.Target.{Target}
+use Rattle.writing.specs.Writing.{refusal, rewritten, Answer, refused, written, writing, refusedTold, writtenTold, told, mapBehind}
+use Rattle.writing.specs.Promises.{recordOf, answerTo}
+use Rattle.writing.proofs.FirstFound.{found-in}
+use Rattle.writing.proofs.RawValues.{record-read}
+
+-- ---- Writing to a point
+
+module _ (r : Record) (raw : ℕ) (map : List ℕ) where
+  -- It is refused.
+  pub refuses : {n : ℕ} → some n ≡ refusal r raw
+      → (refusedTold n 0 ≡ told (answerTo r raw map)) × (map ≡ mapBehind (answerTo r raw map) map)
+  refuses {n} e =
+      let a : answerTo r raw map ≡ refused n 0 =
+      sym (ap {B = Answer} (λ o. elim o [ some n ↦ refused n 0 | none ↦ written (rewritten r raw map) ]) e) in
+      (sym (ap told a), sym (ap (λ x. mapBehind x map) a))
+
+  -- It takes the value.
+  pub takes : {new : List ℕ} → none ≡ refusal r raw
+      → new ≡ sets map (r .address) (split (r .point .definition .size) raw)
+      → (writtenTold ≡ told (answerTo r raw map)) × (new ≡ mapBehind (answerTo r raw map) map)
+  unfolding rewritten
+  takes e w =
+      let a : answerTo r raw map ≡ written (rewritten r raw map) =
+      sym (ap {B = Answer} (λ o. elim o [ some n ↦ refused n 0 | none ↦ written (rewritten r raw map) ]) e) in
+      (sym (ap told a), w ∙ sym (ap (λ x. mapBehind x map) a))
+
+-- ---- The record of a target
+
+-- What is told of a record by numbers.
+abbrev tells : Target → Finding.Told
+tells t = Finding.foundTold (t .address) (t .«type_code») (t .size) (t .access) (t .raw)
+
+-- A write asks no more of a record than is told of it.
+same-answer : (w : Record) (t : Target) → tells t ≡ Finding.told (Finding.found w) → (raw : ℕ) (map : List ℕ)
+    → answerTo (recordOf t) raw map ≡ answerTo w raw map
+unfolding refusal rewritten
+same-answer w t e raw map =
+    let address : t .address ≡ w .address = cc in
+    let typeCode : t .«type_code» ≡ w .point .definition .typeCode = cc in
+    let size : t .size ≡ w .point .definition .size = cc in
+    let access : t .access ≡ w .point .definition .access = cc in
+    let present : t .raw ≡ w .point .raw = cc in
+    rw (address, typeCode, size, access, present)
+
+-- A target that is told is that of a record.
+told-record : (f : Finding.Finding) (t : Target) → tells t ≡ Finding.told f
+    → (w : Record) × (f ≡ Finding.found w) × (tells t ≡ Finding.told (Finding.found w))
+told-record (Finding.refused n place) t e = let z : _≡_ {A = ℕ} 0 1 = cc in absurd (omega arith)
+told-record Finding.nothing t e = let z : _≡_ {A = ℕ} 0 1 = cc in absurd (omega arith)
+told-record (Finding.found w) t e = (w, refl, e)
+
+-- The other answers.
+told-nothing : (f : Finding.Finding) → Finding.nothingTold ≡ Finding.told f → f ≡ Finding.nothing
+told-nothing (Finding.refused n place) e = let z : _≡_ {A = ℕ} 0 1 = cc in absurd (omega arith)
+told-nothing Finding.nothing e = refl
+told-nothing (Finding.found w) e = let z : _≡_ {A = ℕ} 0 1 = cc in absurd (omega arith)
+
+told-refused : (f : Finding.Finding) (n place : ℕ) → Finding.refusedTold n place ≡ Finding.told f → f ≡ Finding.refused n place
+told-refused (Finding.refused m at) n place e = cc
+told-refused Finding.nothing n place e = let z : _≡_ {A = ℕ} 0 1 = cc in absurd (omega arith)
+told-refused (Finding.found w) n place e = let z : _≡_ {A = ℕ} 0 1 = cc in absurd (omega arith)
+
+-- ---- Writing by what was found
+
+module _ (catalog map : List ℕ) (index number : ℕ) (path : List ℕ) (raw : ℕ) where
+  abbrev found : Finding.Finding
+  found = finding catalog map index number path
+
+  abbrev all : Answer
+  all = writing catalog map index number path raw
+
+  -- A refusal of listing is that of writing; nothing found is 31.
+  pub writing-refused : (n place : ℕ) → Finding.refusedTold n place ≡ Finding.told found
+      → (refusedTold n place ≡ told all) × (map ≡ mapBehind all map)
+  unfolding writing
+  writing-refused n place e =
+      let a : all ≡ refused n place = rw (told-refused found n place e, writing) in
+      (sym (ap told a), sym (ap (λ x. mapBehind x map) a))
+
+  pub writing-nothing : Finding.nothingTold ≡ Finding.told found → (refusedTold 31 0 ≡ told all) × (map ≡ mapBehind all map)
+  unfolding writing
+  writing-nothing e =
+      let a : all ≡ refused 31 0 = rw (told-nothing found e, writing) in
+      (sym (ap told a), sym (ap (λ x. mapBehind x map) a))
+
+  by-found : (w : Record) → found ≡ Finding.found w → all ≡ answerTo w raw map
+  unfolding writing
+  by-found w f = rw (f, writing)
+
+  module _ (t : Target) (e : tells t ≡ Finding.told found) where
+    -- What writing to the target comes to is what writing comes to.
+    pub writing-found : answerTo (recordOf t) raw map ≡ all
+    writing-found =
+        let r = told-record found t e in same-answer (r .0) t (r .2) raw map ∙ sym (by-found (r .0) (r .1))
+
+    -- Its registers lie in the map.
+    pub target-inside : t .address + t .size ≤ length map
+    unfolding finding
+    target-inside =
+        let r = told-record found t e in
+        let w = r .0 in
+        let address : t .address ≡ w .address = cc in
+        let size : t .size ≡ w .point .definition .size = cc in
+        omega (arith, address, size, inside w (r .1))
+      where
+        by-record : (w : Record) (rs : List Record) (headers : ℕ) → allRecords catalog map ≡ Listing.listed rs headers
+            → (o : Option Record) → firstWith (isRecord index number path) rs ≡ o
+            → elim o [ none ↦ Finding.nothing | some r ↦ Finding.found r ] ≡ Finding.found w
+            → w .address + w .point .definition .size ≤ length map
+        by-record w rs headers q none f g = let z : _≡_ {A = ℕ} 0 1 = cc in absurd (omega arith)
+        by-record w rs headers q (some r) f g =
+            let same : r ≡ w = cc in
+            let there = record-read catalog map rs headers q r (found-in (isRecord index number path) rs r f .0) .inside in
+            rw (← same) there
+
+        by-answer : (w : Record) (a : Listing.Answer) → allRecords catalog map ≡ a → found ≡ Finding.found w
+            → w .address + w .point .definition .size ≤ length map
+        by-answer w (Listing.refused n place headers) q f =
+            let g : Finding.refused n place ≡ Finding.found w = sym (rw (q, finding)) ∙ f in
+            let z : _≡_ {A = ℕ} 0 1 = cc in
+            absurd (omega arith)
+        by-answer w (Listing.listed rs headers) q f =
+            let o = firstWith (isRecord index number path) rs in
+            let shape : found ≡ elim o [ none ↦ Finding.nothing | some r ↦ Finding.found r ] = rw (q, finding) in
+            by-record w rs headers q o refl (sym shape ∙ f)
+
+        inside : (w : Record) → found ≡ Finding.found w → w .address + w .point .definition .size ≤ length map
+        inside w f = by-answer w (allRecords catalog map) refl f

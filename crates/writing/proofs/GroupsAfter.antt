@@ -1,0 +1,167 @@
+-- What a write makes of the points of an instance and of groups: each as the place of the point written says.
+use mathlib.Core.Path.{_≡_, refl, sym, ap, _∙_}
+use mathlib.Core.Bool.{Bool, true, false, _&&_, _||_}
+use mathlib.Core.List.{List, [], _∷_, _++_}
+use Prim.Native.Nat.{ℕ, suc, _+_, _*_, _-_, _≤_}
+use native.Mathlib.Omega.{arith}
+use borrow.Author.Tests.{eqb-true}
+use lib.Dec.{eqb}
+use lib.ListN.{getD, set}
+use Rattle.values.specs.Each.{Each}
+use Rattle.values.proofs.TestOutcomes.{clash}
+use Rattle.catalog.specs.Frames.{Point, Head}
+use Rattle.catalog.specs.Rules.{among}
+use Rattle.catalog.specs.Definitions.{Groups, noGroup, group, Content, pointsSize, pointFrames}
+use Rattle.catalog.specs.Soundness.{In, numbersOf, SoundPoint, ScaleResolves}
+use Rattle.catalog.proofs.GroupSizes.{point-size}
+use Rattle.catalog.proofs.References.{points-resolve}
+use Rattle.listing.specs.Points.{ModelPoint, Scope}
+use Rattle.listing.specs.Layout.{withPoint, within, groupsSize, pointsAt, instances, groupsAt}
+use Rattle.listing.specs.Tiling.{lowerPoints}
+use Rattle.listing.proofs.GroupNumbers.{point-among}
+use Rattle.listing.proofs.InLaws.{in-front, in-behind, in-either}
+use Rattle.listing.proofs.IntoGroups.{SoundBelow, below, beside}
+use Rattle.writing.specs.AfterWriting.{agreeTo, pathOf, PointAfter, Pairwise}
+use Rattle.writing.proofs.Places.{Place}
+use Rattle.writing.proofs.PairwiseLaws.{each-parts, pairwise-append, pairwise-instances}
+use Rattle.writing.proofs.Depths.{levels, agree-behind, Deep, own-depth, inside-deep, behind-deep}
+use Rattle.writing.proofs.OnePointAfter as one
+use Rattle.writing.proofs.OnePointAfter.{Write}
+
+module _ (top : Content) (w : ModelPoint) (raw : ℕ) (body : List ℕ) (defined : List Point) (x : Write defined w raw body) where
+  -- The body behind the write, and what is said of registers and scopes, for this write.
+  abbrev new : List ℕ
+  new = one.new top w raw body
+
+  abbrev becomes : List ℕ → ℕ → ℕ → ℕ
+  becomes = one.becomes top w raw body
+
+  abbrev Scopes : List Point → List ℕ → Scope → Scope → Type 0
+  Scopes = one.Scopes top w raw body
+
+  abbrev depth : ℕ
+  depth = one.depth top w raw body
+
+  -- ---- Scopes
+
+  -- Within an instance, a register in reach is what the write makes of it, if it is around it, or if a point of it is meant.
+  within-becomes : (path : List ℕ) (u : Scope) (a : ℕ) (around ps : List Point) → Each (SoundPoint around) ps
+      → Each (Place top w) (pointsAt body u path a ps) → (s t : Scope) (m : ℕ)
+      → (among m (numbersOf (pointFrames ps)) ≡ false → t m ≡ becomes path m (s m))
+      → within new a ps t m ≡ becomes path m (within body a ps s m)
+  unfolding within pointsAt
+  within-becomes path u a around [] sound places s t m h = h refl
+  within-becomes path u a around (p ∷ ps) sound places s t m h =
+      within-becomes path u (a + p .size) around ps (sound .1) (places .1) (withPoint (p .number) (getD body a 0) s)
+      (withPoint (p .number) (getD new a 0) t) m (λ e. go (eqb m (p .number)) refl (among m (numbersOf (pointFrames ps))) e h)
+    where
+      own : getD new a 0 ≡ becomes path (p .number) (getD body a 0)
+      own = one.own-register top w raw body defined x u path a p (places .0) (point-size around p (sound .0) .0)
+
+      go : (b : Bool) → eqb m (p .number) ≡ b → (c : Bool) → c ≡ false → (b || c ≡ false → t m ≡ becomes path m (s m))
+          → _≡_ {A = ℕ} (elim b [ true ↦ getD new a 0 | false ↦ t m ])
+          (becomes path m (elim b [ true ↦ getD body a 0 | false ↦ s m ]))
+      go true e c f g = own ∙ ap (λ (n : ℕ). becomes path n (getD body a 0)) (sym (eqb-true m (p .number) e))
+      go false e c f g = g f
+
+  -- So for the points of the instance,
+  pub own-becomes : (path : List ℕ) (u : Scope) (a : ℕ) (around ps : List Point) → Each (SoundPoint around) ps
+      → Each (Place top w) (pointsAt body u path a ps) → (s t : Scope)
+      → Scopes ps path (within body a ps s) (within new a ps t)
+  own-becomes path u a around ps sound places s t p i =
+      within-becomes path u a around ps sound places s t (p .number) (λ e. clash (sym (point-among p ps i) ∙ e))
+
+  -- and for those around it.
+  reach-becomes : (path : List ℕ) (u : Scope) (a : ℕ) (around ps enclosing : List Point) → Each (SoundPoint around) ps
+      → Each (Place top w) (pointsAt body u path a ps) → (s t : Scope) → Scopes enclosing path s t
+      → Scopes (ps ++ enclosing) path (within body a ps s) (within new a ps t)
+  reach-becomes path u a around ps enclosing sound places s t h p i =
+      within-becomes path u a around ps sound places s t (p .number) (λ e.
+      in-either p ps enclosing i (λ j. clash (sym (point-among p ps j) ∙ e)) (h p))
+
+  -- An instance number behind those that lead to the point written changes nothing.
+  deeper : (enclosing : List Point) (path : List ℕ) (at j : ℕ) (s t : Scope)
+      → ((p : Point) → In p enclosing → p .number ≡ w .definition .number → depth ≤ at)
+      → Scopes enclosing path s t → Scopes enclosing (set path at j) s t
+  deeper enclosing path at j s t shallow h p i =
+      h p i ∙ ap (λ b. elim b [ true ↦ getD new (w .offset) 0 | false ↦ s (p .number) ])
+      (go (eqb (p .number) (w .definition .number)) refl)
+    where
+      go : (b : Bool) → eqb (p .number) (w .definition .number) ≡ b
+          → b && agreeTo depth (pathOf w) (levels path) ≡ (b && agreeTo depth (pathOf w) (levels (set path at j)))
+      go true e = sym (agree-behind depth (pathOf w) path at j (shallow p i (eqb-true (p .number) (w .definition .number) e)))
+      go false e = refl
+
+  -- ---- Points
+
+  -- The points of an instance.
+  pub points-after : (path : List ℕ) (a : ℕ) (around reach ps : List Point) → Each (SoundPoint around) ps
+      → Each (ScaleResolves reach) ps → ((f : Point) → In f reach → In f defined) → (s t : Scope) → Scopes reach path s t
+      → Each (Place top w) (pointsAt body s path a ps)
+      → Pairwise (PointAfter top w raw) (pointsAt body s path a ps) (pointsAt new t path a ps)
+  unfolding pointsAt
+  points-after path a around reach [] sound resolve known s t h places = tt
+  points-after path a around reach (p ∷ ps) sound resolve known s t h places = (
+    one.point-after top w raw body defined x s t path a around reach p (sound .0) (resolve .0) known h (places .0),
+    points-after path (a + p .size) around reach ps (sound .1) (resolve .1) known s t h (places .1),
+  )
+
+  -- ---- Groups
+
+  -- The points of groups, by one count of each group.
+  pub groups-after : (count : Head → ℕ) (tops enclosing : List Point) (level : ℕ) (path : List ℕ) (offset : ℕ) (g : Groups)
+      → SoundBelow tops enclosing level g → 2 ≤ level → Deep (w .definition .number) depth level g
+      → ((p : Point) → In p enclosing → p .number ≡ w .definition .number → depth ≤ level - 2)
+      → ((p : Point) → In p enclosing → In p defined) → ((p : Point) → In p (lowerPoints g) → In p defined)
+      → (s t : Scope) → Scopes enclosing path s t → Each (Place top w) (groupsAt body count level s path offset g)
+      → Pairwise (PointAfter top w raw) (groupsAt body count level s path offset g) (groupsAt new count level t path offset g)
+  unfolding groupsAt
+  groups-after count tops enclosing level path offset noGroup sound low deep shallow around ahead s t h places = tt
+  groups-after count tops enclosing level path offset (group hd ps inside behind) sound low deep shallow around ahead s t h
+      places =
+      let n = w .definition .number in
+      let size = pointsSize ps + groupsSize count inside in
+      let reach = ps ++ enclosing in
+      let L = lowerPoints inside in
+      let B = lowerPoints behind in
+      let distinct = sound .distinct in
+      let reachKnown : (p : Point) → In p reach → In p defined = λ p i.
+      in-either p ps enclosing i (λ j. ahead p (in-front p ps (L ++ B) j)) (around p) in
+      let lower : (p : Point) → In p reach → p .number ≡ n → depth ≤ suc level - 2 = λ p i e.
+      in-either p ps enclosing i (λ j.
+      let a : among n (numbersOf (pointFrames ps)) ≡ true = rw (← e) (point-among p ps j) in
+      omega (arith, own-depth n depth level hd ps inside behind distinct low deep a))
+      (λ j. omega (arith, shallow p j e)) in
+      let old : (ℕ → ℕ → List ModelPoint) = λ j at.
+      pointsAt body (within body at ps s) (set path (level - 2) j) at ps
+      ++ groupsAt body count (suc level) (within body at ps s) (set path (level - 2) j) (at + pointsSize ps) inside in
+      let after : (ℕ → ℕ → List ModelPoint) = λ j at.
+      pointsAt new (within new at ps t) (set path (level - 2) j) at ps
+      ++ groupsAt new count (suc level) (within new at ps t) (set path (level - 2) j) (at + pointsSize ps) inside in
+      let each : (j at : ℕ) → Each (Place top w) (old j at) → Pairwise (PointAfter top w raw) (old j at) (after j at) = λ j at e.
+      let path′ = set path (level - 2) j in
+      let s′ = within body at ps s in
+      let t′ = within new at ps t in
+      let own = pointsAt body s′ path′ at ps in
+      let rest = groupsAt body count (suc level) s′ path′ (at + pointsSize ps) inside in
+      let parts = each-parts (Place top w) own rest e in
+      let scopes = reach-becomes path′ s′ at reach ps enclosing (sound .sound .2) (parts .0) s t
+      (deeper enclosing path (level - 2) j s t shallow h) in
+      pairwise-append (PointAfter top w raw) own (pointsAt new t′ path′ at ps) rest
+      (groupsAt new count (suc level) t′ path′ (at + pointsSize ps) inside)
+      (points-after path′ at reach reach ps (sound .sound .2) (points-resolve reach ps (sound .sound .2)) reachKnown s′ t′ scopes
+      (parts .0))
+      (groups-after count tops reach (suc level) path′ (at + pointsSize ps) inside
+      (below tops enclosing level hd ps inside behind sound) (omega arith)
+      (inside-deep n depth level hd ps inside behind distinct low deep) lower reachKnown
+      (λ p i. ahead p (in-behind p ps (L ++ B) (in-front p L B i))) s′ t′ scopes (parts .1)) in
+      let mid = offset + count hd * size in
+      let first = instances (count hd) 0 offset size old in
+      let rest = groupsAt body count level s path mid behind in
+      let parts = each-parts (Place top w) first rest places in
+      pairwise-append (PointAfter top w raw) first (instances (count hd) 0 offset size after) rest
+      (groupsAt new count level t path mid behind)
+      (pairwise-instances (Place top w) (PointAfter top w raw) old after each (count hd) 0 offset size (parts .0))
+      (groups-after count tops enclosing level path mid behind (beside tops enclosing level hd ps inside behind sound) low
+      (behind-deep n depth level hd ps inside behind distinct low deep) shallow around
+      (λ p i. ahead p (in-behind p ps (L ++ B) (in-behind p L B i))) s t h (parts .1))

@@ -1,0 +1,104 @@
+-- Lists that are related pair by pair.
+use mathlib.Core.Path.{_≡_, refl, sym, _∙_}
+use mathlib.Core.Bool.{Bool, true, false}
+use mathlib.Core.List.{List, [], _∷_, _++_, map}
+use mathlib.Core.Option.{some}
+use Prim.Native.Nat.{ℕ, zero, suc, _+_}
+use native.Mathlib.Omega.{arith}
+use lib.ListN.{length}
+use Rattle.catalog.specs.Soundness.{In, first, later}
+use Rattle.values.specs.Each.{Each}
+use Rattle.listing.proofs.EachLaws.{each-append}
+use Rattle.listing.specs.Points.{ModelPoint}
+use Rattle.listing.specs.Layout.{instances}
+use Rattle.listing.specs.Finding.{firstWith}
+use Rattle.writing.specs.AfterWriting.{Pairwise}
+use Rattle.writing.proofs.FirstFound.{not-none, found-here, found-behind}
+
+module _ {A : Type 0} (P : A → Type 0) where
+  -- What holds of each of two lists, one behind the other, holds of each of both.
+  pub each-parts : (xs ys : List A) → Each P (xs ++ ys) → Each P xs × Each P ys
+  each-parts [] ys e = (tt, e)
+  each-parts (x ∷ xs) ys e = let r = each-parts xs ys (e .1) in ((e .0, r .0), r .1)
+
+  -- What holds of each holds of one.
+  pub of-one : (x : A) (xs : List A) → In x xs → Each P xs → P x
+  of-one x (y ∷ xs) first e = e .0
+  of-one x (y ∷ xs) (later i) e = of-one x xs i (e .1)
+
+module _ {A : Type 0} (R : A → A → Type 0) where
+  -- Pairs behind pairs.
+  pub pairwise-append : (xs ys us vs : List A) → Pairwise R xs ys → Pairwise R us vs → Pairwise R (xs ++ us) (ys ++ vs)
+  pairwise-append [] [] us vs p q = q
+  pairwise-append [] (y ∷ ys) us vs p q = absurd p
+  pairwise-append (x ∷ xs) [] us vs p q = absurd p
+  pairwise-append (x ∷ xs) (y ∷ ys) us vs p q = (p .0, pairwise-append xs ys us vs (p .1) q)
+
+  -- A list with itself.
+  pub pairwise-same : (xs : List A) → ((x : A) → In x xs → R x x) → Pairwise R xs xs
+  pairwise-same [] f = tt
+  pairwise-same (x ∷ xs) f = (f x first, pairwise-same xs (λ y i. f y (later i)))
+
+  -- As many on both sides.
+  pub pairwise-length : (xs ys : List A) → Pairwise R xs ys → length ys ≡ length xs
+  pairwise-length [] [] p = refl
+  pairwise-length [] (y ∷ ys) p = absurd p
+  pairwise-length (x ∷ xs) [] p = absurd p
+  pairwise-length (x ∷ xs) (y ∷ ys) p = let e = pairwise-length xs ys (p .1) in omega arith
+
+  -- The pair at one position.
+  pub pairwise-at : (front front′ : List A) (x y : A) (behind behind′ : List A) → length front ≡ length front′
+      → Pairwise R (front ++ x ∷ behind) (front′ ++ y ∷ behind′) → R x y
+  pairwise-at [] [] x y behind behind′ e p = p .0
+  pairwise-at [] (g ∷ front′) x y behind behind′ e p = absurd (omega arith)
+  pairwise-at (f ∷ front) [] x y behind behind′ e p = absurd (omega arith)
+  pairwise-at (f ∷ front) (g ∷ front′) x y behind behind′ e p =
+      pairwise-at front front′ x y behind behind′ (omega arith) (p .1)
+
+  -- Where a test comes out the same on both sides of each pair, what it finds first is a pair.
+  pub pairwise-found : (test : A → Bool) → ((x y : A) → R x y → test y ≡ test x) → (xs ys : List A) → Pairwise R xs ys
+      → (w : A) → firstWith test xs ≡ some w → (s : A) × (firstWith test ys ≡ some s) × R w s
+  unfolding firstWith
+  pairwise-found test same [] ys p w e = not-none e
+  pairwise-found test same (x ∷ xs) [] p w e = absurd p
+  pairwise-found test same (x ∷ xs) (y ∷ ys) p w e = go (test x) refl (pairwise-found test same xs ys (p .1) w)
+    where
+      go : (b : Bool) → test x ≡ b
+          → (firstWith test xs ≡ some w → (s : A) × (firstWith test ys ≡ some s) × R w s)
+          → (s : A) × (firstWith test (y ∷ ys) ≡ some s) × R w s
+      go true t rest =
+          let here : x ≡ w = cc (found-here test x xs t) in
+          (y, found-here test y ys (same x y (p .0) ∙ t), rw (← here) (p .0))
+      go false t rest =
+          let r = rest (sym (found-behind test x xs t) ∙ e) in
+          (r .0, found-behind test y ys (same x y (p .0) ∙ t) ∙ r .1, r .2)
+
+-- Pairs of points as pairs of what they are made into.
+pub pairwise-map : {A B : Type 0} (R : A → A → Type 0) (Q : B → B → Type 0) (f g : A → B)
+    → ((x y : A) → R x y → Q (f x) (g y)) → (xs ys : List A) → Pairwise R xs ys → Pairwise Q (map f xs) (map g ys)
+pairwise-map R Q f g h [] [] p = tt
+pairwise-map R Q f g h [] (y ∷ ys) p = absurd p
+pairwise-map R Q f g h (x ∷ xs) [] p = absurd p
+pairwise-map R Q f g h (x ∷ xs) (y ∷ ys) p = (h x y (p .0), pairwise-map R Q f g h xs ys (p .1))
+
+module _ (P : ModelPoint → Type 0) (R : ModelPoint → ModelPoint → Type 0) (one other : ℕ → ℕ → List ModelPoint)
+    (each : (j at : ℕ) → Each P (one j at) → Pairwise R (one j at) (other j at)) where
+  -- The instances of a group, if so it is with each.
+  pub pairwise-instances : (n j offset size : ℕ) → Each P (instances n j offset size one)
+      → Pairwise R (instances n j offset size one) (instances n j offset size other)
+  unfolding instances
+  pairwise-instances zero j offset size e = tt
+  pairwise-instances (suc n) j offset size e =
+      let s = each-parts P (one j offset) (instances n (suc j) (offset + size) size one) e in
+      pairwise-append R (one j offset) (other j offset) (instances n (suc j) (offset + size) size one)
+      (instances n (suc j) (offset + size) size other) (each j offset (s .0))
+      (pairwise-instances n (suc j) (offset + size) size (s .1))
+
+module _ (P : ModelPoint → Type 0) (one : ℕ → ℕ → List ModelPoint) (each : (j at : ℕ) → Each P (one j at)) where
+  -- What holds of each point of every instance holds of each point of the instances.
+  pub each-instance : (n j offset size : ℕ) → Each P (instances n j offset size one)
+  unfolding instances
+  each-instance zero j offset size = tt
+  each-instance (suc n) j offset size =
+      each-append P (one j offset) (instances n (suc j) (offset + size) size one) (each j offset)
+      (each-instance n (suc j) (offset + size) size)

@@ -1,0 +1,119 @@
+-- An accepted write reads back: the point is found again with the raw value, and nothing but its registers has changed.
+use mathlib.Core.Path.{_≡_, sym, ap, subst, _∙_}
+use mathlib.Core.List.{List}
+use mathlib.Core.Logic.{_⊎_}
+use mathlib.Core.Option.{none, some}
+use Prim.Native.Nat.{ℕ, _+_, _≤_, _<_}
+use native.Mathlib.Omega.{arith}
+use lib.ListN.{length, getD}
+use lib.Seq.{length-sets}
+use Rattle.values.specs.Registers.{split}
+use Rattle.catalog.specs.Definitions.{definitions}
+use Rattle.listing.specs.Listing.{Record, listed, allRecords, withRoom, listing}
+use Rattle.listing.specs.Finding.{isRecord, firstWith}
+use Rattle.listing.proofs.ListingCases.{with-room, listing-records, walk-records}
+use Rattle.listing.proofs.WalksBehind.{listed-walks}
+use Rattle.writing.specs.Writing.{refusal, rewritten, written, writing}
+use Rattle.writing.specs.AfterWriting.{RecordAfter, Pairwise}
+use Rattle.writing.proofs.ModelClaim.{ModelClaim}
+use Rattle.writing.proofs.WritingCases.{accepted-write}
+use Rattle.writing.proofs.PairwiseLaws.{pairwise-length, pairwise-found}
+use Rattle.writing.proofs.StoredRegisters.{length-split, stored-outside}
+use Rattle.writing.proofs.AfterCases.{same-record, after-written}
+use Rattle.writing.proofs.MapAfter.{map-after}
+
+-- What an accepted write comes to. Before: the records of the map, and the one of the point asked for, which is not refused.
+-- After: as many records, each as writing makes it; the point asked for, at its address, has the raw value, and is neither
+-- unimplemented nor out of range. Registers that are not the point's are as they were.
+pub record ReadBack (catalog map : List ℕ) (index number : ℕ) (path : List ℕ) (raw : ℕ) (new : List ℕ) : Type 0 where
+  pub before : List Record
+  pub headers : ℕ
+  pub allBefore : allRecords catalog map ≡ listed before headers
+  pub point : Record
+  pub found : firstWith (isRecord index number path) before ≡ some point
+  pub accepted : refusal point raw ≡ none
+  pub rewrites : new ≡ rewritten point raw map
+  pub after : List Record
+  pub allAfter : allRecords catalog new ≡ listed after headers
+  pub pairs : Pairwise (RecordAfter (definitions catalog) point raw) before after
+  pub pointAfter : Record
+  pub foundAfter : firstWith (isRecord index number path) after ≡ some pointAfter
+  pub holds : pointAfter .point .raw ≡ raw
+  pub address : pointAfter .address ≡ point .address
+  pub implemented : pointAfter .point .status ≡ 1 → ⊥
+  pub mandatory : pointAfter .point .status ≡ 2 → ⊥
+  pub inRange : pointAfter .point .status ≡ 5 → ⊥
+  pub sameLength : length new ≡ length map
+  pub outside : (k : ℕ) → (k < point .address) ⊎ (point .address + point .point .definition .size ≤ k)
+      → getD new k 0 ≡ getD map k 0
+
+-- Only the registers of the point are written.
+module _ (w : Record) (raw : ℕ) (map : List ℕ) where
+  rewritten-length : length (rewritten w raw map) ≡ length map
+  unfolding rewritten
+  rewritten-length = length-sets map (w .address) (split (w .point .definition .size) raw)
+
+  rewritten-outside : (k : ℕ) → (k < w .address) ⊎ (w .address + w .point .definition .size ≤ k)
+      → getD (rewritten w raw map) k 0 ≡ getD map k 0
+  unfolding rewritten
+  rewritten-outside k h =
+      let size = w .point .definition .size in
+      stored-outside (split size raw) map (w .address) k 0
+      (subst (λ n. (k < w .address) ⊎ (w .address + n ≤ k)) (sym (length-split size raw)) h)
+
+module _ (modelAfter : ModelClaim) (catalog map : List ℕ) (index number : ℕ) (path : List ℕ) (raw : ℕ) (new : List ℕ) where
+  -- The claim.
+  pub read-back : writing catalog map index number path raw ≡ written new → ReadBack catalog map index number path raw new
+  read-back e =
+      let a = accepted-write catalog map index number path raw new e in
+      let w = a .point in
+      let ds = definitions catalog in
+      let test = isRecord index number path in
+      let m = map-after modelAfter catalog map (a .records) (a .headers) (a .all) index number path w (a .found) raw
+      (a .accepted) in
+      let s = pairwise-found (RecordAfter ds w raw) test (same-record ds w raw index number path) (a .records) (m .0) (m .2) w
+      (a .found) in
+      let h = after-written ds w raw (s .0) (s .2) in
+      record {
+        before = a .records;
+        headers = a .headers;
+        allBefore = a .all;
+        point = w;
+        found = a .found;
+        accepted = a .accepted;
+        rewrites = a .rewrites;
+        after = m .0;
+        allAfter = ap (allRecords catalog) (a .rewrites) ∙ m .1;
+        pairs = m .2;
+        pointAfter = s .0;
+        foundAfter = s .1;
+        holds = h .holds;
+        address = s .2 .address;
+        implemented = h .implemented;
+        mandatory = h .mandatory;
+        inRange = h .inRange;
+        sameLength = ap length (a .rewrites) ∙ rewritten-length w raw map;
+        outside = λ k o. ap (λ l. getD l k 0) (a .rewrites) ∙ rewritten-outside w raw map k o;
+      }
+
+-- What listing shows, with any room for it: where the old records had room, the new ones are shown.
+pub shown-after : (catalog map : List ℕ) (index number : ℕ) (path : List ℕ) (raw : ℕ) (new : List ℕ)
+    → (b : ReadBack catalog map index number path raw new) → (room : ℕ) (rs : List Record) (headers : ℕ)
+    → listing catalog map room ≡ listed rs headers
+    → (rs ≡ b .before) × (headers ≡ b .headers) × (listing catalog new room ≡ listed (b .after) headers)
+shown-after catalog map index number path raw new b room rs headers e =
+    let l = listed-walks catalog map room rs headers e in
+    let all = walk-records catalog map (l .0) in
+    let before = b .allBefore in
+    let same : rs ≡ b .before = cc in
+    let also : headers ≡ b .headers = cc in
+    let R = RecordAfter (definitions catalog) (b .point) raw in
+    let count : length (b .after) ≡ length rs =
+    pairwise-length R (b .before) (b .after) (b .pairs) ∙ ap length (sym same) in (
+      same,
+      also,
+      listing-records catalog new room
+          ∙ ap (withRoom room) (b .allAfter)
+          ∙ with-room room (b .after) (b .headers) (omega (arith, l .1, count))
+          ∙ ap (listed (b .after)) (sym also),
+    )

@@ -1,0 +1,152 @@
+-- The ways in which writing comes to its answer.
+use mathlib.Core.Path.{_≡_, refl}
+use mathlib.Core.Bool.{true, false}
+use mathlib.Core.List.{List}
+use mathlib.Core.Option.{Option, none, some}
+use Prim.Native.Nat.{ℕ, _≤_}
+use native.Mathlib.Omega.{arith}
+use borrow.Author.Tests.{eqb-false, ltb-false}
+use lib.Dec.{eqb, ltb}
+use Rattle.values.specs.Classes.{classified}
+use Rattle.values.proofs.TestOutcomes.{by-test}
+use Rattle.catalog.specs.Frames.{readOnly}
+use Rattle.listing.specs.Listing.{Record, allRecords}
+use Rattle.listing.specs.Listing as Listing
+use Rattle.listing.specs.Finding.{isRecord, firstWith, finding}
+use Rattle.listing.specs.Finding as Finding
+use Rattle.listing.proofs.RefusalNumbers.{Between}
+use Rattle.writing.specs.Writing.{isUnimplemented, canHold, refusal, rewritten, Answer, refused, written, writing}
+
+-- An answer by what decides it.
+pub data Case (catalog map : List ℕ) (index number : ℕ) (path : List ℕ) (raw : ℕ) : Answer → Type 0 where
+  listingRefused : {n place headers : ℕ} → allRecords catalog map ≡ Listing.refused n place headers
+      → Case catalog map index number path raw (refused n place)
+  noPoint : {rs : List Record} {headers : ℕ} → allRecords catalog map ≡ Listing.listed rs headers
+      → firstWith (isRecord index number path) rs ≡ none → Case catalog map index number path raw (refused 31 0)
+  pointRefused : {rs : List Record} {headers : ℕ} {w : Record} {n : ℕ} → allRecords catalog map ≡ Listing.listed rs headers
+      → firstWith (isRecord index number path) rs ≡ some w → refusal w raw ≡ some n
+      → Case catalog map index number path raw (refused n 0)
+  pointWritten : {rs : List Record} {headers : ℕ} {w : Record} → allRecords catalog map ≡ Listing.listed rs headers
+      → firstWith (isRecord index number path) rs ≡ some w → refusal w raw ≡ none
+      → Case catalog map index number path raw (written (rewritten w raw map))
+
+module _ (catalog map : List ℕ) (index number : ℕ) (path : List ℕ) where
+  -- What finding comes to, by the records and by the record that is found.
+  finding-refused : {n place headers : ℕ} → allRecords catalog map ≡ Listing.refused n place headers
+      → finding catalog map index number path ≡ Finding.refused n place
+  unfolding finding
+  finding-refused e = rw (e, finding)
+
+  module _ {rs : List Record} {headers : ℕ} (e : allRecords catalog map ≡ Listing.listed rs headers) where
+    finding-nothing : firstWith (isRecord index number path) rs ≡ none
+        → finding catalog map index number path ≡ Finding.nothing
+    unfolding finding
+    finding-nothing f = rw (e, finding) (rw f)
+
+    finding-found : {w : Record} → firstWith (isRecord index number path) rs ≡ some w
+        → finding catalog map index number path ≡ Finding.found w
+    unfolding finding
+    finding-found f = rw (e, finding) (rw f)
+
+  module _ (raw : ℕ) where
+    -- The answer of each way.
+    answer-refused : {n place : ℕ} → finding catalog map index number path ≡ Finding.refused n place
+        → writing catalog map index number path raw ≡ refused n place
+    unfolding writing
+    answer-refused f = rw (f, writing)
+
+    answer-nothing : finding catalog map index number path ≡ Finding.nothing
+        → writing catalog map index number path raw ≡ refused 31 0
+    unfolding writing
+    answer-nothing f = rw (f, writing)
+
+    answer-found : {w : Record} → finding catalog map index number path ≡ Finding.found w
+        → writing catalog map index number path raw
+        ≡ elim (refusal w raw) [ some n ↦ refused n 0 | none ↦ written (rewritten w raw map) ]
+    unfolding writing
+    answer-found f = rw (f, writing)
+
+    -- By the refusal of the point, by what is found, and by the records.
+    by-refusal : {rs : List Record} {headers : ℕ} (w : Record) → allRecords catalog map ≡ Listing.listed rs headers
+        → firstWith (isRecord index number path) rs ≡ some w → (o : Option ℕ) → refusal w raw ≡ o
+        → Case catalog map index number path raw (writing catalog map index number path raw)
+    by-refusal w e f none q = rw (answer-found (finding-found e f), q) (pointWritten e f q)
+    by-refusal w e f (some n) q = rw (answer-found (finding-found e f), q) (pointRefused e f q)
+
+    by-found : {rs : List Record} {headers : ℕ} → allRecords catalog map ≡ Listing.listed rs headers → (o : Option Record)
+        → firstWith (isRecord index number path) rs ≡ o
+        → Case catalog map index number path raw (writing catalog map index number path raw)
+    by-found e none f = rw (answer-nothing (finding-nothing e f)) (noPoint e f)
+    by-found e (some w) f = by-refusal w e f (refusal w raw) refl
+
+    by-records : (a : Listing.Answer) → allRecords catalog map ≡ a
+        → Case catalog map index number path raw (writing catalog map index number path raw)
+    by-records (Listing.refused n place headers) e = rw (answer-refused (finding-refused e)) (listingRefused e)
+    by-records (Listing.listed rs headers) e = by-found e (firstWith (isRecord index number path) rs) refl
+
+    -- Every answer comes in one of these ways.
+    pub writing-case : Case catalog map index number path raw (writing catalog map index number path raw)
+    writing-case = by-records (allRecords catalog map) refl
+
+-- ---- The refusals of a point that is found
+
+-- A point that is not refused: it may be written, takes up to four registers, is implemented and can hold the raw value.
+pub record Writable (w : Record) (raw : ℕ) : Type 0 where
+  pub access : w .point .definition .access ≡ readOnly → ⊥
+  pub small : w .point .definition .size ≤ 4
+  pub given : isUnimplemented (classified (w .point .definition .typeCode) (w .point .raw)) ≡ false
+  pub holds : canHold (w .point .definition) raw ≡ true
+
+module _ (w : Record) (raw : ℕ) where
+  -- Where it is refused, the number is 32 to 35; else it is writable.
+  abbrev Outcome : Option ℕ → Type 0
+  Outcome none = Writable w raw
+  Outcome (some n) = Between 32 35 n
+
+  outcome : Outcome (refusal w raw)
+  unfolding refusal
+  outcome =
+      let p = w .point .definition in
+      by-test Outcome (eqb (p .access) readOnly) (λ _. (omega arith, omega arith)) (λ a.
+      by-test Outcome (ltb 4 (p .size)) (λ _. (omega arith, omega arith)) (λ s.
+      by-test Outcome (isUnimplemented (classified (p .typeCode) (w .point .raw))) (λ _. (omega arith, omega arith)) (λ g.
+      by-test Outcome (canHold p raw) (λ h. record {
+        access = eqb-false (p .access) readOnly a;
+        small = ltb-false 4 (p .size) s;
+        given = g;
+        holds = h;
+      }) (λ _. (omega arith, omega arith)))))
+
+  -- A refusal and its absence, each with what it tells.
+  pub refusal-number : {n : ℕ} → refusal w raw ≡ some n → Between 32 35 n
+  refusal-number e = rw e at outcome
+
+  pub refusal-none : refusal w raw ≡ none → Writable w raw
+  refusal-none e = rw e at outcome
+
+-- ---- An accepted write
+
+-- The point that an accepted write has found, and the new map.
+pub record Accepted (catalog map : List ℕ) (index number : ℕ) (path : List ℕ) (raw : ℕ) (new : List ℕ) : Type 0 where
+  pub records : List Record
+  pub headers : ℕ
+  pub all : allRecords catalog map ≡ Listing.listed records headers
+  pub point : Record
+  pub found : firstWith (isRecord index number path) records ≡ some point
+  pub accepted : refusal point raw ≡ none
+  pub rewrites : new ≡ rewritten point raw map
+
+module _ (catalog map : List ℕ) (index number : ℕ) (path : List ℕ) (raw : ℕ) (new : List ℕ) where
+  -- Only one way leads to a new map.
+  accepted-case : (answer : Answer) → Case catalog map index number path raw answer → answer ≡ written new
+      → Accepted catalog map index number path raw new
+  accepted-case answer (listingRefused e) q = let z : _≡_ {A = ℕ} 0 1 = cc in absurd (omega arith)
+  accepted-case answer (noPoint e f) q = let z : _≡_ {A = ℕ} 0 1 = cc in absurd (omega arith)
+  accepted-case answer (pointRefused e f r) q = let z : _≡_ {A = ℕ} 0 1 = cc in absurd (omega arith)
+  accepted-case answer (pointWritten {rs = rs} {headers = headers} {w = w} e f r) q =
+      record { records = rs; headers = headers; all = e; point = w; found = f; accepted = r; rewrites = cc }
+
+  pub accepted-write : writing catalog map index number path raw ≡ written new
+      → Accepted catalog map index number path raw new
+  accepted-write =
+      accepted-case (writing catalog map index number path raw) (writing-case catalog map index number path raw)
