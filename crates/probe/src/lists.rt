@@ -3,16 +3,15 @@
 use crate::checking::CATALOG_CAPACITY;
 use crate::fields;
 use crate::fields::Number;
-use crate::fields::Stored;
 use crate::output;
+use crate::plants::MAP_CAPACITY;
+use crate::plants::Plant;
+use crate::plants::plant_at;
 use listing::Listing;
 use listing::WIDTH;
 
 // The longest list that a line can ask for.
 const LIST_CAPACITY: usize = 20000;
-
-// How many words a line can give as the map: one more than a map may have.
-const MAP_CAPACITY: usize = 65537;
 
 // Answers the fields from `at` on. False, with nothing written, where they are bad.
 pub(crate) fn run(line: &[u8], at: usize) -> bool {
@@ -21,21 +20,14 @@ pub(crate) fn run(line: &[u8], at: usize) -> bool {
         return false;
     };
     let mut catalog = [0u16; CATALOG_CAPACITY];
-    let frames = fields::words_field(line, next, &mut catalog);
-    let Stored::Of { count: n, next } = frames else {
-        return false;
-    };
     let mut map = [0u16; MAP_CAPACITY];
-    let registers = fields::words_field(line, next, &mut map);
-    let Stored::Of { count: m, next } = registers else {
+    let plant = plant_at(line, next, &mut catalog, &mut map);
+    let Plant::Of { words, registers } = plant else {
         return false;
     };
-    if !fields::nothing_left(line, next) {
-        return false;
-    }
     let mut list = [0u64; LIST_CAPACITY];
     let entries = value as usize;
-    write_listing(&catalog[..n], &map[..m], &mut list[..entries]);
+    write_listing(&catalog[..words], &map[..registers], &mut list[..entries]);
     true
 }
 

@@ -11,8 +11,10 @@ mod fields;
 mod lists;
 mod output;
 mod parsing;
+mod plants;
 mod quantity;
 mod text;
+mod writes;
 
 use libc::STDIN_FILENO;
 ghost use Prim.Native.Nat.{_≤_};
@@ -142,6 +144,9 @@ fn run(line: &[u8]) -> bool {
     }
     if check::same(word, b"list") {
         return lists::run(line, at);
+    }
+    if check::same(word, b"write") {
+        return writes::run(line, at);
     }
     if check::same(word, b"parse") {
         return parsing::run(line, at);
