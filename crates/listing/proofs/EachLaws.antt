@@ -19,10 +19,15 @@ pub each-parts : {A : Type 0} (P : A → Type 0) (xs ys : List A) → Each P (xs
 each-parts P [] ys e = (tt, e)
 each-parts P (x ∷ xs) ys e = let r = each-parts P xs ys (e .1) in ((e .0, r .0), r .1)
 
--- What holds of each holds of one.
-pub of-one : {A : Type 0} (P : A → Type 0) (x : A) (xs : List A) → In x xs → Each P xs → P x
-of-one P x (y ∷ xs) first e = e .0
-of-one P x (y ∷ xs) (later i) e = of-one P x xs i (e .1)
+-- What holds of each holds of one,
+pub each-one : {A : Type 0} (P : A → Type 0) (xs : List A) → Each P xs → (x : A) → In x xs → P x
+each-one P (y ∷ ys) e x first = e .0
+each-one P (y ∷ ys) e x (later i) = each-one P ys (e .1) x i
+
+-- and what holds of any one holds of each.
+pub each-any : {A : Type 0} (P : A → Type 0) (xs : List A) → ((x : A) → In x xs → P x) → Each P xs
+each-any P [] f = tt
+each-any P (x ∷ xs) f = (f x first, each-any P xs (λ y i. f y (later i)))
 
 -- Of each behind the first so many.
 pub each-drop : {A : Type 0} (P : A → Type 0) (i : ℕ) (xs : List A) → Each P xs → Each P (drop i xs)

@@ -10,7 +10,6 @@ use borrow.Author.Tests.{eq-eqb, ne-eqb}
 use lib.Dec.{eqb}
 use lib.ListN.{getD}
 use Rattle.values.specs.Each.{Each}
-use Rattle.values.specs.Rows.{rowOf}
 use Rattle.values.proofs.Table.{no-row-outside}
 use Rattle.catalog.specs.Frames.{Point}
 use Rattle.catalog.specs.Checking.{accepted, checked}
@@ -28,7 +27,8 @@ use Rattle.listing.specs.Listing as Listing
 use Rattle.listing.specs.Finding.{firstWith, isRecord, Finding, refused, nothing, found, finding, Told, refusedTold, nothingTold, foundTold, told}
 use Rattle.listing.specs.Promises.{foundNumbers, foundIn, NarrowFound, toldBy}
 use Rattle.listing.specs.declared.records.Sought.{Sought}
-use Rattle.listing.proofs.EachLaws.{each-append}
+use Rattle.listing.proofs.EachLaws.{each-append, each-one}
+use Rattle.listing.proofs.FirstFound.{found-in}
 use Rattle.listing.proofs.ReadingSteps.{reading-none, reading-first}
 use Rattle.listing.proofs.PointClasses.{row-of-size}
 use Rattle.listing.proofs.ListedPoints.{listed-by, all-sound}
@@ -96,16 +96,6 @@ module _ (P : ModelPoint → Type 0) (read : Model → Reading)
           rw (rest .2) (each-append (λ r. P (r .point)) own (rest .0) (of-records index at (m .id) ps (each m ps q))
           (behind (rest .0) (rest .1)))
 
--- What holds of each holds of the first that is found.
-first-holds : {A : Type 0} (P : A → Type 0) (test : A → Bool) (xs : List A) (x : A) → firstWith test xs ≡ some x → Each P xs → P x
-unfolding firstWith
-first-holds P test [] x e a = let z : _≡_ {A = ℕ} 0 1 = cc in absurd (omega arith)
-first-holds P test (y ∷ ys) x e a = go (test y) e (λ q. first-holds P test ys x q (a .1))
-  where
-    go : (b : Bool) → elim b [ true ↦ some y | false ↦ firstWith test ys ] ≡ some x → (firstWith test ys ≡ some x → P x) → P x
-    go true q f = let s : y ≡ x = cc in rw (← s) (a .0)
-    go false q f = f q
-
 -- ---- What is found
 
 -- A list of six zeros behind a search.
@@ -135,7 +125,7 @@ module _ (catalog registers : List ℕ) (n : ℕ) (a : checked catalog ≡ accep
           → NarrowFound (elim o [ none ↦ nothingFound | some r ↦ foundNumbers r ])
       by-found rs each none e = narrow
       by-found rs each (some r) e =
-          let h = first-holds (λ r. Narrow (r .point .definition)) it rs r e each in
+          let h = each-one (λ r. Narrow (r .point .definition)) rs each r (found-in it rs r e .0) in
           record { typeCode = h .0; size = h .1; access = h .2 }
 
       go : (x : Listing.Answer) → all ≡ x → NarrowFound (foundIn x index sought nothingFound)

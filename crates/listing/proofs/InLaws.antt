@@ -1,27 +1,26 @@
--- A point that is one of a list, and of a longer list.
+-- One of a list is one of a longer list.
 use mathlib.Core.List.{List, [], _∷_, _++_}
 use Rattle.values.specs.Each.{Each}
-use Rattle.catalog.specs.Frames.{Point}
 use Rattle.catalog.specs.Soundness.{In, first, later}
 use Rattle.listing.proofs.EachLaws.{each-implied}
 
-module _ (p : Point) where
-  -- With points behind the list, or in front of it.
-  pub in-front : (ps qs : List Point) → In p ps → In p (ps ++ qs)
-  in-front (q ∷ ps) qs first = first
-  in-front (q ∷ ps) qs (later i) = later (in-front ps qs i)
+module _ {A : Type 0} (x : A) where
+  -- With others behind the list, or in front of it.
+  pub in-front : (xs ys : List A) → In x xs → In x (xs ++ ys)
+  in-front (y ∷ xs) ys first = first
+  in-front (y ∷ xs) ys (later i) = later (in-front xs ys i)
 
-  pub in-behind : (ps qs : List Point) → In p qs → In p (ps ++ qs)
-  in-behind [] qs i = i
-  in-behind (q ∷ ps) qs i = later (in-behind ps qs i)
+  pub in-behind : (xs ys : List A) → In x ys → In x (xs ++ ys)
+  in-behind [] ys i = i
+  in-behind (y ∷ xs) ys i = later (in-behind xs ys i)
 
   -- One of two lists has it.
-  pub in-either : (ps qs : List Point) {A : Type 0} → In p (ps ++ qs) → (In p ps → A) → (In p qs → A) → A
-  in-either [] qs i f g = g i
-  in-either (q ∷ ps) qs first f g = f first
-  in-either (q ∷ ps) qs (later i) f g = in-either ps qs i (λ j. f (later j)) g
+  pub in-either : (xs ys : List A) {B : Type 0} → In x (xs ++ ys) → (In x xs → B) → (In x ys → B) → B
+  in-either [] ys i f g = g i
+  in-either (y ∷ xs) ys first f g = f first
+  in-either (y ∷ xs) ys (later i) f g = in-either xs ys i (λ j. f (later j)) g
 
--- Each point of a list is one of it.
-pub all-in : (ps : List Point) → Each (λ q. In q ps) ps
+-- Each of a list is one of it.
+pub all-in : {A : Type 0} (xs : List A) → Each (λ y. In y xs) xs
 all-in [] = tt
-all-in (p ∷ ps) = (first, each-implied (λ q. In q ps) (λ q. In q (p ∷ ps)) (λ q i. later i) ps (all-in ps))
+all-in (x ∷ xs) = (first, each-implied (λ y. In y xs) (λ y. In y (x ∷ xs)) (λ y i. later i) xs (all-in xs))

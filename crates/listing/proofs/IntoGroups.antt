@@ -1,18 +1,18 @@
 -- A walk over groups goes into a group or past it: the groups there are sound too, at their level.
-use mathlib.Core.Path.{_≡_, refl, sym, ap, subst, _∙_}
+use mathlib.Core.Path.{_≡_, refl, sym, subst}
 use mathlib.Core.Bool.{false}
-use mathlib.Core.List.{List, [], _∷_, _++_}
+use mathlib.Core.List.{List, [], _++_}
 use mathlib.Core.Option.{some}
 use Prim.Native.Nat.{ℕ, suc, _+_, _-_, _/_, _≤_}
 use native.Mathlib.Omega.{arith}
 use lib.ListN.{length}
-use Rattle.catalog.specs.Frames.{Point, Head, endFrame, frameIn}
+use Rattle.catalog.specs.Frames.{Point, Head, frameIn}
 use Rattle.catalog.specs.Rules.{among}
-use Rattle.catalog.specs.Definitions.{Groups, group, Definition, pointFrames, groupFrames, definitionFrames, definitions}
+use Rattle.catalog.specs.Definitions.{Groups, noGroup, group, Definition, groupFrames, definitions}
 use Rattle.catalog.specs.Soundness.{Distinct, numbersOf, In, SoundGroups, SoundDefinition}
 use Rattle.listing.specs.Reading.{topOf}
 use Rattle.listing.specs.Walks.{heldAt, Stands, pastEnd, Accepted, headOf, levelOf, SoundAt, AtGroups}
-use Rattle.listing.proofs.GroupNumbers.{point-among, numbers-append, distinct-parts, among-neither, apart, none-of-parts}
+use Rattle.listing.proofs.GroupNumbers.{point-among, apart, none-of-parts}
 use Rattle.listing.proofs.Standing as standing
 use Rattle.listing.proofs.AcceptedModels as models
 use Rattle.listing.proofs.InLaws.{in-behind, in-either}
@@ -29,7 +29,7 @@ module _ (top enclosing : List Point) (level : ℕ) (h : Head) (ps : List Point)
   -- Those in a group.
   pub below : SoundBelow top (ps ++ enclosing) (suc level) inside
   below =
-      let a = apart h ps inside behind (s .distinct) in
+      let a = apart ps inside behind (s .distinct .1) in
       record {
         sound = s .sound .3;
         topInReach = λ p i. in-behind p ps enclosing (s .topInReach p i);
@@ -42,7 +42,7 @@ module _ (top enclosing : List Point) (level : ℕ) (h : Head) (ps : List Point)
   -- Those behind it.
   pub beside : SoundBelow top enclosing level behind
   beside =
-      let a = apart h ps inside behind (s .distinct) in
+      let a = apart ps inside behind (s .distinct .1) in
       record {
         sound = s .sound .4;
         topInReach = s .topInReach;
@@ -123,20 +123,14 @@ into-group ws i levels at few h e =
     (level-left ws i levels at few h e, into ws i levels at few h e, past ws i levels at few h e)
 
 -- The groups of a sound definition, below its top points.
-definition-below : (d : Definition) → SoundDefinition d → SoundBelow (d .top .points) (d .top .points) 2 (d .top .groups)
+pub definition-below : (d : Definition) → SoundDefinition d → SoundBelow (d .top .points) (d .top .points) 2 (d .top .groups)
 definition-below d s =
-    let A = numbersOf (pointFrames (d .top .points)) in
-    let I = numbersOf (groupFrames (d .top .groups)) in
-    let n : numbersOf (definitionFrames d) ≡ A ++ (I ++ []) =
-    numbers-append (pointFrames (d .top .points)) (groupFrames (d .top .groups) ++ (endFrame ∷ []))
-    ∙ ap (λ ns. A ++ ns) (numbers-append (groupFrames (d .top .groups)) (endFrame ∷ [])) in
-    let r = distinct-parts A (I ++ []) (subst (λ ns. Distinct ns) n (s .distinct)) in
-    let t = distinct-parts I [] (r .1) in
+    let a = apart (d .top .points) (d .top .groups) noGroup (s .distinct) in
     record {
       sound = s .groups;
       topInReach = λ p i. i;
-      distinct = t .0;
-      apart = λ p i. among-neither (p .number) I [] (r .2 (p .number) (point-among p (d .top .points) i)) .0;
+      distinct = a .insideDistinct;
+      apart = λ p i. a .pointsInside (p .number) (point-among p (d .top .points) i);
     }
 
 -- Those of a model that the catalog knows.

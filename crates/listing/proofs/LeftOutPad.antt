@@ -21,14 +21,19 @@ use Rattle.listing.specs.Reading.{endsWithPad, allButLast, hasNoGroup, p
 use Rattle.listing.specs.Walks.{heldAt, Stands, headOf, begun}
 use Rattle.listing.proofs.Standing as standing
 
--- A pad is one register.
-pad-size : (size : ℕ) → isSizeOf pad size ≡ true → size ≡ 1
-unfolding isSizeOf registersOf rowAmong rows
-pad-size size e =
-    let s = both (leb 1 size) (leb size 1) e in
+-- A type of one register has this size.
+pub one-register-size : (code size : ℕ) → registersOf code ≡ some (1, 1) → isSizeOf code size ≡ true → size ≡ 1
+unfolding isSizeOf
+one-register-size code size q e =
+    let s = both (leb 1 size) (leb size 1) (rw (isSizeOf, q) at e) in
     let above = leb-true 1 size (s .0) in
     let below = leb-true size 1 (s .1) in
     omega arith
+
+-- So has a pad.
+pad-size : (size : ℕ) → isSizeOf pad size ≡ true → size ≡ 1
+unfolding registersOf rowAmong rows
+pad-size size = one-register-size pad size refl
 
 -- Points that end with a pad are one more than all but the last.
 pub but-one : (ps : List Point) → endsWithPad ps ≡ true → length ps ≡ length (allButLast ps) + 1

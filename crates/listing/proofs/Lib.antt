@@ -74,6 +74,8 @@ pub mod MapSteps
 pub mod MapSurvey
 pub mod MapRecords
 pub mod Searches
+pub mod FirstFound
+pub mod Readings
 pub mod ListedPoints
 pub mod FoundNumbers
 pub mod WholeAnswer

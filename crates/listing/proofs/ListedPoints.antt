@@ -1,60 +1,21 @@
--- How a model with points is read, and that each point listed is by a point of the definition.
-use mathlib.Core.Path.{_≡_, subst}
-use mathlib.Core.Bool.{true, false}
+-- Each point of a model is by a point of its definition, so what holds of the definition's points holds of those.
+use mathlib.Core.Path.{_≡_}
+use mathlib.Core.Bool.{true}
 use mathlib.Core.List.{List, [], _∷_, _++_}
-use mathlib.Core.Logic.{_⊎_, inl, inr}
 use Prim.Native.Nat.{ℕ, zero, suc, _+_, _*_, _-_}
-use lib.Dec.{ltb}
-use lib.ListN.{length, set}
+use lib.ListN.{set}
 use Rattle.values.specs.Each.{Each}
-use Rattle.values.proofs.TestOutcomes.{by-test}
 use Rattle.catalog.specs.Frames.{Point, Head}
 use Rattle.catalog.specs.Rules.{isSizeOf}
-use Rattle.catalog.specs.Definitions.{Groups, noGroup, group, Content, Definition, pointsSize}
+use Rattle.catalog.specs.Definitions.{Groups, noGroup, group, Definition, pointsSize}
 use Rattle.catalog.specs.Soundness.{SoundPoint, SoundGroups, SoundDefinition}
 use Rattle.listing.specs.Points.{ModelPoint, Scope, pointAt}
-use Rattle.listing.specs.Layout.{within, topScope, groupsSize, countUnimplemented, fits, countsOf, noInstance, pointsAt, instances, groupsAt, contentAt}
-use Rattle.listing.specs.Reading.{Reading, points, allButLast, padLeftOut, laidOut, readBy}
+use Rattle.listing.specs.Layout.{within, topScope, groupsSize, countsOf, noInstance, pointsAt, instances, groupsAt, contentAt}
+use Rattle.listing.specs.Reading.{points, allButLast, readBy}
 use Rattle.listing.specs.Tiling.{lowerPoints, definedPoints}
 use Rattle.listing.proofs.EachLaws.{each-implied, each-append, each-parts}
-use Rattle.listing.proofs.BodyTiling.{not-points}
 use Rattle.listing.proofs.LeftOutPad.{each-but-last}
-
--- ---- Readings
-
-module _ (id : ℕ) (c : Content) (body : List ℕ) where
-  -- The points of a model whose last pad is left out.
-  abbrev pub pointsLeft : List ModelPoint
-  pointsLeft = pointsAt body (topScope (allButLast (c .points)) body) noInstance 0 (allButLast (c .points))
-
-  -- A model that is read in full.
-  pub record InFull : Type 0 where
-    pub padded : padLeftOut id c (length body) ≡ false
-    pub room : ltb (length body) (pointsSize (c .points)) ≡ false
-    pub counted : countUnimplemented (topScope (c .points) body) (c .groups) ≡ false
-    pub fitting : fits c body ≡ true
-
-  -- What is read of either.
-  pub read-left : padLeftOut id c (length body) ≡ true → readBy id c body ≡ points pointsLeft
-  unfolding readBy
-  read-left e = simp (readBy, e)
-
-  pub read-full : InFull → readBy id c body ≡ points (contentAt c body)
-  unfolding readBy laidOut
-  read-full f = simp (readBy, f .padded, laidOut, f .room, f .counted, f .fitting)
-
-  -- A model with points is read in one of the two ways.
-  pub how-read : (ps : List ModelPoint) → readBy id c body ≡ points ps
-      → ((padLeftOut id c (length body) ≡ true) × (pointsLeft ≡ ps)) ⊎ (InFull × (contentAt c body ≡ ps))
-  unfolding readBy laidOut
-  how-read ps =
-      let W : Reading → Type 0 = λ r. r ≡ points ps
-      → ((padLeftOut id c (length body) ≡ true) × (pointsLeft ≡ ps)) ⊎ (InFull × (contentAt c body ≡ ps)) in
-      by-test W (padLeftOut id c (length body)) (λ t e. inl (t, cc)) (λ l.
-      by-test W (ltb (length body) (pointsSize (c .points))) (λ t e. not-points _ ps e) (λ r.
-      by-test W (countUnimplemented (topScope (c .points) body) (c .groups)) (λ t e. not-points _ ps e) (λ u.
-      by-test W (fits c body) (λ f e. inr (record { padded = l; room = r; counted = u; fitting = f }, cc))
-      (λ t e. not-points _ ps e))))
+use Rattle.listing.proofs.Readings.{by-reading}
 
 -- ---- The points of the definition
 
@@ -103,24 +64,22 @@ module _ (P : Point → Type 0) (body : List ℕ) where
   pub listed-by : (d : Definition) → Each P (definedPoints d) → (id : ℕ) (ps : List ModelPoint)
       → readBy id (d .top) body ≡ points ps → Each (λ q. P (q .definition)) ps
   unfolding contentAt
-  listed-by d e id ps r = go (how-read id (d .top) body ps r)
+  listed-by d e id =
+      by-reading id (d .top) body (λ ps. Each (λ q. P (q .definition)) ps)
+      (λ t. points-by (topScope L body) noInstance 0 L (each-but-last P (d .top .points) (parts .0))) (λ t f.
+      each-append (λ q. P (q .definition)) (pointsAt body S noInstance 0 (d .top .points))
+      (groupsAt body (countsOf (d .top) body) 2 S noInstance (pointsSize (d .top .points)) (d .top .groups))
+      (points-by S noInstance 0 (d .top .points) (parts .0))
+      (groups-by (countsOf (d .top) body) 2 S noInstance (pointsSize (d .top .points)) (d .top .groups) (parts .1)))
     where
       parts : Each P (d .top .points) × Each P (lowerPoints (d .top .groups))
       parts = each-parts P (d .top .points) (lowerPoints (d .top .groups)) e
 
-      go : ((padLeftOut id (d .top) (length body) ≡ true) × (pointsLeft id (d .top) body ≡ ps))
-          ⊎ (InFull id (d .top) body × (contentAt (d .top) body ≡ ps)) → Each (λ q. P (q .definition)) ps
-      go (inl l) =
-          let L = allButLast (d .top .points) in
-          subst (λ qs. Each (λ q. P (q .definition)) qs) (l .1)
-          (points-by (topScope L body) noInstance 0 L (each-but-last P (d .top .points) (parts .0)))
-      go (inr f) =
-          let S = topScope (d .top .points) body in
-          subst (λ qs. Each (λ q. P (q .definition)) qs) (f .1)
-          (each-append (λ q. P (q .definition)) (pointsAt body S noInstance 0 (d .top .points))
-          (groupsAt body (countsOf (d .top) body) 2 S noInstance (pointsSize (d .top .points)) (d .top .groups))
-          (points-by S noInstance 0 (d .top .points) (parts .0))
-          (groups-by (countsOf (d .top) body) 2 S noInstance (pointsSize (d .top .points)) (d .top .groups) (parts .1)))
+      L : List Point
+      L = allButLast (d .top .points)
+
+      S : Scope
+      S = topScope (d .top .points) body
 
 -- ---- Sound points
 

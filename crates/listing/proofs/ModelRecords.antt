@@ -59,7 +59,7 @@ RecordsOf i at m rs (points ps) = recordsWith i rs ≡ map (recordOf i at (m .id
 
 module _ (read : Model → Reading) (ending : Ending) where
   -- From a model on, by how it is read: what is listed is its records and what is listed behind it.
-  abbrev Listed : ℕ → ℕ → Model → List Model → List Record → ℕ → Reading → Type 0
+  abbrev pub Listed : ℕ → ℕ → Model → List Model → List Record → ℕ → Reading → Type 0
   Listed i at m ms rs headers unknown = walk read ending (i + 1) (at + sizeOf m) ms ≡ listed rs headers
   Listed i at m ms rs headers (faulty fault) = ⊥
   Listed i at m ms rs headers (points ps) =
@@ -67,7 +67,7 @@ module _ (read : Model → Reading) (ending : Ending) where
       × (walk read ending (i + 1) (at + sizeOf m) ms ≡ listed ss headers)
       × (rs ≡ map (recordOf i at (m .id)) ps ++ ss)
 
-  walk-listed : (i at : ℕ) (m : Model) (ms : List Model) (rs : List Record) (headers : ℕ)
+  pub walk-listed : (i at : ℕ) (m : Model) (ms : List Model) (rs : List Record) (headers : ℕ)
       → walk read ending i at (m ∷ ms) ≡ listed rs headers → Listed i at m ms rs headers (read m)
   walk-listed i at m ms rs headers e = go (read m) refl
     where
@@ -79,7 +79,7 @@ module _ (read : Model → Reading) (ending : Ending) where
           (sym (walk-points read ending i at m ms q) ∙ e)
 
   -- At the end nothing is listed.
-  end-listed : (i at : ℕ) (rs : List Record) (headers : ℕ) → walk read ending i at [] ≡ listed rs headers → rs ≡ []
+  pub end-listed : (i at : ℕ) (rs : List Record) (headers : ℕ) → walk read ending i at [] ≡ listed rs headers → rs ≡ []
   unfolding walk
   end-listed i at rs headers = go ending
     where

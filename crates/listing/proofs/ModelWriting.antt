@@ -36,9 +36,10 @@ use Rattle.listing.proofs.Sizes.{laid-size, points-sized}
 
 -- ---- Readings
 
--- A body that is laid out in full: it has room for the top points, and its length is the size.
+-- A body that is laid out in full: it has room for the top points, its counts are given, and its length is the size.
 pub record Full (c : Content) (body : List ℕ) : Type 0 where
   pub room : pointsSize (c .points) ≤ length body
+  pub counted : countUnimplemented (topScope (c .points) body) (c .groups) ≡ false
   pub fitting : fits c body ≡ true
 
 -- How a model with points is read: with its last pad left out, or in full.
@@ -46,15 +47,17 @@ pub data HowRead (id : ℕ) (c : Content) (body : List ℕ) : Reading → Type 0
   leftOut : padLeftOut id c (length body) ≡ true
       → HowRead id c body
       (points (pointsAt body (topScope (allButLast (c .points)) body) noInstance 0 (allButLast (c .points))))
-  full : Full c body → HowRead id c body (points (contentAt c body))
+  full : padLeftOut id c (length body) ≡ false → Full c body → HowRead id c body (points (contentAt c body))
 
-laid-out : (id : ℕ) (c : Content) (body : List ℕ) → HasPoints (laidOut c body) → HowRead id c body (laidOut c body)
+laid-out : (id : ℕ) (c : Content) (body : List ℕ) → padLeftOut id c (length body) ≡ false → HasPoints (laidOut c body)
+    → HowRead id c body (laidOut c body)
 unfolding laidOut
-laid-out id c body =
+laid-out id c body kept =
     go (ltb (length body) (pointsSize (c .points))) (countUnimplemented (topScope (c .points) body) (c .groups)) (fits c body)
-    refl refl
+    refl refl refl
   where
-    go : (a b d : Bool) → ltb (length body) (pointsSize (c .points)) ≡ a → fits c body ≡ d
+    go : (a b d : Bool) → ltb (length body) (pointsSize (c .points)) ≡ a
+        → countUnimplemented (topScope (c .points) body) (c .groups) ≡ b → fits c body ≡ d
         → HasPoints (elim a [
           | true ↦ faulty belowTopPoints
           | false ↦ elim b [
@@ -69,12 +72,13 @@ laid-out id c body =
             | false ↦ elim d [ false ↦ faulty notTheSize | true ↦ points (contentAt c body) ]
           ]
         ])
-    go true b d e f h = absurd h
-    go false true d e f h = absurd h
-    go false false false e f h = absurd h
-    go false false true e f h = full (record { room = ltb-false (length body) (pointsSize (c .points)) e; fitting = f })
+    go true b d e u f h = absurd h
+    go false true d e u f h = absurd h
+    go false false false e u f h = absurd h
+    go false false true e u f h =
+        full kept (record { room = ltb-false (length body) (pointsSize (c .points)) e; counted = u; fitting = f })
 
-how-read : (id : ℕ) (c : Content) (body : List ℕ) → HasPoints (readBy id c body) → HowRead id c body (readBy id c body)
+pub how-read : (id : ℕ) (c : Content) (body : List ℕ) → HasPoints (readBy id c body) → HowRead id c body (readBy id c body)
 unfolding readBy
 how-read id c body = go (padLeftOut id c (length body)) refl
   where
@@ -88,7 +92,7 @@ how-read id c body = go (padLeftOut id c (length body)) refl
           | false ↦ laidOut c body
         ])
     go true e h = leftOut e
-    go false e h = laid-out id c body h
+    go false e h = laid-out id c body e h
 
 -- ---- Scopes
 
@@ -100,7 +104,7 @@ not-last q (p ∷ r ∷ ps) e t first = first
 not-last q (p ∷ r ∷ ps) e t (later i) = later (not-last q (r ∷ ps) e t i)
 
 -- So the scale factors of the points that are left resolve among these.
-resolves-left : (ps qs : List Point) → endsWithPad ps ≡ true → Each (ScaleResolves ps) qs
+pub resolves-left : (ps qs : List Point) → endsWithPad ps ≡ true → Each (ScaleResolves ps) qs
     → Each (ScaleResolves (allButLast ps)) qs
 resolves-left ps [] e r = tt
 resolves-left ps (q ∷ qs) e r =
@@ -267,7 +271,7 @@ module _ {ws : List ℕ} {id : ℕ} {body table : List ℕ} {first fill : ℕ} (
             let n = ap (λ x. length (pointsOf x)) q
             ∙ pointCounts.points-counted body (topScope (allButLast ps) body) noInstance 0 (allButLast ps) in
             asks (omega (arith, ap pointsSize b, z, l .2)) (omega (arith, ap length b, n))
-        go r q (full f) =
+        go r q (full kept f) =
             let b = all-laid f in
             let n = ap (λ x. length (pointsOf x)) q ∙ pointCounts.content-counted top body in
             asks (omega (arith, ap pointsSize b, f .room)) (omega (arith, ap length b, n))
@@ -282,7 +286,7 @@ module _ {ws : List ℕ} {id : ℕ} {body table : List ℕ} {first fill : ℕ} (
             same-points (allButLast ps) (pads.begun-but-pad ps id top (length body) sound-points h)
             (resolves-left ps (allButLast ps) (l .1) (pads.each-but-last (ScaleResolves ps) ps resolved))
             ∙ sym (ap pointsOf q)
-        go r q (full f) =
+        go r q (full kept f) =
             let z = ap pointsSize (all-laid f) in
             let P = pointsAt body (topScope ps body) noInstance 0 ps in
             same-points ps (all-laid f) resolved
@@ -301,7 +305,7 @@ module _ {ws : List ℕ} {id : ℕ} {body table : List ℕ} {first fill : ℕ} (
             let b = pads.begun-but-pad ps id top (length body) sound-points h in
             let z = pads.without-pad ps ps sound-points (l .1) in
             absurd (n (omega (arith, ap pointsSize b, z, l .2)))
-        go r q (full f) = (f, q)
+        go r q (full kept f) = (f, q)
 
     module _ {at₁ : Progress} (run : BehindRun start laid at₁) (f : Full top body) (q : read ≡ points (contentAt top body))
         {out₁ : List ℕ} (wrote : out₁ ≡ written visit records (pointsAt body (scopeIn table) noInstance 0 laid) out) where

@@ -12,7 +12,7 @@ use Rattle.listing.specs.Tiling.{lowerPoints, definedPoints}
 use Rattle.listing.proofs.GroupNumbers.{among-later}
 
 -- The points of frames.
-abbrev framePoints : List Frame → List Point
+abbrev pub framePoints : List Frame → List Point
 framePoints [] = []
 framePoints (modelFrame id ∷ fs) = framePoints fs
 framePoints (groupFrame h ∷ fs) = framePoints fs
@@ -25,7 +25,7 @@ of-points : (ps : List Point) (fs : List Frame) → framePoints (pointFrames ps 
 of-points [] fs = refl
 of-points (p ∷ ps) fs = ap (λ qs. p ∷ qs) (of-points ps fs)
 
-of-groups : (g : Groups) (fs : List Frame) → framePoints (groupFrames g ++ fs) ≡ lowerPoints g ++ framePoints fs
+pub of-groups : (g : Groups) (fs : List Frame) → framePoints (groupFrames g ++ fs) ≡ lowerPoints g ++ framePoints fs
 of-groups noGroup fs = refl
 of-groups (group h ps inside behind) fs =
     let i = groupFrames inside in
@@ -48,7 +48,7 @@ of-definition d =
     ∙ ap (λ qs. ps ++ qs) (of-groups g (endFrame ∷ []) ∙ append-nil (lowerPoints g))
 
 -- The number of a point is among the numbers of the frames.
-number-among : (fs : List Frame) (p : Point) → In p (framePoints fs) → among (p .number) (numbersOf fs) ≡ true
+pub number-among : (fs : List Frame) (p : Point) → In p (framePoints fs) → among (p .number) (numbersOf fs) ≡ true
 number-among (modelFrame id ∷ fs) p i = number-among fs p i
 number-among (groupFrame h ∷ fs) p i =
     among-later (p .number) (h .number) (numbersOf fs) (number-among fs p i)

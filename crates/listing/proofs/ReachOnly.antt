@@ -16,7 +16,7 @@ use Rattle.catalog.specs.Definitions.{Groups, noGroup, group, pointsSize, point
 use Rattle.catalog.specs.Soundness.{In, numbersOf, SoundGroups, ScaleResolves}
 use Rattle.values.proofs.TestOutcomes.{clash}
 use Rattle.catalog.proofs.References.{points-resolve}
-use Rattle.listing.specs.Points.{ModelPoint, Scope, statusOf, scaleOf, scaleStatus, registersAt, statusAt, pointAt}
+use Rattle.listing.specs.Points.{ModelPoint, Scope, statusOf, scaleOf, scaleStatus, registersAt, pointAt}
 use Rattle.listing.specs.Layout.{withPoint, within, countOf, groupsSize, pointsAt, instances, groupsAt}
 use Rattle.listing.proofs.GroupNumbers.{point-among}
 use Rattle.listing.proofs.InLaws.{in-either}
@@ -57,31 +57,38 @@ reach-agrees body offset ps enclosing s t h p i =
 
 -- ---- Points
 
--- The register of the scale point is not looked at by a point that has none.
-no-scale-status : (p : Point) (c : Classified) (r q : ℕ) → eqb (p .scaleKind) scaleByPoint ≡ false
-    → statusOf p c r ≡ statusOf p c q
-no-scale-status p (ofClass value) r q e =
-    ap (λ b. elim b [ true ↦ scaleStatus (classified sunssf r) | false ↦ 0 ]) e
-    ∙ sym (ap (λ b. elim b [ true ↦ scaleStatus (classified sunssf q) | false ↦ 0 ]) e)
-no-scale-status p (ofClass unimplemented) r q e = refl
-no-scale-status p (ofClass outOfRange) r q e = refl
-no-scale-status p tooWide r q e = refl
-no-scale-status p unknownType r q e = refl
+module _ (p : Point) (r s : ℕ) (same : p .scaleKind ≡ scaleByPoint → r ≡ s) where
+  -- The register of the scale point matters only to a point that has one: to the status
+  pub same-status : (c : Classified) → statusOf p c r ≡ statusOf p c s
+  same-status (ofClass value) = go (eqb (p .scaleKind) scaleByPoint) refl
+    where
+      go : (b : Bool) → eqb (p .scaleKind) scaleByPoint ≡ b
+          → _≡_ {A = ℕ} (elim b [ true ↦ scaleStatus (classified sunssf r) | false ↦ 0 ])
+          (elim b [ true ↦ scaleStatus (classified sunssf s) | false ↦ 0 ])
+      go true e = ap (λ (x : ℕ). scaleStatus (classified sunssf x)) (same (eqb-true (p .scaleKind) scaleByPoint e))
+      go false e = refl
+  same-status (ofClass unimplemented) = refl
+  same-status (ofClass outOfRange) = refl
+  same-status tooWide = refl
+  same-status unknownType = refl
 
-no-scale : (p : Point) (status r q : ℕ) → eqb (p .scaleKind) scaleByPoint ≡ false → scaleOf p status r ≡ scaleOf p status q
-no-scale p status r q e =
-    ap (λ b. elim (eqb status 0) [
-      | false ↦ 0
-      | true ↦ elim (eqb (p .scaleKind) fixedScale) [ true ↦ p .scale | false ↦ elim b [ true ↦ r | false ↦ 0 ] ]
-    ]) e
-    ∙ sym (ap (λ b. elim (eqb status 0) [
-      | false ↦ 0
-      | true ↦ elim (eqb (p .scaleKind) fixedScale) [ true ↦ p .scale | false ↦ elim b [ true ↦ q | false ↦ 0 ] ]
-    ]) e)
+  -- and to the scale.
+  pub same-scale : (status : ℕ) → scaleOf p status r ≡ scaleOf p status s
+  same-scale status = go (eqb status 0) (eqb (p .scaleKind) fixedScale) (eqb (p .scaleKind) scaleByPoint) refl
+    where
+      go : (a b c : Bool) → eqb (p .scaleKind) scaleByPoint ≡ c
+          → _≡_ {A = ℕ}
+          (elim a [ false ↦ 0 | true ↦ elim b [ true ↦ p .scale | false ↦ elim c [ true ↦ r | false ↦ 0 ] ] ])
+          (elim a [ false ↦ 0 | true ↦ elim b [ true ↦ p .scale | false ↦ elim c [ true ↦ s | false ↦ 0 ] ] ])
+      go false b c e = refl
+      go true true c e = refl
+      go true false true e = same (eqb-true (p .scaleKind) scaleByPoint e)
+      go true false false e = refl
 
--- A point by two registers of its scale point.
-abbrev shownBy : List ℕ → List ℕ → ℕ → Point → ℕ → ℕ → ModelPoint
-shownBy body path offset p status scale =
+-- A point by the raw number that it is classified by, the one that it shows, and the register of its scale point.
+abbrev pub shownAs : List ℕ → ℕ → Point → ℕ → ℕ → ℕ → ModelPoint
+shownAs path offset p whole raw register =
+    let status = statusOf p (classified (p .typeCode) whole) register in
     record {
       offset = offset;
       definition = p;
@@ -89,29 +96,36 @@ shownBy body path offset p status scale =
       level3 = getD path 1 0;
       level4 = getD path 2 0;
       status = status;
-      raw = shownRaw (registersAt body offset p);
-      scale = scale;
+      raw = raw;
+      scale = scaleOf p status register;
     }
+
+-- The register of the scale point matters only to a point that has one.
+pub shown-same : (path : List ℕ) (offset : ℕ) (p : Point) (whole raw r s : ℕ) → (p .scaleKind ≡ scaleByPoint → r ≡ s)
+    → shownAs path offset p whole raw r ≡ shownAs path offset p whole raw s
+shown-same path offset p whole raw r s same =
+    let c = classified (p .typeCode) whole in
+    let show : ℕ → ℕ → ModelPoint = λ status scale. record {
+      offset = offset;
+      definition = p;
+      level2 = getD path 0 0;
+      level3 = getD path 1 0;
+      level4 = getD path 2 0;
+      status = status;
+      raw = raw;
+      scale = scale;
+    } in
+    ap (λ x. show x (scaleOf p x r)) (same-status p r s same c)
+    ∙ ap (show (statusOf p c s)) (same-scale p r s same (statusOf p c s))
 
 -- A point whose scale factor resolves is the same in scopes that agree.
 point-agrees : (body path : List ℕ) (offset : ℕ) (reach : List Point) (p : Point) (s t : Scope) → ScaleResolves reach p
     → Agree reach s t → pointAt body s path offset p ≡ pointAt body t path offset p
 unfolding pointAt
-point-agrees body path offset reach p s t r h = go (eqb (p .scaleKind) scaleByPoint) refl
-  where
-    go : (b : Bool) → eqb (p .scaleKind) scaleByPoint ≡ b
-        → shownBy body path offset p (statusAt body s offset p) (scaleOf p (statusAt body s offset p) (s (p .scale)))
-        ≡ shownBy body path offset p (statusAt body t offset p) (scaleOf p (statusAt body t offset p) (t (p .scale)))
-    go true e =
-        let f = r (eqb-true (p .scaleKind) scaleByPoint e) in
-        let q : s (p .scale) ≡ t (p .scale) = ap s (sym (f .2)) ∙ h (f .0) (f .1) ∙ ap t (f .2) in
-        rw q
-    go false e =
-        let c = classified (p .typeCode) (join (registersAt body offset p)) in
-        let q = no-scale-status p c (s (p .scale)) (t (p .scale)) e in
-        let z = no-scale p (statusAt body t offset p) (s (p .scale)) (t (p .scale)) e in
-        ap (λ x. shownBy body path offset p x (scaleOf p x (s (p .scale)))) q
-        ∙ ap (shownBy body path offset p (statusAt body t offset p)) z
+point-agrees body path offset reach p s t r h =
+    let registers = registersAt body offset p in
+    shown-same path offset p (join registers) (shownRaw registers) (s (p .scale)) (t (p .scale)) (λ k.
+    let f = r k in ap s (sym (f .2)) ∙ h (f .0) (f .1) ∙ ap t (f .2))
 
 -- Points whose scale factors resolve.
 pub points-agree : (body path : List ℕ) (offset : ℕ) (reach ps : List Point) (s t : Scope) → Each (ScaleResolves reach) ps

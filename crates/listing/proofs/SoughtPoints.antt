@@ -1,6 +1,6 @@
 -- A search at one point: whether it is the one sought, and what is written of it.
 use mathlib.Core.Path.{_≡_, refl, sym, ap, _∙_}
-use mathlib.Core.Bool.{Bool, true, false, _&&_, and-false}
+use mathlib.Core.Bool.{Bool, true, false, _&&_}
 use mathlib.Core.List.{List, [], _∷_}
 use Prim.Native.Nat.{ℕ, _+_, _*_}
 use borrow.Author.Tests.{eq-eqb, ne-eqb}

@@ -60,11 +60,11 @@ example = refl
 -- ---- Catalogs and maps by hand
 
 -- A model frame.
-abbrev model : ℕ → List ℕ
+abbrev pub model : ℕ → List ℕ
 model id = 1 ∷ id ∷ 0 ∷ 0 ∷ 0 ∷ 0 ∷ 0 ∷ 0 ∷ []
 
 -- A group with a constant count, with the value of a point as its count, and the fill group.
-abbrev times : ℕ → ℕ → List ℕ
+abbrev pub times : ℕ → ℕ → List ℕ
 times number count = 2 ∷ number ∷ 0 ∷ 0 ∷ count ∷ 0 ∷ 0 ∷ 0 ∷ []
 
 abbrev counted : ℕ → ℕ → List ℕ
@@ -74,38 +74,38 @@ abbrev filling : ℕ → List ℕ
 filling number = 2 ∷ number ∷ 0 ∷ 2 ∷ 0 ∷ 0 ∷ 0 ∷ 0 ∷ []
 
 -- A point with no scale factor, optional, R: its number, type and size.
-abbrev point : ℕ → ℕ → ℕ → List ℕ
+abbrev pub point : ℕ → ℕ → ℕ → List ℕ
 point number typeCode size = 3 ∷ number ∷ typeCode ∷ size ∷ 0 ∷ 0 ∷ 0 ∷ 0 ∷ []
 
 -- A uint16 and a sunssf point.
-abbrev uint16 : ℕ → List ℕ
+abbrev pub uint16 : ℕ → List ℕ
 uint16 number = point number 2 1
 
-abbrev sunssf : ℕ → List ℕ
+abbrev pub sunssf : ℕ → List ℕ
 sunssf number = point number 8 1
 
 -- An int16 point with a fixed scale factor, and one with the value of a point as its scale factor.
 abbrev fixed : ℕ → ℕ → List ℕ
 fixed number scale = 3 ∷ number ∷ 1 ∷ 1 ∷ 1 ∷ scale ∷ 0 ∷ 0 ∷ []
 
-abbrev scaled : ℕ → ℕ → List ℕ
+abbrev pub scaled : ℕ → ℕ → List ℕ
 scaled number by = 3 ∷ number ∷ 1 ∷ 1 ∷ 2 ∷ by ∷ 0 ∷ 0 ∷ []
 
 -- An end frame.
-abbrev end : List ℕ
+abbrev pub end : List ℕ
 end = 4 ∷ 0 ∷ 0 ∷ 0 ∷ 0 ∷ 0 ∷ 0 ∷ 0 ∷ []
 
 -- The words of frames.
-abbrev joined : List (List ℕ) → List ℕ
+abbrev pub joined : List (List ℕ) → List ℕ
 joined [] = []
 joined (w ∷ ws) = w ++ joined ws
 
 -- A map of a model 1 with one register and what stands behind it, from address 5 on.
-abbrev from5 : List ℕ → List ℕ
+abbrev pub from5 : List ℕ → List ℕ
 from5 rest = 0x5375 ∷ 0x6E53 ∷ 1 ∷ 1 ∷ 7 ∷ rest
 
 -- A map of a model 1 with one register and a model 900, whose body begins at address 7.
-abbrev body : List ℕ → List ℕ
+abbrev pub body : List ℕ → List ℕ
 body registers = from5 (900 ∷ length registers ∷ registers ++ 0xFFFF ∷ 0 ∷ [])
 
 -- What listing gives: a refusal with number, place and headers, or the numbers of the records and the headers.
@@ -113,12 +113,12 @@ pub data Shown : Type 0 where
   refused : ℕ → ℕ → ℕ → Shown
   listed : List (List ℕ) → ℕ → Shown
 
-abbrev shown : Listing.Answer → Shown
+abbrev pub shown : Listing.Answer → Shown
 shown (Listing.refused number place headers) = refused number place headers
 shown (Listing.listed rs headers) = listed (map recordNumbers rs) headers
 
 -- A record of the model 900 in such a map: point number, instance numbers, address, status, raw value, scale.
-abbrev row : ℕ → ℕ → ℕ → ℕ → ℕ → ℕ → ℕ → ℕ → List ℕ
+abbrev pub row : ℕ → ℕ → ℕ → ℕ → ℕ → ℕ → ℕ → ℕ → List ℕ
 row number level2 level3 level4 address status raw scale =
     1 ∷ 900 ∷ number ∷ level2 ∷ level3 ∷ level4 ∷ address ∷ status ∷ raw ∷ scale ∷ []
 

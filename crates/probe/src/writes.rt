@@ -52,7 +52,14 @@ pub(crate) fn run(line: &[u8], at: usize) -> bool {
     let path = InstancePath {
         instances: [i2, i3, i4],
     };
-    write_written(&catalog[..words], &mut map[..registers], model, point, path, raw);
+    write_written(
+        &catalog[..words],
+        &mut map[..registers],
+        model,
+        point,
+        path,
+        raw,
+    );
     true
 }
 

@@ -14,7 +14,7 @@ use Rattle.register_map.proofs.MadeOfModels.{made-of-models}
 use Rattle.register_map.proofs.PlacedModels.{placed-each, placed-begins, placed-size, placed-split, all-unchanged}
 
 -- The registers of models behind others.
-registers-append : (ms ns : List Model) → modelRegisters (ms ++ ns) ≡ modelRegisters ms ++ modelRegisters ns
+pub registers-append : (ms ns : List Model) → modelRegisters (ms ++ ns) ≡ modelRegisters ms ++ modelRegisters ns
 unfolding modelRegisters
 registers-append [] ns = refl
 registers-append (m ∷ ms) ns =

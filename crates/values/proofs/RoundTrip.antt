@@ -21,7 +21,8 @@ use Rattle.values.proofs.DecodedCases.{Answered, asSigned, asUnsigned, 
 use Rattle.values.proofs.FoundRow.{pattern-of, first-length}
 use Rattle.values.proofs.NoNaN.{no-nan-pattern}
 
-first-registers : (k : ℕ) (rs : List ℕ) → AreRegisters rs → AreRegisters (take k rs)
+-- The first of registers are registers.
+pub first-registers : (k : ℕ) (rs : List ℕ) → AreRegisters rs → AreRegisters (take k rs)
 first-registers zero rs a = tt
 first-registers (suc k) [] a = tt
 first-registers (suc k) (r ∷ rs) a = (a .0, first-registers k rs (a .1))

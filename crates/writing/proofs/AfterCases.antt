@@ -21,10 +21,11 @@ pub record SamePlace (p q : ModelPoint) : Type 0 where
   pub level3 : q .level3 ≡ p .level3
   pub level4 : q .level4 ≡ p .level4
 
--- A point stays where it is, and so does one that is the same as one that stays.
+-- A point stays where it is,
 stays : (p : ModelPoint) → SamePlace p p
 stays p = record { offset = refl; definition = refl; level2 = refl; level3 = refl; level4 = refl }
 
+-- and so does one that is the same as one that stays.
 same-as : (p q r : ModelPoint) → SamePlace p q → r ≡ q → SamePlace p r
 same-as p q r s e = rw e s
 
@@ -32,7 +33,7 @@ same-as p q r s e = rw e s
 abbrev oneOf : Bool → Type 0 → Type 0 → Type 0
 oneOf b A B = elim b [ true ↦ A | false ↦ B ]
 
--- Of a point of the model written, and of any point.
+-- A point of the model written keeps its place,
 pub point-place : (top : Content) (w : ModelPoint) (raw : ℕ) (p q : ModelPoint) → PointAfter top w raw p q → SamePlace p q
 point-place top w raw p q = go (eqb (p .offset) (w .offset)) (isScaleFactorOf top w p)
   where
@@ -51,6 +52,7 @@ point-place top w raw p q = go (eqb (p .offset) (w .offset)) (isScaleFactorOf to
     go false true h = same-as p (rescaled raw p) q stays-rescaled h
     go false false h = same-as p p q (stays p) h
 
+-- and so does any point.
 becomes-place : (b : Bool) (o : Option Content) (w : ModelPoint) (raw : ℕ) (p q : ModelPoint) → PointBecomes b o w raw p q
     → SamePlace p q
 becomes-place false o w raw p q h = same-as p p q (stays p) h
@@ -97,6 +99,7 @@ module _ (ds : List Definition) (w : Record) (raw : ℕ) (r s : Record) (a : Rec
         (eq-eqb (r .point .offset) (w .point .offset) e) after-own
 
     module _ (other : r .point .offset ≡ w .point .offset → ⊥) where
+      -- One that is not the point written.
       after-other : By false (isScaleFactorOf top (w .point) (r .point))
       after-other =
           subst (λ b. By b (isScaleFactorOf top (w .point) (r .point)))
@@ -106,7 +109,7 @@ module _ (ds : List Definition) (w : Record) (raw : ℕ) (r s : Record) (a : Rec
       pub after-scaled : isScaleFactorOf top (w .point) (r .point) ≡ true → s .point ≡ rescaled raw (r .point)
       after-scaled e = subst (By false) e after-other
 
-      -- Another one.
+      -- One whose scale factor is not.
       pub after-unscaled : isScaleFactorOf top (w .point) (r .point) ≡ false → s ≡ r
       after-unscaled e = same-parts r s (a .index) (a .id) (a .address) (subst (By false) e after-other)
 

@@ -1,18 +1,19 @@
 -- How deep a number stands in groups, and which instance numbers a path of that depth looks at.
-use mathlib.Core.Path.{_≡_, refl, sym, ap, subst, _∙_}
+use mathlib.Core.Path.{_≡_, refl, sym, _∙_}
 use mathlib.Core.Bool.{Bool, true, false}
-use mathlib.Core.List.{List, [], _∷_, _++_}
+use mathlib.Core.List.{List, [], _∷_}
 use Prim.Native.Nat.{ℕ, zero, suc, _+_, _-_, _≤_, _<_}
 use native.Mathlib.Omega.{arith}
-use borrow.Author.Tests.{eq-eqb}
-use lib.ListN.{length, getD, set}
+use borrow.Author.Tests.{eq-eqb, eqb-true}
+use lib.Dec.{eqb}
+use lib.ListN.{length, drop, getD, set}
 use lib.Seq.{getD-set-other}
-use Rattle.values.proofs.TestOutcomes.{clash}
-use Rattle.catalog.specs.Frames.{Point, Head, endFrame}
+use Rattle.values.proofs.TestOutcomes.{clash, both}
+use Rattle.catalog.specs.Frames.{Point, Head}
 use Rattle.catalog.specs.Rules.{among}
 use Rattle.catalog.specs.Definitions.{Groups, noGroup, group, pointFrames, groupFrames}
 use Rattle.catalog.specs.Soundness.{Distinct, numbersOf}
-use Rattle.listing.proofs.GroupNumbers.{numbers-append, distinct-parts, among-neither, NoneOf, none-of-parts}
+use Rattle.listing.proofs.GroupNumbers.{Apart, apart, NoneOf, none-of-parts}
 use Rattle.writing.specs.AfterWriting.{depthIn, agreeTo}
 
 -- ---- Paths
@@ -27,23 +28,32 @@ agree-itself zero path = refl
 agree-itself (suc n) [] = refl
 agree-itself (suc n) (x ∷ path) = rw (eq-eqb x x refl) (agree-itself n path)
 
+-- Paths that agree in one number more begin with the same and go on alike.
+pub agree-first : (n : ℕ) (xs ys : List ℕ) → length xs ≡ length ys → agreeTo (suc n) xs ys ≡ true
+    → (getD xs 0 0 ≡ getD ys 0 0) × (length (drop 1 xs) ≡ length (drop 1 ys)) × (agreeTo n (drop 1 xs) (drop 1 ys) ≡ true)
+agree-first n [] [] l e = (refl, refl, agree-itself n [])
+agree-first n [] (y ∷ ys) l e = absurd (omega (arith, l))
+agree-first n (x ∷ xs) [] l e = absurd (omega (arith, l))
+agree-first n (x ∷ xs) (y ∷ ys) l e =
+    let b = both (eqb x y) (agreeTo n xs ys) e in (eqb-true x y (b .0), omega (arith, l), b .1)
+
 -- Agreeing looks at the first so many numbers only.
-agree-first : (n : ℕ) (path xs ys : List ℕ) → length xs ≡ length ys → ((i : ℕ) → i < n → getD xs i 0 ≡ getD ys i 0)
+agree-near : (n : ℕ) (path xs ys : List ℕ) → length xs ≡ length ys → ((i : ℕ) → i < n → getD xs i 0 ≡ getD ys i 0)
     → agreeTo n path xs ≡ agreeTo n path ys
-agree-first zero path xs ys l same = refl
-agree-first (suc n) [] xs ys l same = refl
-agree-first (suc n) (p ∷ path) [] [] l same = refl
-agree-first (suc n) (p ∷ path) [] (y ∷ ys) l same = absurd (omega arith)
-agree-first (suc n) (p ∷ path) (x ∷ xs) [] l same = absurd (omega arith)
-agree-first (suc n) (p ∷ path) (x ∷ xs) (y ∷ ys) l same =
+agree-near zero path xs ys l same = refl
+agree-near (suc n) [] xs ys l same = refl
+agree-near (suc n) (p ∷ path) [] [] l same = refl
+agree-near (suc n) (p ∷ path) [] (y ∷ ys) l same = absurd (omega arith)
+agree-near (suc n) (p ∷ path) (x ∷ xs) [] l same = absurd (omega arith)
+agree-near (suc n) (p ∷ path) (x ∷ xs) (y ∷ ys) l same =
     let f : x ≡ y = same 0 (omega arith) in
-    rw (f, agree-first n path xs ys (omega arith) (λ i h. same (suc i) (omega arith)))
+    rw (f, agree-near n path xs ys (omega arith) (λ i h. same (suc i) (omega arith)))
 
 -- So an instance number set behind them changes nothing.
 pub agree-behind : (n : ℕ) (path around : List ℕ) (at j : ℕ) → n ≤ at
     → agreeTo n path (levels (set around at j)) ≡ agreeTo n path (levels around)
 agree-behind n path around at j h =
-    agree-first n path (levels (set around at j)) (levels around) refl go
+    agree-near n path (levels (set around at j)) (levels around) refl go
   where
     other : (i : ℕ) → i < n → getD (set around at j) i 0 ≡ getD around i 0
     other i l = getD-set-other around at i j 0 (λ e. omega (arith, e))
@@ -56,25 +66,19 @@ agree-behind n path around at j h =
 
 -- ---- Groups
 
--- The numbers of a group and of those behind it.
-group-numbers : (h : Head) (ps : List Point) (inside behind : Groups)
-    → numbersOf (groupFrames (group h ps inside behind))
-    ≡ h .number ∷ (numbersOf (pointFrames ps) ++ (numbersOf (groupFrames inside) ++ numbersOf (groupFrames behind)))
-group-numbers h ps inside behind =
-    ap (λ ns. h .number ∷ ns) (numbers-append (pointFrames ps) (groupFrames inside ++ (endFrame ∷ groupFrames behind))
-    ∙ ap (λ ns. numbersOf (pointFrames ps) ++ ns) (numbers-append (groupFrames inside) (endFrame ∷ groupFrames behind)))
-
--- The depth of a number by the part of a group that has it.
 module _ (n : ℕ) (h : Head) (ps : List Point) (inside behind : Groups) where
+  -- The depth of a number of a group's points,
   depth-own : among n (numbersOf (pointFrames ps)) ≡ true → depthIn n (group h ps inside behind) ≡ 1
   unfolding depthIn
   depth-own e = simp (depthIn, e)
 
+  -- of the groups in it,
   depth-inside : among n (numbersOf (pointFrames ps)) ≡ false → among n (numbersOf (groupFrames inside)) ≡ true
       → depthIn n (group h ps inside behind) ≡ suc (depthIn n inside)
   unfolding depthIn
   depth-inside a e = simp (depthIn, a, e)
 
+  -- and of those behind it.
   depth-behind : among n (numbersOf (pointFrames ps)) ≡ false → among n (numbersOf (groupFrames inside)) ≡ false
       → depthIn n (group h ps inside behind) ≡ depthIn n behind
   unfolding depthIn
@@ -88,11 +92,6 @@ absent-depth n (group h ps inside behind) e =
     let none = none-of-parts n h ps inside behind e in
     depth-behind n h ps inside behind (none .ofPoints) (none .ofInside) ∙ absent-depth n behind (none .ofBehind)
 
--- A test fails that leads to a contradiction.
-pub fails : (b : Bool) → (b ≡ true → true ≡ false) → b ≡ false
-fails true f = f refl
-fails false f = refl
-
 -- If a number is one of these groups', at a level, its depth in the model is k.
 abbrev pub Deep : ℕ → ℕ → ℕ → Groups → Type 0
 Deep n k level g = among n (numbersOf (groupFrames g)) ≡ true → k ≡ level - 2 + depthIn n g
@@ -100,15 +99,9 @@ Deep n k level g = among n (numbersOf (groupFrames g)) ≡ true → k ≡ level 
 module _ (n k level : ℕ) (h : Head) (ps : List Point) (inside behind : Groups)
     (distinct : Distinct (numbersOf (groupFrames (group h ps inside behind)))) (low : 2 ≤ level)
     (deep : Deep n k level (group h ps inside behind)) where
-  -- Is it a number of the group's points, of the groups in it, of those behind it?
-  abbrev own : Bool
-  own = among n (numbersOf (pointFrames ps))
-
-  abbrev within : Bool
-  within = among n (numbersOf (groupFrames inside))
-
-  abbrev beyond : Bool
-  beyond = among n (numbersOf (groupFrames behind))
+  -- The numbers of the group's parts are apart.
+  separate : Apart ps inside behind
+  separate = apart ps inside behind (distinct .1)
 
   -- It is one of a group's where it is not none of its parts'.
   one-of : (NoneOf n ps inside behind → ⊥) → among n (numbersOf (groupFrames (group h ps inside behind))) ≡ true
@@ -118,18 +111,8 @@ module _ (n k level : ℕ) (h : Head) (ps : List Point) (inside behind : Groups)
       go true e = refl
       go false e = absurd (some (none-of-parts n h ps inside behind e))
 
-  -- It is one of one part's only.
-  separate : (own ≡ true → (within ≡ false) × (beyond ≡ false)) × (within ≡ true → beyond ≡ false)
-  separate =
-      let A = numbersOf (pointFrames ps) in
-      let I = numbersOf (groupFrames inside) in
-      let B = numbersOf (groupFrames behind) in
-      let r = distinct-parts A (I ++ B) (subst (λ ns. Distinct ns) (group-numbers h ps inside behind) distinct .1) in
-      let s = distinct-parts I B (r .1) in
-      (λ e. among-neither n I B (r .2 n e), λ e. s .2 n e)
-
   -- The depth of one of the group's points.
-  pub own-depth : own ≡ true → k ≡ suc level - 2
+  pub own-depth : among n (numbersOf (pointFrames ps)) ≡ true → k ≡ suc level - 2
   own-depth e =
       let whole = deep (one-of (λ none. clash (sym e ∙ none .ofPoints))) in
       omega (arith, whole, depth-own n h ps inside behind e)
@@ -138,12 +121,10 @@ module _ (n k level : ℕ) (h : Head) (ps : List Point) (inside behind : Groups)
   pub inside-deep : Deep n k (suc level) inside
   inside-deep e =
       let whole = deep (one-of (λ none. clash (sym e ∙ none .ofInside))) in
-      omega (arith, whole, depth-inside n h ps inside behind (fails own (λ q. sym e ∙ separate .0 q .0)) e)
+      omega (arith, whole, depth-inside n h ps inside behind (separate .insidePoints n e) e)
 
   -- and in those behind it.
   pub behind-deep : Deep n k level behind
   behind-deep e =
       let whole = deep (one-of (λ none. clash (sym e ∙ none .ofBehind))) in
-      let other = fails own (λ q. sym e ∙ separate .0 q .1) in
-      let outside = fails within (λ q. sym e ∙ separate .1 q) in
-      omega (arith, whole, depth-behind n h ps inside behind other outside)
+      omega (arith, whole, depth-behind n h ps inside behind (separate .behindPoints n e) (separate .behindInside n e))

@@ -14,8 +14,8 @@ use Rattle.listing.specs.Finding as Finding
 use Rattle.listing.specs.declared.search.Target.{Target}
 use Rattle.writing.specs.Writing.{refusal, rewritten, Answer, refused, written, writing, refusedTold, writtenTold, told, mapBehind}
 use Rattle.writing.specs.Promises.{recordOf, answerTo}
-use Rattle.writing.proofs.FirstFound.{found-in}
-use Rattle.writing.proofs.RawValues.{record-read}
+use Rattle.listing.proofs.FirstFound.{found-in}
+use Rattle.writing.proofs.RawValues.{record-inside}
 
 -- ---- Writing to a point
 
@@ -124,7 +124,7 @@ module _ (catalog map : List ℕ) (index number : ℕ) (path : List ℕ) (raw : 
         by-record w rs headers q none f g = let z : _≡_ {A = ℕ} 0 1 = cc in absurd (omega arith)
         by-record w rs headers q (some r) f g =
             let same : r ≡ w = cc in
-            let there = record-read catalog map rs headers q r (found-in (isRecord index number path) rs r f .0) .inside in
+            let there = record-inside catalog map rs headers q r (found-in (isRecord index number path) rs r f .0) in
             rw (← same) there
 
         by-answer : (w : Record) (a : Listing.Answer) → allRecords catalog map ≡ a → found ≡ Finding.found w

@@ -23,22 +23,26 @@ use Rattle.listing.proofs.InLaws.{in-front, in-behind, in-either}
 use Rattle.listing.proofs.IntoGroups.{SoundBelow, below, beside}
 use Rattle.writing.specs.AfterWriting.{agreeTo, pathOf, PointAfter, Pairwise}
 use Rattle.writing.proofs.Places.{Place}
-use Rattle.writing.proofs.PairwiseLaws.{each-parts, pairwise-append, pairwise-instances}
+use Rattle.listing.proofs.EachLaws.{each-parts}
+use Rattle.writing.proofs.PairwiseLaws.{pairwise-append, pairwise-instances}
 use Rattle.writing.proofs.Depths.{levels, agree-behind, Deep, own-depth, inside-deep, behind-deep}
 use Rattle.writing.proofs.OnePointAfter as one
 use Rattle.writing.proofs.OnePointAfter.{Write}
 
 module _ (top : Content) (w : ModelPoint) (raw : ℕ) (body : List ℕ) (defined : List Point) (x : Write defined w raw body) where
-  -- The body behind the write, and what is said of registers and scopes, for this write.
+  -- The body behind this write,
   abbrev new : List ℕ
   new = one.new top w raw body
 
+  -- a register in reach behind it,
   abbrev becomes : List ℕ → ℕ → ℕ → ℕ
   becomes = one.becomes top w raw body
 
+  -- two scopes, before it and behind it,
   abbrev Scopes : List Point → List ℕ → Scope → Scope → Type 0
   Scopes = one.Scopes top w raw body
 
+  -- and how many instance numbers lead to the point written.
   abbrev depth : ℕ
   depth = one.depth top w raw body
 

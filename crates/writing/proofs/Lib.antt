@@ -3,12 +3,12 @@ pub mod ReadBack
 pub mod OtherRecords
 pub mod NoSuchPoint
 pub mod SameValue
+pub mod WorkedWrites
 -- Laws of the definitions, and what the proofs of the functions cite
-pub mod Places
-pub mod FirstFound
+pub mod ListLaws
 pub mod PairwiseLaws
-pub mod WrittenRegisters
 pub mod StoredRegisters
+pub mod Places
 pub mod Depths
 pub mod PointAddresses
 pub mod PointPlaces
@@ -16,9 +16,7 @@ pub mod ValueStatus
 pub mod OnePointAfter
 pub mod GroupsAfter
 pub mod ReadOnlyCounts
-pub mod ListedPoints
 pub mod ModelAfter
-pub mod ModelClaim
 pub mod WritingCases
 pub mod AfterCases
 pub mod WalkedModels

@@ -20,11 +20,12 @@ use Rattle.listing.proofs.ListingCases.{records-walk, walk-records}
 use Rattle.listing.proofs.WalksBehind.{headers-walked}
 use Rattle.writing.specs.Writing.{refusal, rewritten}
 use Rattle.writing.specs.AfterWriting.{PointAfter, PointBecomes, RecordAfter, Pairwise}
-use Rattle.writing.proofs.ModelClaim.{ModelClaim}
-use Rattle.writing.proofs.FirstFound.{found-in}
+use Rattle.listing.proofs.FirstFound.{found-in}
+use Rattle.writing.proofs.PointPlaces.{point-inside}
+use Rattle.writing.proofs.ModelAfter.{model-after}
 use Rattle.writing.proofs.WritingCases.{Writable, refusal-none}
 use Rattle.writing.proofs.WalkedModels.{records-anew}
-use Rattle.writing.proofs.StoredRegisters.{length-split}
+use Rattle.writing.proofs.StoredRegisters.{split-length}
 use Rattle.writing.proofs.RecordSources.{record-source, read-with}
 use Rattle.writing.proofs.AfterCases.{point-place}
 use Rattle.writing.proofs.ModelAnew.{storedIn, scan-anew, opens-anew}
@@ -54,10 +55,10 @@ module _ (ds : List Definition) (w : Record) (raw : ℕ) where
         point = subst (λ b. P b (topOf (w .id) ds)) (sym here) (subst (P true) (sym t) a);
       }
 
-module _ (modelAfter : ModelClaim) (catalog map : List ℕ) (rs : List Record) (headers : ℕ)
+module _ (catalog map : List ℕ) (rs : List Record) (headers : ℕ)
     (all : allRecords catalog map ≡ listed rs headers) (w : Record) (there : In w rs) (raw : ℕ) (can : Writable w raw) where
   -- For any writable record of the map, the records are listed as before, each as writing makes it.
-  pub records-after : (ss : List Record)
+  records-after : (ss : List Record)
       × (allRecords catalog (rewritten w raw map) ≡ listed ss headers)
       × Pairwise (RecordAfter (definitions catalog) w raw) rs ss
   unfolding rewritten
@@ -72,41 +73,46 @@ module _ (modelAfter : ModelClaim) (catalog map : List ℕ) (rs : List Record) (
       let p = w .point in
       let vs = split (p .definition .size) raw in
       let n = storedIn m (p .offset) vs in
-      let a = modelAfter d (o .by .sound) (m .body) (o .all) (o .by .reads) p (o .holds) raw (can .access) (can .small)
+      let a = model-after d (o .by .sound) (m .body) (o .all) (o .by .reads) p (o .holds) raw (can .access) (can .small)
       (can .given) (can .holds) in
-      let qs = a .1 .0 in
+      let qs = a .0 in
       let R = PointAfter (d .top) p raw in
       let Q = RecordAfter ds w raw in
-      let new : read n ≡ points qs = read-with ds d (m .id) (o .by .named) (o .by .known) (n .body) ∙ a .1 .1 in
+      let new : read n ≡ points qs = read-with ds d (m .id) (o .by .named) (o .by .known) (n .body) ∙ a .1 in
       let size : sizeOf n ≡ sizeOf m = omega (arith, length-sets (m .body) (p .offset) vs) in
-      let inside : p .offset + length vs ≤ length (m .body) = omega (arith, a .0, length-split (p .definition .size) raw) in
+      let inside : p .offset + length vs ≤ length (m .body) =
+      omega (
+        arith,
+        point-inside d (o .by .sound) (m .body) (o .all) (o .by .reads) p (o .holds),
+        split-length (p .definition .size) raw,
+      ) in
       let index : w .index ≡ 0 + length (o .front) = omega (arith, o .index) in
       let top : topOf (w .id) ds ≡ some (d .top) = ap (λ id. topOf id ds) (o .id) ∙ o .by .known in
       let old : walk read marked 0 2 (o .front ++ m ∷ o .behind) ≡ listed rs headers =
       ap (λ ms. walk read marked 0 2 ms) (sym (o .stands))
       ∙ ap (λ x. walk read x 0 2 (scan map .models)) (sym ends)
       ∙ walks .walks in
-      let r = records-anew read marked R Q m n size (o .all) qs (o .reads) new (a .1 .2) (w .index) (other-model ds w raw)
+      let r = records-anew read marked R Q m n size (o .all) qs (o .reads) new (a .2) (w .index) (other-model ds w raw)
       (λ x. own-model ds w raw (d .top) top x (m .id)) (o .front) (o .behind) 0 2 rs headers index old in
       let scanned = scan-anew map (o .front) m (o .behind) (o .made) (p .offset) vs inside (w .address) (o .address) in (
         r .0,
-        walk-records catalog (sets map (w .address) vs) (record {
+        walk-records catalog (sets map (w .address) vs) {answer = listed (r .0) headers} (record {
           models = walks .models;
           accepted = walks .accepted;
           opens = opens-anew map (o .front) m (o .behind) (o .made) (p .offset) vs inside (w .address) (o .address)
               (walks .opens);
-          walks = ap (λ s. walk read (s .ending) 0 2 (s .models)) scanned ∙ r .1;
+          walks = subst (λ s. walk read (s .ending) 0 2 (s .models) ≡ listed (r .0) headers) (sym scanned) (r .1);
         }),
         r .2,
       )
 
 -- So it is for the record that is found and not refused.
-pub map-after : ModelClaim → (catalog map : List ℕ) (rs : List Record) (headers : ℕ) → allRecords catalog map ≡ listed rs headers
+pub map-after : (catalog map : List ℕ) (rs : List Record) (headers : ℕ) → allRecords catalog map ≡ listed rs headers
     → (index number : ℕ) (path : List ℕ) (w : Record) → firstWith (isRecord index number path) rs ≡ some w
     → (raw : ℕ) → refusal w raw ≡ none
     → (ss : List Record)
     × (allRecords catalog (rewritten w raw map) ≡ listed ss headers)
     × Pairwise (RecordAfter (definitions catalog) w raw) rs ss
-map-after modelAfter catalog map rs headers all index number path w found raw accepted =
-    records-after modelAfter catalog map rs headers all w (found-in (isRecord index number path) rs w found .0) raw
+map-after catalog map rs headers all index number path w found raw accepted =
+    records-after catalog map rs headers all w (found-in (isRecord index number path) rs w found .0) raw
     (refusal-none w raw accepted)

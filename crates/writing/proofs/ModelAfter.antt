@@ -1,82 +1,69 @@
 -- What a write makes of one model: its point holds the raw value, those that it scales are rescaled, all others stay.
 use mathlib.Core.Path.{_≡_, sym, ap, subst, _∙_}
 use mathlib.Core.Bool.{true, false}
-use mathlib.Core.List.{List, [], _∷_, _++_}
-use mathlib.Core.Logic.{_⊎_, inl, inr}
-use Prim.Native.Nat.{ℕ, _+_, _-_, _≤_}
+use mathlib.Core.List.{List, _++_}
+use Prim.Native.Nat.{ℕ, suc, _-_, _≤_}
 use native.Mathlib.Omega.{arith}
 use borrow.Author.Tests.{eqb-true}
-use lib.Dec.{eqb, ltb}
+use lib.Dec.{eqb}
 use lib.ListN.{length}
 use lib.Seq.{sets, length-sets}
 use Rattle.values.specs.Each.{Each}
 use Rattle.values.specs.Registers.{split}
 use Rattle.values.specs.Classes.{classified}
 use Rattle.values.proofs.TestOutcomes.{both}
-use Rattle.catalog.specs.Frames.{Point, endFrame, pad, sunssf, readOnly}
+use Rattle.catalog.specs.Frames.{Point, readOnly}
 use Rattle.catalog.specs.Rules.{isSizeOf}
-use Rattle.catalog.specs.Definitions.{Definition, pointsSize, pointFrames, groupFrames, definitionFrames}
-use Rattle.catalog.specs.Soundness.{Distinct, numbersOf, In, first, later, SoundPoint, SoundDefinition, ScaleResolves}
+use Rattle.catalog.specs.Definitions.{Groups, noGroup, group, Definition, pointsSize}
+use Rattle.catalog.specs.Soundness.{In, SoundPoint, SoundGroups, SoundDefinition, ScaleResolves}
 use Rattle.catalog.proofs.References.{points-resolve}
 use Rattle.listing.specs.Points.{ModelPoint, Scope}
 use Rattle.listing.specs.Layout.{nothing, topScope, countsOf, noInstance, pointsAt, groupsAt, contentAt}
-use Rattle.listing.specs.Reading.{points, endsWithPad, allButLast, padLeftOut, readBy}
+use Rattle.listing.specs.Reading.{points, allButLast, padLeftOut, readBy}
 use Rattle.listing.specs.Tiling.{lowerPoints, definedPoints}
-use Rattle.listing.proofs.InLaws.{in-front, in-behind, all-in}
+use Rattle.listing.proofs.EachLaws.{each-append, each-one, each-parts}
+use Rattle.listing.proofs.InLaws.{in-front, in-behind}
 use Rattle.listing.proofs.OnePoint.{one-point}
 use Rattle.listing.proofs.LeftOutPad.{each-but-last, left-out}
-use Rattle.listing.proofs.GroupNumbers.{point-among, numbers-append, distinct-parts, among-neither}
-use Rattle.listing.proofs.IntoGroups.{SoundBelow}
+use Rattle.listing.proofs.IntoGroups.{definition-below}
+use Rattle.listing.proofs.Sizes.{points-sized}
+use Rattle.listing.proofs.ModelWriting.{Full, resolves-left}
 use Rattle.writing.specs.Writing.{isUnimplemented, canHold}
 use Rattle.writing.specs.AfterWriting.{depthIn, agreeTo, pathOf, PointAfter, Pairwise}
+use Rattle.writing.proofs.PairwiseLaws.{pairwise-append}
 use Rattle.writing.proofs.Places.{Place}
-use Rattle.writing.proofs.PairwiseLaws.{each-parts, of-one, pairwise-append}
-use Rattle.writing.proofs.Depths.{levels, absent-depth, fails}
+use Rattle.writing.proofs.PointPlaces.{in-but-last, point-defined, point-inside, point-places}
+use Rattle.writing.proofs.Depths.{levels, absent-depth}
+use Rattle.listing.proofs.Readings.{pointsLeft, read-left, read-full, by-reading}
 use Rattle.writing.proofs.OnePointAfter as one
-use Rattle.writing.proofs.OnePointAfter.{Write}
+use Rattle.writing.proofs.OnePointAfter.{fails, Write}
 use Rattle.writing.proofs.GroupsAfter as after
 use Rattle.writing.proofs.ReadOnlyCounts as counts
-use Rattle.writing.proofs.ListedPoints.{pointsLeft, InFull, read-left, read-full, how-read, listed-by, all-sized}
 
--- ---- The top group
+-- ---- Sizes
 
--- The groups of a sound definition, below its top points.
-definition-below : (d : Definition) → SoundDefinition d → SoundBelow (d .top .points) (d .top .points) 2 (d .top .groups)
-definition-below d s =
-    let A = numbersOf (pointFrames (d .top .points)) in
-    let I = numbersOf (groupFrames (d .top .groups)) in
-    let n : numbersOf (definitionFrames d) ≡ A ++ (I ++ []) =
-    numbers-append (pointFrames (d .top .points)) (groupFrames (d .top .groups) ++ (endFrame ∷ []))
-    ∙ ap (λ ns. A ++ ns) (numbers-append (groupFrames (d .top .groups)) (endFrame ∷ [])) in
-    let r = distinct-parts A (I ++ []) (subst (λ ns. Distinct ns) n (s .distinct)) in
-    let t = distinct-parts I [] (r .1) in
-    record {
-      sound = s .groups;
-      topInReach = λ p i. i;
-      distinct = t .0;
-      apart = λ p i. among-neither (p .number) I [] (r .2 (p .number) (point-among p (d .top .points) i)) .0;
-    }
+-- The points of sound groups have sizes of their types,
+lower-sized : (top enclosing : List Point) (level : ℕ) (g : Groups) → SoundGroups top enclosing level g
+    → Each (λ p. isSizeOf (p .typeCode) (p .size) ≡ true) (lowerPoints g)
+lower-sized top enclosing level noGroup s = tt
+lower-sized top enclosing level (group h ps inside behind) s =
+    let S : Point → Type 0 = λ p. isSizeOf (p .typeCode) (p .size) ≡ true in
+    each-append S ps (lowerPoints inside ++ lowerPoints behind) (points-sized (ps ++ enclosing) ps (s .2))
+    (each-append S (lowerPoints inside) (lowerPoints behind) (lower-sized top (ps ++ enclosing) (suc level) inside (s .3))
+    (lower-sized top enclosing level behind (s .4)))
 
--- A scale factor is no pad, so it is none that is left out.
-not-last : (q : Point) (ps : List Point) → endsWithPad ps ≡ true → q .typeCode ≡ sunssf → In q ps → In q (allButLast ps)
-unfolding endsWithPad allButLast
-not-last q (p ∷ []) e t first = let z = eqb-true (q .typeCode) pad e in absurd (omega (arith, z, t))
-not-last q (p ∷ r ∷ ps) e t first = first
-not-last q (p ∷ r ∷ ps) e t (later i) = later (not-last q (r ∷ ps) e t i)
-
--- So the scale factors of the points that are left resolve among these.
-resolves-left : (ps qs : List Point) → endsWithPad ps ≡ true → Each (ScaleResolves ps) qs
-    → Each (ScaleResolves (allButLast ps)) qs
-resolves-left ps [] e r = tt
-resolves-left ps (q ∷ qs) e r =
-    (λ k. let f = r .0 k in (f .0, not-last (f .0) ps e (f .3) (f .1), f .2, f .3), resolves-left ps qs e (r .1))
+-- and so those of a sound definition.
+all-sized : (d : Definition) → SoundDefinition d → Each (λ p. isSizeOf (p .typeCode) (p .size) ≡ true) (definedPoints d)
+all-sized d s =
+    each-append (λ p. isSizeOf (p .typeCode) (p .size) ≡ true) (d .top .points) (lowerPoints (d .top .groups))
+    (points-sized (d .top .points) (d .top .points) (s .points))
+    (lower-sized (d .top .points) (d .top .points) 2 (d .top .groups) (s .groups))
 
 -- ---- One model
 
 module _ (d : Definition) (sound : SoundDefinition d) (body : List ℕ) (ps : List ModelPoint)
     (read : readBy (d .id) (d .top) body ≡ points ps)
-    (w : ModelPoint) (there : In w ps) (places : Each (Place (d .top) w) ps) (raw : ℕ)
-    (inside : w .offset + w .definition .size ≤ length body)
+    (w : ModelPoint) (there : In w ps) (raw : ℕ)
     (writable : w .definition .access ≡ readOnly → ⊥) (small : w .definition .size ≤ 4)
     (given : isUnimplemented (classified (w .definition .typeCode) (w .raw)) ≡ false)
     (holds : canHold (w .definition) raw ≡ true) where
@@ -86,9 +73,7 @@ module _ (d : Definition) (sound : SoundDefinition d) (body : List ℕ) (ps : Li
 
   -- The point written is by one of the definition.
   known : In (w .definition) (definedPoints d)
-  known =
-      let P : Point → Type 0 = λ q. In q (definedPoints d) in
-      of-one (λ p. P (p .definition)) w ps there (listed-by P body d (all-in (definedPoints d)) (d .id) ps read)
+  known = point-defined d sound body ps read w there
 
   -- What is known of the write.
   write : Write (definedPoints d) w raw body
@@ -96,10 +81,10 @@ module _ (d : Definition) (sound : SoundDefinition d) (body : List ℕ) (ps : Li
       record {
         onePoint = one-point d sound;
         known = known;
-        sized = of-one (λ p. isSizeOf (p .typeCode) (p .size) ≡ true) (w .definition) (definedPoints d) known
-            (all-sized d sound);
+        sized = each-one (λ p. isSizeOf (p .typeCode) (p .size) ≡ true) (definedPoints d) (all-sized d sound) (w .definition)
+            known;
         small = small;
-        inside = inside;
+        inside = point-inside d sound body ps read w there;
         given = given;
         holds = holds;
       }
@@ -112,10 +97,15 @@ module _ (d : Definition) (sound : SoundDefinition d) (body : List ℕ) (ps : Li
   same-length : length new ≡ length body
   same-length = length-sets body (w .offset) (split (w .definition .size) raw)
 
-  -- The points of a model whose last pad is left out.
-  left-after : padLeftOut (d .id) (d .top) (length body) ≡ true → pointsLeft (d .id) (d .top) body ≡ ps
-      → Pairwise (PointAfter (d .top) w raw) ps (pointsLeft (d .id) (d .top) new)
-  left-after t e =
+  -- Points that lie apart from the one written have become what the write makes of them, and are read.
+  abbrev After : List ModelPoint → Type 0
+  After qs =
+      Each (Place (d .top) w) qs
+      → (rs : List ModelPoint) × (readBy (d .id) (d .top) new ≡ points rs) × Pairwise (PointAfter (d .top) w raw) qs rs
+
+  -- Those of a model whose last pad is left out.
+  left-after : padLeftOut (d .id) (d .top) (length body) ≡ true → After (pointsLeft (d .id) (d .top) body)
+  left-after t places =
       let tops = d .top .points in
       let L = allButLast tops in
       let S = topScope L body in
@@ -123,21 +113,22 @@ module _ (d : Definition) (sound : SoundDefinition d) (body : List ℕ) (ps : Li
       let each = each-but-last (SoundPoint tops) tops (sound .points) in
       let resolve = resolves-left tops L (left-out (d .id) (d .top) (length body) t .1)
       (each-but-last (ScaleResolves tops) tops (points-resolve tops tops (sound .points))) in
-      let reach : (p : Point) → In p L → In p (definedPoints d) = λ p i.
-      topKnown p (of-one (λ q. In q tops) p L i (each-but-last (λ q. In q tops) tops (all-in tops))) in
-      let placed = subst (λ qs. Each (Place (d .top) w) qs) (sym e) places in
       let scopes =
-      after.own-becomes (d .top) w raw body (definedPoints d) write noInstance S 0 tops L each placed nothing nothing in
-      subst (λ qs. Pairwise (PointAfter (d .top) w raw) qs (pointsLeft (d .id) (d .top) new)) e
-      (after.points-after (d .top) w raw body (definedPoints d) write noInstance 0 tops L L each resolve reach S S′ scopes placed)
+      after.own-becomes (d .top) w raw body (definedPoints d) write noInstance S 0 tops L each places nothing nothing in (
+        pointsLeft (d .id) (d .top) new,
+        read-left (d .id) (d .top) new (ap (λ (n : ℕ). padLeftOut (d .id) (d .top) n) same-length ∙ t),
+        after.points-after (d .top) w raw body (definedPoints d) write noInstance 0 tops L L each resolve
+            (λ p i. topKnown p (in-but-last p tops i)) S S′ scopes places,
+      )
 
   -- In a model that is read in full, by the places of its top points and of those of its groups.
   module _ (ownPlaces : Each (Place (d .top) w)
       (pointsAt body (topScope (d .top .points) body) noInstance 0 (d .top .points))) where
-    -- The scope of its top group before the write, and behind it.
+    -- The scope of its top group before the write,
     abbrev old : Scope
     old = topScope (d .top .points) body
 
+    -- and behind it.
     abbrev now : Scope
     now = topScope (d .top .points) new
 
@@ -159,11 +150,10 @@ module _ (d : Definition) (sound : SoundDefinition d) (body : List ℕ) (ps : Li
         absurd (writable (sym (ap (λ (x : Point). x .access) same) ∙ a))))
 
     -- It is read in full again.
-    full-again : InFull (d .id) (d .top) body → InFull (d .id) (d .top) new
+    full-again : Full (d .top) body → Full (d .top) new
     full-again f =
         record {
-          padded = ap (λ (n : ℕ). padLeftOut (d .id) (d .top) n) same-length ∙ f .padded;
-          room = ap (λ (n : ℕ). ltb n (pointsSize (d .top .points))) same-length ∙ f .room;
+          room = omega (arith, same-length, f .room);
           counted = counts.same-unimplemented (d .top) (sound .groups) body new same-length read-only-stay ∙ f .counted;
           fitting = counts.same-fit (d .top) (sound .groups) body new same-length read-only-stay ∙ f .fitting;
         }
@@ -194,29 +184,23 @@ module _ (d : Definition) (sound : SoundDefinition d) (body : List ℕ) (ps : Li
         (pointsSize tops) g below (omega arith) (λ _. omega arith) shallow topKnown
         (λ p i. in-behind p tops (lowerPoints g) i) old now scopes lowerPlaces))
 
+  -- Those of a model that is read in full.
+  full-after : padLeftOut (d .id) (d .top) (length body) ≡ false → Full (d .top) body → After (contentAt (d .top) body)
+  unfolding contentAt
+  full-after kept f places =
+      let S = topScope (d .top .points) body in
+      let ownPoints = pointsAt body S noInstance 0 (d .top .points) in
+      let lower = groupsAt body (countsOf (d .top) body) 2 S noInstance (pointsSize (d .top .points)) (d .top .groups) in
+      let parts = each-parts (Place (d .top) w) ownPoints lower places in (
+        contentAt (d .top) new,
+        read-full (d .id) (d .top) new (ap (λ (n : ℕ). padLeftOut (d .id) (d .top) n) same-length ∙ kept)
+            (full-again (parts .0) f),
+        content-after (parts .0) (parts .1),
+      )
+
   -- The model is read again, and each of its points has become what the write makes of it.
   pub model-after : (qs : List ModelPoint)
       × (readBy (d .id) (d .top) (sets body (w .offset) (split (w .definition .size) raw)) ≡ points qs)
       × Pairwise (PointAfter (d .top) w raw) ps qs
-  unfolding contentAt
-  model-after = go (how-read (d .id) (d .top) body ps read)
-    where
-      go : ((padLeftOut (d .id) (d .top) (length body) ≡ true) × (pointsLeft (d .id) (d .top) body ≡ ps))
-          ⊎ (InFull (d .id) (d .top) body × (contentAt (d .top) body ≡ ps))
-          → (qs : List ModelPoint) × (readBy (d .id) (d .top) new ≡ points qs) × Pairwise (PointAfter (d .top) w raw) ps qs
-      go (inl l) =
-          let t : padLeftOut (d .id) (d .top) (length new) ≡ true =
-          ap (λ (n : ℕ). padLeftOut (d .id) (d .top) n) same-length ∙ l .0 in
-          (pointsLeft (d .id) (d .top) new, read-left (d .id) (d .top) new t, left-after (l .0) (l .1))
-      go (inr f) =
-          let S = topScope (d .top .points) body in
-          let ownPoints = pointsAt body S noInstance 0 (d .top .points) in
-          let lower = groupsAt body (countsOf (d .top) body) 2 S noInstance (pointsSize (d .top .points)) (d .top .groups) in
-          let placed : Each (Place (d .top) w) (ownPoints ++ lower) =
-          subst (λ qs. Each (Place (d .top) w) qs) (sym (f .1)) places in
-          let parts = each-parts (Place (d .top) w) ownPoints lower placed in (
-            contentAt (d .top) new,
-            read-full (d .id) (d .top) new (full-again (parts .0) (f .0)),
-            subst (λ qs. Pairwise (PointAfter (d .top) w raw) qs (contentAt (d .top) new)) (f .1)
-                (content-after (parts .0) (parts .1)),
-          )
+  model-after =
+      by-reading (d .id) (d .top) body After left-after full-after ps read (point-places d sound body ps read w there)

@@ -5,33 +5,27 @@ use mathlib.Core.List.{List, [], _∷_, _++_, append-assoc}
 use mathlib.Core.Option.{none}
 use Prim.Native.Nat.{ℕ, _+_, _≤_}
 use native.Mathlib.Omega.{arith}
-use lib.ListN.{length, take, drop, length-append, length-drop}
-use lib.Seq.{sets, length-sets, take-append-le, drop-append-le, drop-append-add}
-use Rattle.values.specs.Each.{Each}
+use lib.ListN.{length, take, drop, length-append}
+use lib.Seq.{sets, length-sets, drop-append-add}
 use Rattle.register_map.specs.Headers.{beginsWithSunS, opening}
 use Rattle.register_map.specs.Scan.{Model, totalSize, marked, scan, modelRegisters, WellFormed, BeginsWith1}
 use Rattle.register_map.proofs.HeaderLaws.{opening-none, opening-with-SunS}
 use Rattle.register_map.proofs.ScanBack.{length-registers, scan-whole-back}
 use Rattle.register_map.proofs.MadeOfModels.{MadeOf}
-use Rattle.writing.proofs.StoredRegisters.{sets-behind, sets-within}
-
--- The registers of models behind others.
-registers-append : (ms ns : List Model) → modelRegisters (ms ++ ns) ≡ modelRegisters ms ++ modelRegisters ns
-unfolding modelRegisters
-registers-append [] ns = refl
-registers-append (m ∷ ms) ns =
-    ap {B = List ℕ} (λ l. m .id ∷ length (m .body) ∷ l)
-    (ap (λ l. m .body ++ l) (registers-append ms ns) ∙ sym (append-assoc (m .body) (modelRegisters ms) (modelRegisters ns)))
+use Rattle.register_map.proofs.Lengthened.{registers-append}
+use Rattle.writing.proofs.ListLaws.{each-replaced}
+use Rattle.writing.proofs.StoredRegisters.{part-of-first, sets-behind, sets-within}
 
 -- A model with registers stored in its body from an offset on.
 abbrev pub storedIn : Model → ℕ → List ℕ → Model
 storedIn m offset vs = record { id = m .id; body = sets (m .body) offset vs }
 
 module _ (a b : ℕ) (front : List Model) (behind : List Model) (tail : List ℕ) where
-  -- A map up to a model's body, and behind it.
+  -- A map up to a model's body,
   abbrev before : Model → List ℕ
   before m = a ∷ b ∷ (modelRegisters front ++ m .id ∷ length (m .body) ∷ [])
 
+  -- and behind it.
   abbrev after : List ℕ
   after = modelRegisters behind ++ tail
 
@@ -62,22 +56,16 @@ module _ (a b : ℕ) (front : List Model) (behind : List Model) (tail : List ℕ
       ∙ ap (λ l. l ++ (sets (m .body) offset vs ++ after)) same
       ∙ sym (around-body (storedIn m offset vs))
 
--- What holds of each of a list, one of them replaced.
-each-replaced : {A : Type 0} (P : A → Type 0) (front behind : List A) (x y : A) → (P x → P y) → Each P (front ++ x ∷ behind)
-    → Each P (front ++ y ∷ behind)
-each-replaced P [] behind x y f e = (f (e .0), e .1)
-each-replaced P (z ∷ front) behind x y f e = (e .0, each-replaced P front behind x y f (e .1))
-
 -- The first model keeps its id.
 begins-replaced : (front behind : List Model) (m n : Model) → n .id ≡ m .id → BeginsWith1 true (front ++ m ∷ behind)
     → BeginsWith1 true (front ++ n ∷ behind)
 begins-replaced [] behind m n e b = e ∙ b
 begins-replaced (f ∷ front) behind m n e b = b
 
--- Registers of a model's body are registers of the map.
 module _ (map : List ℕ) (front : List Model) (m : Model) (behind : List Model) (made : MadeOf map (front ++ m ∷ behind))
     (offset size : ℕ) (inside : offset + size ≤ length (m .body))
     (at : ℕ) (place : at ≡ 2 + totalSize front + 2 + offset) where
+  -- Registers of a model's body lie in the map,
   pub inside-map : at + size ≤ length map
   inside-map =
       let a = made .register0 in
@@ -88,6 +76,7 @@ module _ (map : List ℕ) (front : List Model) (m : Model) (behind : List Model)
       let k = length-append (m .body) (after a b front behind tail) in
       omega (arith, before-length a b front behind tail m)
 
+  -- and are the same there.
   pub registers-in-map : take size (drop at map) ≡ take size (drop offset (m .body))
   registers-in-map =
       let a = made .register0 in
@@ -99,8 +88,7 @@ module _ (map : List ℕ) (front : List Model) (m : Model) (behind : List Model)
       ap (λ k. take size (drop k map)) here
       ∙ ap (λ l. take size (drop (length front′ + offset) l)) (made .shape ∙ around-body a b front behind tail m)
       ∙ ap (λ l. take size l) (drop-append-add front′ (m .body ++ rest) offset)
-      ∙ ap (λ l. take size l) (drop-append-le offset (m .body) rest (omega arith))
-      ∙ take-append-le size (drop offset (m .body)) rest (omega (arith, length-drop offset (m .body)))
+      ∙ part-of-first (m .body) rest offset size inside
 
 module _ (map : List ℕ) (front : List Model) (m : Model) (behind : List Model) (made : MadeOf map (front ++ m ∷ behind))
     (offset : ℕ) (vs : List ℕ) (inside : offset + length vs ≤ length (m .body))

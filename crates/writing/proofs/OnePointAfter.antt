@@ -2,7 +2,7 @@
 use mathlib.Core.Path.{_≡_, refl, sym, ap, subst, _∙_}
 use mathlib.Core.Bool.{Bool, true, false, not, _&&_}
 use mathlib.Core.List.{List}
-use mathlib.Core.Logic.{_⊎_}
+use mathlib.Core.Logic.{_⊎_, inl, inr, ⊎-elim}
 use Prim.Native.Nat.{ℕ, _+_, _≤_}
 use native.Mathlib.Omega.{arith}
 use borrow.Author.Tests.{eqb-true, eqb-false, eq-eqb, not-true}
@@ -19,45 +19,19 @@ use Rattle.catalog.specs.Rules.{isSizeOf}
 use Rattle.catalog.specs.Definitions.{Content}
 use Rattle.catalog.specs.Soundness.{In, SoundPoint, ScaleResolves}
 use Rattle.listing.specs.Points.{ModelPoint, Scope, statusOf, scaleOf, registersAt, pointAt}
+use Rattle.listing.proofs.ReachOnly.{same-status, same-scale, shownAs, shown-same}
 use Rattle.writing.specs.Writing.{isUnimplemented, canHold}
 use Rattle.writing.specs.AfterWriting.{depthIn, agreeTo, pathOf, Holds, rescaled, PointAfter}
 use Rattle.writing.proofs.Places.{Place}
-use Rattle.writing.proofs.WrittenRegisters.{split-length, join-split, one-register, registers-set, registers-stay, register-stays, register-set}
-use Rattle.writing.proofs.Depths.{levels, agree-itself, fails}
+use Rattle.writing.proofs.StoredRegisters.{split-length, join-split, one-register}
+use Rattle.writing.proofs.StoredRegisters.{stored-outside, run-stored, first-stored, part-stays}
+use Rattle.writing.proofs.Depths.{levels, agree-itself}
 use Rattle.writing.proofs.ValueStatus as status
 
--- A point by the raw number that it is classified by, the one that it shows, and the register of its scale point.
-abbrev shownAs : List ℕ → ℕ → Point → ℕ → ℕ → ℕ → ModelPoint
-shownAs path offset p whole raw register =
-    let status = statusOf p (classified (p .typeCode) whole) register in
-    record {
-      offset = offset;
-      definition = p;
-      level2 = getD path 0 0;
-      level3 = getD path 1 0;
-      level4 = getD path 2 0;
-      status = status;
-      raw = raw;
-      scale = scaleOf p status register;
-    }
-
--- The register of the scale point matters only to a point that has one.
-shown-same : (path : List ℕ) (offset : ℕ) (p : Point) (whole raw r s : ℕ) → (p .scaleKind ≡ scaleByPoint → r ≡ s)
-    → shownAs path offset p whole raw r ≡ shownAs path offset p whole raw s
-shown-same path offset p whole raw r s same =
-    let c = classified (p .typeCode) whole in
-    let show : ℕ → ℕ → ModelPoint = λ status scale. record {
-      offset = offset;
-      definition = p;
-      level2 = getD path 0 0;
-      level3 = getD path 1 0;
-      level4 = getD path 2 0;
-      status = status;
-      raw = raw;
-      scale = scale;
-    } in
-    ap (λ x. show x (scaleOf p x r)) (status.same-status p r s same c)
-    ∙ ap (show (statusOf p c s)) (status.same-scale p r s same (statusOf p c s))
+-- A test fails that leads to a contradiction.
+pub fails : (b : Bool) → (b ≡ true → true ≡ false) → b ≡ false
+fails true f = f refl
+fails false f = refl
 
 -- What is known of a write of a raw number to the point w of a body, by a definition with these points.
 pub record Write (defined : List Point) (w : ModelPoint) (raw : ℕ) (body : List ℕ) : Type 0 where
@@ -74,10 +48,11 @@ module _ (top : Content) (w : ModelPoint) (raw : ℕ) (body : List ℕ) where
   abbrev pub depth : ℕ
   depth = depthIn (w .definition .number) (top .groups)
 
-  -- The registers written, and the body with them.
+  -- The registers written,
   abbrev values : List ℕ
   values = split (w .definition .size) raw
 
+  -- and the body with them.
   abbrev pub new : List ℕ
   new = sets body (w .offset) values
 
@@ -89,11 +64,12 @@ module _ (top : Content) (w : ModelPoint) (raw : ℕ) (body : List ℕ) where
   abbrev pub becomes : List ℕ → ℕ → ℕ → ℕ
   becomes path number register = elim (isWritten path number) [ true ↦ getD new (w .offset) 0 | false ↦ register ]
 
-  -- That of the point written, and that of another.
-  pub becomes-written : (path : List ℕ) (number register : ℕ) → isWritten path number ≡ true
+  -- That of the point written,
+  becomes-written : (path : List ℕ) (number register : ℕ) → isWritten path number ≡ true
       → becomes path number register ≡ getD new (w .offset) 0
   becomes-written path number register e = ap (λ b. elim b [ true ↦ getD new (w .offset) 0 | false ↦ register ]) e
 
+  -- and that of another.
   pub becomes-other : (path : List ℕ) (number register : ℕ) → isWritten path number ≡ false
       → becomes path number register ≡ register
   becomes-other path number register e = ap (λ b. elim b [ true ↦ getD new (w .offset) 0 | false ↦ register ]) e
@@ -136,7 +112,7 @@ module _ (top : Content) (w : ModelPoint) (raw : ℕ) (body : List ℕ) where
               let t : isWritten path (p .number) ≡ false = fails (isWritten path (p .number)) (λ h.
               let b = both (eqb (p .number) (w .definition .number)) (agreeTo depth (pathOf w) (levels path)) h in
               absurd (other (place .found (eqb-true (p .number) (w .definition .number) (b .0)) (b .1)))) in
-              register-stays body (w .offset) values fitting a (p .size) some (away other)
+              stored-outside body (w .offset) values a 0 (⊎-elim (λ b. inl (omega arith)) (λ b. inr b) (away other))
               ∙ sym (becomes-other path (p .number) (getD body a 0) t)
 
     module _ (s t : Scope) (path : List ℕ) (a : ℕ) (around reach : List Point) (p : Point) (sound : SoundPoint around p)
@@ -169,7 +145,7 @@ module _ (top : Content) (w : ModelPoint) (raw : ℕ) (body : List ℕ) where
           let one : w .definition .size ≡ 1 = status.scale-factor-size (w .definition .size) (rw code at (x .sized)) in
           scale-register k
           ∙ becomes-written path (p .scale) (s (p .scale)) e
-          ∙ register-set body (w .offset) values fitting (omega (arith, count, one))
+          ∙ first-stored body (w .offset) values fitting 0 (omega (arith, count, one))
           ∙ ap (λ (n : ℕ). getD (split n raw) 0 0) one
           ∙ one-register raw (rw one at narrow)
 
@@ -179,10 +155,11 @@ module _ (top : Content) (w : ModelPoint) (raw : ℕ) (body : List ℕ) where
 
       -- The point at its place.
       module _ (place : Place top w (pointAt body s path a p)) where
-        -- The point as it was, and as it is.
+        -- The point as it was,
         abbrev old : ModelPoint
         old = pointAt body s path a p
 
+        -- and as it is.
         abbrev after : ModelPoint
         after = pointAt new t path a p
 
@@ -192,7 +169,7 @@ module _ (top : Content) (w : ModelPoint) (raw : ℕ) (body : List ℕ) where
         unfolding pointAt
         elsewhere other register same =
             ap (λ (rs : List ℕ). shownAs path a p (join rs) (shownRaw rs) (t (p .scale)))
-            (registers-stay body (w .offset) values fitting a (p .size) (away s path a p place other))
+            (part-stays body (w .offset) values fitting a (p .size) (away s path a p place other))
             ∙ shown-same path a p (join (registersAt body a p)) (shownRaw (registersAt body a p)) (t (p .scale)) register same
 
         -- A point whose scale factor has been written.
@@ -222,7 +199,7 @@ module _ (top : Content) (w : ModelPoint) (raw : ℕ) (body : List ℕ) where
             let size : p .size ≡ length values = ap (λ (x : Point). x .size) (same-point here) ∙ sym count in
             ap (λ (n : ℕ). take n (drop a new)) size
             ∙ ap (λ (i : ℕ). take (length values) (drop i new)) here
-            ∙ registers-set body (w .offset) values fitting
+            ∙ run-stored body (w .offset) values fitting
 
         -- It is not its own scale factor.
         own-factor : a ≡ w .offset → p .scaleKind ≡ scaleByPoint → t (p .scale) ≡ s (p .scale)
@@ -268,7 +245,7 @@ module _ (top : Content) (w : ModelPoint) (raw : ℕ) (body : List ℕ) where
             let grade = subst (λ (x : ℕ). status.OfValue x) (sym now) (status.value-status p r′) in
             let kept : (old .status ≡ 5 → ⊥) → after .status ≡ old .status = λ f.
             let was = status.was-value p (classified (p .typeCode) (join (registersAt body a p))) r (was-given here) f in
-            now ∙ status.same-status p r′ r (own-factor here) (ofClass value) ∙ sym (ap (λ c. statusOf p c r) was) in
+            now ∙ same-status p r′ r (own-factor here) (ofClass value) ∙ sym (ap (λ c. statusOf p c r) was) in
             record {
               offset = refl;
               definition = refl;
@@ -281,7 +258,7 @@ module _ (top : Content) (w : ModelPoint) (raw : ℕ) (body : List ℕ) where
               inRange = grade .inRange;
               sameStatus = kept;
               sameScale = λ f.
-                  ap (λ (x : ℕ). scaleOf p x r′) (kept f) ∙ status.same-scale p r′ r (own-factor here) (old .status);
+                  ap (λ (x : ℕ). scaleOf p x r′) (kept f) ∙ same-scale p r′ r (own-factor here) (old .status);
             }
 
         -- What becomes of the point.

@@ -1,7 +1,8 @@
--- What a write makes of each record of a map, position by position: which change, and how.
+-- What an accepted write makes of every record of a map: the point written holds the raw value, the points that it scales have
+-- the status and scale that it gives, and all others stay as they are.
 use mathlib.Core.Path.{_≡_, refl, sym, ap, subst, _∙_}
 use mathlib.Core.Bool.{Bool, true, false}
-use mathlib.Core.List.{List, [], _∷_, _++_}
+use mathlib.Core.List.{List, _∷_, _++_}
 use mathlib.Core.Option.{some}
 use Prim.Native.Nat.{ℕ, _+_}
 use native.Mathlib.Omega.{arith}
@@ -9,20 +10,45 @@ use borrow.Author.Tests.{eqb-true, eqb-false}
 use lib.Dec.{eqb}
 use lib.ListN.{length, take}
 use lib.Seq.{take-at}
-use Rattle.catalog.specs.Definitions.{Content, definitions}
-use Rattle.catalog.specs.Soundness.{In, first, later}
+use Rattle.catalog.specs.Definitions.{Content, Definition, definitions}
+use Rattle.catalog.specs.Soundness.{In}
 use Rattle.register_map.specs.Scan.{totalSize, scan}
 use Rattle.listing.specs.Reading.{topOf}
 use Rattle.listing.specs.Listing.{Record, listed, allRecords}
+use Rattle.listing.specs.Finding.{isRecord, firstWith}
+use Rattle.writing.specs.Writing.{written, writing}
 use Rattle.writing.specs.AfterWriting.{isScaleFactorOf, Holds, rescaled, RecordAfter, Pairwise}
-use Rattle.writing.proofs.PairwiseLaws.{pairwise-at}
+use Rattle.listing.proofs.FirstFound.{found-in}
+use Rattle.writing.proofs.PairwiseLaws.{pairwise-at, pairwise-implied}
 use Rattle.writing.proofs.AfterCases.{after-elsewhere, after-here, after-scaled, after-unscaled}
 use Rattle.writing.proofs.RecordSources.{record-source}
+use Rattle.writing.proofs.ReadBack.{read-back}
 
--- One in the middle of a list is one of it.
-in-middle : {A : Type 0} (front : List A) (x : A) (back : List A) → In x (front ++ x ∷ back)
-in-middle [] x back = first
-in-middle (f ∷ front) x back = later (in-middle front x back)
+-- A record r has become s by writing a raw value to the point of the record w, in a model with this top group. It keeps its
+-- index, id and address. One of another model is unchanged. One of the same model that is not w, by its address, is unchanged
+-- where w is not its scale factor; where w is, only its status and scale change. And w itself holds the raw value.
+pub record Change (top : Content) (w : Record) (raw : ℕ) (r s : Record) : Type 0 where
+  pub index : s .index ≡ r .index
+  pub id : s .id ≡ r .id
+  pub address : s .address ≡ r .address
+  pub elsewhere : (r .index ≡ w .index → ⊥) → s ≡ r
+  pub unscaled : (r .address ≡ w .address → ⊥) → isScaleFactorOf top (w .point) (r .point) ≡ false → s ≡ r
+  pub scaled : r .index ≡ w .index → (r .address ≡ w .address → ⊥) → isScaleFactorOf top (w .point) (r .point) ≡ true
+      → s ≡ record { index = r .index; id = r .id; address = r .address; point = rescaled raw (r .point) }
+  pub holds : r .index ≡ w .index → r .address ≡ w .address → Holds raw (r .point) (s .point)
+
+-- What an accepted write makes of the records: as many as before, in the same order, each changed so by the point that was found.
+pub record OtherRecords (catalog map : List ℕ) (index number : ℕ) (path : List ℕ) (raw : ℕ) (new : List ℕ) : Type 0 where
+  pub before : List Record
+  pub after : List Record
+  pub headers : ℕ
+  pub allBefore : allRecords catalog map ≡ listed before headers
+  pub allAfter : allRecords catalog new ≡ listed after headers
+  pub point : Record
+  pub found : firstWith (isRecord index number path) before ≡ some point
+  pub top : Content
+  pub known : topOf (point .id) (definitions catalog) ≡ some top
+  pub changes : Pairwise (Change top point raw) before after
 
 module _ (catalog map : List ℕ) (rs : List Record) (headers : ℕ) (all : allRecords catalog map ≡ listed rs headers) where
   -- A record's address, by its index and its offset.
@@ -33,69 +59,88 @@ module _ (catalog map : List ℕ) (rs : List Record) (headers : ℕ) (all : allR
       ap (take (r .index)) (o .stands) ∙ take-at (o .front) (o .own ∷ o .behind) (r .index) (sym (o .index)) in
       o .address ∙ ap (λ ms. 2 + totalSize ms + 2 + r .point .offset) (sym front)
 
-  -- Of two records of one model, the addresses are the same just where the offsets are.
-  same-offset : (r w : Record) → In r rs → In w rs → r .index ≡ w .index → r .address ≡ w .address
-      → r .point .offset ≡ w .point .offset
-  same-offset r w i j same e =
-      let sizes = ap (λ k. totalSize (take k (scan map .models))) same in
-      omega (arith, address-of r i, address-of w j)
-
-  same-address : (r w : Record) → In r rs → In w rs → r .index ≡ w .index → r .point .offset ≡ w .point .offset
-      → r .address ≡ w .address
-  same-address r w i j same e =
-      let sizes = ap (λ k. totalSize (take k (scan map .models))) same in
-      omega (arith, address-of r i, address-of w j)
-
   -- A record's model has a definition.
-  pub top-of : (r : Record) → In r rs → (top : Content) × (topOf (r .id) (definitions catalog) ≡ some top)
+  top-of : (r : Record) → In r rs → (top : Content) × (topOf (r .id) (definitions catalog) ≡ some top)
   top-of r i =
       let o = record-source catalog map rs headers all r i in
       (o .by .definition .top, ap (λ id. topOf id (definitions catalog)) (o .id) ∙ o .by .known)
 
-  -- Behind a write of a raw value to the point with the record w, the records at one position of the old and the new ones.
-  module _ (w : Record) (there : In w rs) (raw : ℕ) (ss : List Record)
-      (pairs : Pairwise (RecordAfter (definitions catalog) w raw) rs ss)
-      (front : List Record) (r : Record) (back : List Record) (old : rs ≡ front ++ r ∷ back)
-      (front′ : List Record) (s : Record) (back′ : List Record) (new : ss ≡ front′ ++ s ∷ back′)
-      (level : length front ≡ length front′) where
-    -- They are what the write makes of each other.
-    pub record-after : RecordAfter (definitions catalog) w raw r s
-    record-after =
-        let R = RecordAfter (definitions catalog) w raw in
-        pairwise-at R front front′ r s back back′ level
-        (subst (λ xs. Pairwise R xs (front′ ++ s ∷ back′)) old (subst (Pairwise R rs) new pairs))
+  module _ (w : Record) (there : In w rs) (raw : ℕ) (top : Content) (known : topOf (w .id) (definitions catalog) ≡ some top) where
+    -- One record.
+    change-of : (r s : Record) → In r rs → RecordAfter (definitions catalog) w raw r s → Change top w raw r s
+    change-of r s i a =
+        record {
+          index = a .index;
+          id = a .id;
+          address = a .address;
+          elsewhere = apart;
+          unscaled = λ n f. stays (eqb (r .index) (w .index)) refl n f;
+          scaled = λ same n t.
+              let p = after-scaled ds w raw r s a same top known (λ e. n (same-address same e)) t in
+              λ k. record { index = a .index k; id = a .id k; address = a .address k; point = p k };
+          holds = λ same e. after-here ds w raw r s a same top known (same-offset same e);
+        }
+      where
+        ds : List Definition
+        ds = definitions catalog
 
-    -- The old one is one of the records.
-    here : In r rs
-    here = subst (In r) (sym old) (in-middle front r back)
+        -- Of two records of one model, the offsets are the same where the addresses are.
+        same-offset : r .index ≡ w .index → r .address ≡ w .address → r .point .offset ≡ w .point .offset
+        same-offset same e =
+            let sizes = ap (λ k. totalSize (take k (scan map .models))) same in
+            omega (arith, address-of r i, address-of w there)
 
-    -- A record of another model is unchanged.
-    pub unchanged-elsewhere : (r .index ≡ w .index → ⊥) → s ≡ r
-    unchanged-elsewhere n = after-elsewhere (definitions catalog) w raw r s record-after n
+        -- And the other way round.
+        same-address : r .index ≡ w .index → r .point .offset ≡ w .point .offset → r .address ≡ w .address
+        same-address same e =
+            let sizes = ap (λ k. totalSize (take k (scan map .models))) same in
+            omega (arith, address-of r i, address-of w there)
 
-    module _ (top : Content) (known : topOf (w .id) (definitions catalog) ≡ some top) where
-      -- So is one at another address whose scale factor is not written.
-      pub unchanged-unscaled : (r .address ≡ w .address → ⊥) → isScaleFactorOf top (w .point) (r .point) ≡ false → s ≡ r
-      unchanged-unscaled n f = go (eqb (r .index) (w .index)) refl
-        where
-          go : (b : Bool) → eqb (r .index) (w .index) ≡ b → s ≡ r
-          go true t =
-              let same = eqb-true (r .index) (w .index) t in
-              after-unscaled (definitions catalog) w raw r s record-after same top known
-              (λ e. n (same-address r w here there same e)) f
-          go false t = unchanged-elsewhere (eqb-false (r .index) (w .index) t)
+        -- A record of another model.
+        apart : (r .index ≡ w .index → ⊥) → s ≡ r
+        apart n = after-elsewhere ds w raw r s a n
 
-      module _ (same : r .index ≡ w .index) where
-        -- One of the same model whose scale factor is written has the status and scale that it gives, and all else as it was.
-        pub scaled-anew : (r .address ≡ w .address → ⊥) → isScaleFactorOf top (w .point) (r .point) ≡ true
-            → s ≡ record { index = r .index; id = r .id; address = r .address; point = rescaled raw (r .point) }
-        scaled-anew n t =
-            let p = after-scaled (definitions catalog) w raw r s record-after same top known
-            (λ e. n (same-address r w here there same e)) t in
-            let a = record-after in
-            λ k. record { index = a .index k; id = a .id k; address = a .address k; point = p k }
+        -- One whose scale factor is not written, by whether it is of the same model.
+        stays : (b : Bool) → eqb (r .index) (w .index) ≡ b → (r .address ≡ w .address → ⊥)
+            → isScaleFactorOf top (w .point) (r .point) ≡ false → s ≡ r
+        stays true t n f =
+            let same = eqb-true (r .index) (w .index) t in
+            after-unscaled ds w raw r s a same top known (λ e. n (same-address same e)) f
+        stays false t n f = apart (eqb-false (r .index) (w .index) t)
 
-        -- The one at the address written holds the raw value.
-        pub holds-written : r .address ≡ w .address → Holds raw (r .point) (s .point)
-        holds-written e =
-            after-here (definitions catalog) w raw r s record-after same top known (same-offset r w here there same e)
+    -- All records that writing has made of those of a map.
+    pub changes-of : (ss : List Record) → Pairwise (RecordAfter (definitions catalog) w raw) rs ss
+        → Pairwise (Change top w raw) rs ss
+    changes-of ss = pairwise-implied (RecordAfter (definitions catalog) w raw) (Change top w raw) rs ss change-of
+
+module _ (catalog map : List ℕ) (index number : ℕ) (path : List ℕ) (raw : ℕ) (new : List ℕ) where
+  -- Every accepted write comes to this.
+  pub other-records : writing catalog map index number path raw ≡ written new
+      → OtherRecords catalog map index number path raw new
+  other-records e =
+      let b = read-back catalog map index number path raw new e in
+      let there = found-in (isRecord index number path) (b .before) (b .point) (b .found) .0 in
+      let t = top-of catalog map (b .before) (b .headers) (b .allBefore) (b .point) there in
+      record {
+        before = b .before;
+        after = b .after;
+        headers = b .headers;
+        allBefore = b .allBefore;
+        allAfter = b .allAfter;
+        point = b .point;
+        found = b .found;
+        top = t .0;
+        known = t .1;
+        changes = changes-of catalog map (b .before) (b .headers) (b .allBefore) (b .point) there raw (t .0) (t .1) (b .after)
+            (b .pairs);
+      }
+
+  -- So with the records at any one position of the old and the new ones.
+  pub change-at : (o : OtherRecords catalog map index number path raw new)
+      → (front : List Record) (r : Record) (behind : List Record) → o .before ≡ front ++ r ∷ behind
+      → (front′ : List Record) (s : Record) (behind′ : List Record) → o .after ≡ front′ ++ s ∷ behind′
+      → length front ≡ length front′ → Change (o .top) (o .point) raw r s
+  change-at o front r behind old front′ s behind′ now level =
+      let R = Change (o .top) (o .point) raw in
+      pairwise-at R front front′ r s behind behind′ level
+      (subst (λ xs. Pairwise R xs (front′ ++ s ∷ behind′)) old (subst (Pairwise R (o .before)) now (o .changes)))

@@ -6,25 +6,14 @@ use mathlib.Core.Option.{some}
 use Prim.Native.Nat.{ℕ, zero, suc, _+_}
 use native.Mathlib.Omega.{arith}
 use lib.ListN.{length}
-use Rattle.catalog.specs.Soundness.{In, first, later}
 use Rattle.values.specs.Each.{Each}
-use Rattle.listing.proofs.EachLaws.{each-append}
+use Rattle.catalog.specs.Soundness.{In, first, later}
 use Rattle.listing.specs.Points.{ModelPoint}
 use Rattle.listing.specs.Layout.{instances}
 use Rattle.listing.specs.Finding.{firstWith}
 use Rattle.writing.specs.AfterWriting.{Pairwise}
-use Rattle.writing.proofs.FirstFound.{not-none, found-here, found-behind}
-
-module _ {A : Type 0} (P : A → Type 0) where
-  -- What holds of each of two lists, one behind the other, holds of each of both.
-  pub each-parts : (xs ys : List A) → Each P (xs ++ ys) → Each P xs × Each P ys
-  each-parts [] ys e = (tt, e)
-  each-parts (x ∷ xs) ys e = let r = each-parts xs ys (e .1) in ((e .0, r .0), r .1)
-
-  -- What holds of each holds of one.
-  pub of-one : (x : A) (xs : List A) → In x xs → Each P xs → P x
-  of-one x (y ∷ xs) first e = e .0
-  of-one x (y ∷ xs) (later i) e = of-one x xs i (e .1)
+use Rattle.listing.proofs.EachLaws.{each-parts}
+use Rattle.listing.proofs.FirstFound.{not-none, found-here, found-behind}
 
 module _ {A : Type 0} (R : A → A → Type 0) where
   -- Pairs behind pairs.
@@ -73,7 +62,15 @@ module _ {A : Type 0} (R : A → A → Type 0) where
           let r = rest (sym (found-behind test x xs t) ∙ e) in
           (r .0, found-behind test y ys (same x y (p .0) ∙ t) ∙ r .1, r .2)
 
--- Pairs of points as pairs of what they are made into.
+  -- What follows of each pair.
+  pub pairwise-implied : (Q : A → A → Type 0) (xs ys : List A) → ((x y : A) → In x xs → R x y → Q x y) → Pairwise R xs ys
+      → Pairwise Q xs ys
+  pairwise-implied Q [] [] f p = tt
+  pairwise-implied Q [] (y ∷ ys) f p = absurd p
+  pairwise-implied Q (x ∷ xs) [] f p = absurd p
+  pairwise-implied Q (x ∷ xs) (y ∷ ys) f p = (f x y first (p .0), pairwise-implied Q xs ys (λ u v i. f u v (later i)) (p .1))
+
+-- Pairs of what is made of pairs.
 pub pairwise-map : {A B : Type 0} (R : A → A → Type 0) (Q : B → B → Type 0) (f g : A → B)
     → ((x y : A) → R x y → Q (f x) (g y)) → (xs ys : List A) → Pairwise R xs ys → Pairwise Q (map f xs) (map g ys)
 pairwise-map R Q f g h [] [] p = tt
@@ -93,12 +90,3 @@ module _ (P : ModelPoint → Type 0) (R : ModelPoint → ModelPoint → Type 0) 
       pairwise-append R (one j offset) (other j offset) (instances n (suc j) (offset + size) size one)
       (instances n (suc j) (offset + size) size other) (each j offset (s .0))
       (pairwise-instances n (suc j) (offset + size) size (s .1))
-
-module _ (P : ModelPoint → Type 0) (one : ℕ → ℕ → List ModelPoint) (each : (j at : ℕ) → Each P (one j at)) where
-  -- What holds of each point of every instance holds of each point of the instances.
-  pub each-instance : (n j offset size : ℕ) → Each P (instances n j offset size one)
-  unfolding instances
-  each-instance zero j offset size = tt
-  each-instance (suc n) j offset size =
-      each-append P (one j offset) (instances n (suc j) (offset + size) size one) (each j offset)
-      (each-instance n (suc j) (offset + size) size)

@@ -2,7 +2,7 @@
 use mathlib.Core.Path.{_≡_}
 use mathlib.Core.Bool.{true}
 use mathlib.Core.Logic.{_⊎_}
-use Prim.Native.Nat.{ℕ, _+_, _≤_}
+use Prim.Native.Nat.{_+_, _≤_}
 use Rattle.catalog.specs.Definitions.{Content}
 use Rattle.listing.specs.Points.{ModelPoint}
 use Rattle.writing.specs.AfterWriting.{depthIn, agreeTo, pathOf}

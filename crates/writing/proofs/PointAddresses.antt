@@ -1,27 +1,30 @@
 -- Where a point of a model begins: by its number, and by those instance numbers of its path that lead to it.
 use mathlib.Core.Path.{_≡_, refl, sym, ap, subst, _∙_}
 use mathlib.Core.Bool.{Bool, true, false}
-use mathlib.Core.List.{List, [], _∷_, _++_}
+use mathlib.Core.List.{List, [], _∷_, _++_, append-nil}
 use Prim.Native.Nat.{ℕ, zero, suc, _+_, _*_, _-_, _≤_, _<_}
 use native.Mathlib.Nat.{suc-mul}
 use native.Mathlib.Omega.{arith}
-use borrow.Author.Tests.{eqb-true, eq-eqb, ne-eqb}
+use borrow.Author.Tests.{eq-eqb, ne-eqb}
 use lib.Dec.{eqb}
 use lib.ListN.{length, getD, drop, set, length-set}
 use lib.Seq.{getD-set-same, getD-set-other, drop-cons}
 use Rattle.values.specs.Each.{Each}
-use Rattle.catalog.specs.Frames.{Point, Head, endFrame}
+use Rattle.values.specs.Registers.{shownRaw}
+use Rattle.values.proofs.TestOutcomes.{clash}
+use Rattle.catalog.specs.Frames.{Point, Head}
 use Rattle.catalog.specs.Rules.{among}
 use Rattle.catalog.specs.Definitions.{Groups, noGroup, group, pointsSize, pointFrames, groupFrames}
 use Rattle.catalog.specs.Soundness.{SoundGroups, Distinct, numbersOf, In, first, later}
-use Rattle.values.proofs.TestOutcomes.{clash, both}
-use Rattle.listing.specs.Points.{ModelPoint, Scope, pointAt}
+use Rattle.listing.specs.Points.{ModelPoint, Scope, registersAt, pointAt}
 use Rattle.listing.specs.Layout.{within, groupsSize, pointsAt, instances, groupsAt}
 use Rattle.listing.specs.Tiling.{lowerPoints}
 use Rattle.listing.proofs.EachLaws.{each-implied, each-append}
-use Rattle.listing.proofs.InLaws.{in-front, in-behind, in-either}
-use Rattle.listing.proofs.GroupNumbers.{among-neither, distinct-parts, numbers-append, point-among, none-of-parts}
+use Rattle.listing.proofs.InLaws.{in-front, in-behind}
+use Rattle.listing.proofs.GroupNumbers.{point-among, Apart, apart}
+use Rattle.listing.proofs.OnePoint.{framePoints, of-groups, number-among}
 use Rattle.writing.specs.AfterWriting.{depthIn, agreeTo, pathOf}
+use Rattle.writing.proofs.Depths.{agree-first}
 
 -- ---- The function
 
@@ -46,19 +49,6 @@ addressIn count n path (group h ps inside behind) =
 
 -- ---- It looks only at the instance numbers that lead to the point
 
--- Paths that agree in one number more begin with the same and go on alike.
-agree-first : (n : ℕ) (xs ys : List ℕ) → length xs ≡ length ys → agreeTo (suc n) xs ys ≡ true
-    → (getD xs 0 0 ≡ getD ys 0 0) × (length (drop 1 xs) ≡ length (drop 1 ys)) × (agreeTo n (drop 1 xs) (drop 1 ys) ≡ true)
-agree-first n [] [] l e = (refl, refl, agree-none n)
-  where
-    agree-none : (n : ℕ) → agreeTo n [] [] ≡ true
-    agree-none zero = refl
-    agree-none (suc n) = refl
-agree-first n [] (y ∷ ys) l e = absurd (omega (arith, l))
-agree-first n (x ∷ xs) [] l e = absurd (omega (arith, l))
-agree-first n (x ∷ xs) (y ∷ ys) l e =
-    let b = both (eqb x y) (agreeTo n xs ys) e in (eqb-true x y (b .0), omega (arith, l), b .1)
-
 -- On paths that agree so far, the address is the same.
 pub agree-address : (count : Head → ℕ) (n : ℕ) (g : Groups) (xs ys : List ℕ) → length xs ≡ length ys
     → agreeTo (depthIn n g) xs ys ≡ true → addressIn count n xs g ≡ addressIn count n ys g
@@ -71,6 +61,7 @@ agree-address count n (group h ps inside behind) xs ys l e =
     size : ℕ
     size = pointsSize ps + groupsSize count inside
 
+    -- The address by the two tests.
     Address : Bool → Bool → List ℕ → ℕ
     Address a b path =
         elim a [
@@ -98,57 +89,10 @@ agree-address count n (group h ps inside behind) xs ys l e =
 
 -- The number of a point of groups is among theirs.
 pub lower-among : (p : Point) (g : Groups) → In p (lowerPoints g) → among (p .number) (numbersOf (groupFrames g)) ≡ true
-lower-among p (group h ps inside behind) i =
-    go (among n (numbersOf (groupFrames (group h ps inside behind)))) refl (lower-among p inside) (lower-among p behind)
-  where
-    n : ℕ
-    n = p .number
-
-    go : (b : Bool) → among n (numbersOf (groupFrames (group h ps inside behind))) ≡ b
-        → (In p (lowerPoints inside) → among n (numbersOf (groupFrames inside)) ≡ true)
-        → (In p (lowerPoints behind) → among n (numbersOf (groupFrames behind)) ≡ true)
-        → b ≡ true
-    go true e f r = refl
-    go false e f r =
-        let none = none-of-parts n h ps inside behind e in
-        in-either p ps (lowerPoints inside ++ lowerPoints behind) i (λ j. clash (sym (point-among p ps j) ∙ none .ofPoints))
-        (λ j. in-either p (lowerPoints inside) (lowerPoints behind) j (λ k. clash (sym (f k) ∙ none .ofInside))
-        (λ k. clash (sym (r k) ∙ none .ofBehind)))
-
--- What is known of the numbers of points, of the groups in their group and of those behind it, where all are different.
-pub record Parts (ps : List Point) (inside behind : Groups) : Type 0 where
-  pub own : Distinct (numbersOf (pointFrames ps))
-  pub lower : Distinct (numbersOf (groupFrames inside))
-  pub next : Distinct (numbersOf (groupFrames behind))
-  pub lowerNotOwn : (n : ℕ) → among n (numbersOf (groupFrames inside)) ≡ true → among n (numbersOf (pointFrames ps)) ≡ false
-  pub nextNotOwn : (n : ℕ) → among n (numbersOf (groupFrames behind)) ≡ true → among n (numbersOf (pointFrames ps)) ≡ false
-  pub nextNotLower : (n : ℕ) → among n (numbersOf (groupFrames behind)) ≡ true
-      → among n (numbersOf (groupFrames inside)) ≡ false
-
--- Where a test excludes another, the other excludes it.
-excluded : (a b : Bool) → (a ≡ true → b ≡ false) → b ≡ true → a ≡ false
-excluded true b f e = clash (sym e ∙ f refl)
-excluded false b f e = refl
-
--- So it is where the frames of a group, behind its first one, and those of the groups behind it have different numbers.
-pub parts : (ps : List Point) (inside behind : Groups)
-    → Distinct (numbersOf (pointFrames ps ++ (groupFrames inside ++ (endFrame ∷ groupFrames behind)))) → Parts ps inside behind
-parts ps inside behind d =
-    let A = numbersOf (pointFrames ps) in
-    let I = numbersOf (groupFrames inside) in
-    let B = numbersOf (groupFrames behind) in
-    let same = numbers-append (pointFrames ps) (groupFrames inside ++ (endFrame ∷ groupFrames behind))
-    ∙ ap (λ ns. A ++ ns) (numbers-append (groupFrames inside) (endFrame ∷ groupFrames behind)) in
-    let r = distinct-parts A (I ++ B) (subst (λ ns. Distinct ns) same d) in
-    let s = distinct-parts I B (r .1) in
-    record {
-      own = r .0;
-      lower = s .0;
-      next = s .1;
-      lowerNotOwn = λ n. excluded (among n A) (among n I) (λ e. among-neither n I B (r .2 n e) .0);
-      nextNotOwn = λ n. excluded (among n A) (among n B) (λ e. among-neither n I B (r .2 n e) .1);
-      nextNotLower = λ n. excluded (among n I) (among n B) (s .2 n);
-    }
+lower-among p g i =
+    let frames : framePoints (groupFrames g) ≡ lowerPoints g =
+    ap framePoints (sym (append-nil (groupFrames g))) ∙ of-groups g [] ∙ append-nil (lowerPoints g) in
+    number-among (groupFrames g) p (subst (In p) (sym frames) i)
 
 -- ---- The points of an instance
 
@@ -162,30 +106,36 @@ path-back body scope (x ∷ y ∷ []) offset q l = absurd (omega (arith, l))
 path-back body scope (x ∷ y ∷ z ∷ []) offset q l = refl
 path-back body scope (x ∷ y ∷ z ∷ u ∷ us) offset q l = absurd (omega (arith, l))
 
+-- A point shows what its registers hold.
+abbrev pub Reads : List ℕ → ModelPoint → Type 0
+Reads body p = p .raw ≡ shownRaw (registersAt body (p .offset) (p .definition))
+
 -- A point of an instance with a path and an offset: one of these points, behind those before it.
-pub record Own (path : List ℕ) (offset : ℕ) (ps : List Point) (p : ModelPoint) : Type 0 where
+pub record Own (body path : List ℕ) (offset : ℕ) (ps : List Point) (p : ModelPoint) : Type 0 where
   pub defined : In (p .definition) ps
   pub onPath : pathOf p ≡ path
   pub addressed : p .offset ≡ offset + offsetIn (p .definition .number) ps
+  pub reads : Reads body p
 
 -- Each point of an instance.
 pub each-own : (body : List ℕ) (scope : Scope) (path : List ℕ) (offset : ℕ) (ps : List Point) → length path ≡ 3
-    → Distinct (numbersOf (pointFrames ps)) → Each (Own path offset ps) (pointsAt body scope path offset ps)
+    → Distinct (numbersOf (pointFrames ps)) → Each (Own body path offset ps) (pointsAt body scope path offset ps)
 unfolding pointsAt pointAt offsetIn
 each-own body scope path offset [] l d = tt
 each-own body scope path offset (q ∷ qs) l d =
-    let here : Own path offset (q ∷ qs) (pointAt body scope path offset q) = record {
+    let here : Own body path offset (q ∷ qs) (pointAt body scope path offset q) = record {
       defined = first;
       onPath = path-back body scope path offset q l;
       addressed = rw (eq-eqb (q .number) (q .number) refl, offsetIn) (omega arith);
+      reads = refl;
     } in (
       here,
-      each-implied (Own path (offset + q .size) qs) (Own path offset (q ∷ qs)) later-own
+      each-implied (Own body path (offset + q .size) qs) (Own body path offset (q ∷ qs)) later-own
           (pointsAt body scope path (offset + q .size) qs) (each-own body scope path (offset + q .size) qs l (d .1)),
     )
   where
     -- A point behind the first.
-    later-own : (p : ModelPoint) → Own path (offset + q .size) qs p → Own path offset (q ∷ qs) p
+    later-own : (p : ModelPoint) → Own body path (offset + q .size) qs p → Own body path offset (q ∷ qs) p
     later-own p o =
         let other : p .definition .number ≡ q .number → ⊥ = λ e.
         clash (sym (point-among (p .definition) qs (o .defined)) ∙ ap (λ n. among n (numbersOf (pointFrames qs))) e ∙ d .0) in
@@ -194,6 +144,7 @@ each-own body scope path offset (q ∷ qs) l d =
           defined = later (o .defined);
           onPath = o .onPath;
           addressed = rw (ne-eqb (p .definition .number) (q .number) other, offsetIn) (omega (arith, a));
+          reads = o .reads;
         }
 
 -- ---- The points of groups
@@ -211,13 +162,15 @@ each-instance P size one from each (suc n) j offset e =
 
 -- A point of groups that lie from an offset on, where k instance numbers of a path lead to them: one of theirs, whose path begins
 -- with these.
-pub record Lower (count : Head → ℕ) (k : ℕ) (path : List ℕ) (offset : ℕ) (g : Groups) (p : ModelPoint) : Type 0 where
+pub record Lower (body : List ℕ) (count : Head → ℕ) (k : ℕ) (path : List ℕ) (offset : ℕ) (g : Groups) (p : ModelPoint)
+    : Type 0 where
   pub defined : In (p .definition) (lowerPoints g)
   pub keeps : (i : ℕ) → i < k → getD (pathOf p) i 0 ≡ getD path i 0
   pub addressed : p .offset ≡ offset + addressIn count (p .definition .number) (drop k (pathOf p)) g
+  pub reads : Reads body p
 
-module _ (count : Head → ℕ) (k : ℕ) (path : List ℕ) (offset : ℕ) (h : Head) (ps : List Point) (inside behind : Groups)
-    (t : Parts ps inside behind) (l : length path ≡ 3) (low : k < 3) where
+module _ (body : List ℕ) (count : Head → ℕ) (k : ℕ) (path : List ℕ) (offset : ℕ) (h : Head) (ps : List Point)
+    (inside behind : Groups) (t : Apart ps inside behind) (l : length path ≡ 3) (low : k < 3) where
   -- The size of an instance.
   abbrev size : ℕ
   size = pointsSize ps + groupsSize count inside
@@ -241,17 +194,17 @@ module _ (count : Head → ℕ) (k : ℕ) (path : List ℕ) (offset : ℕ) (h : 
       → addressIn count n xs (group h ps inside behind)
       ≡ getD xs 0 0 * size + (pointsSize ps + addressIn count n (drop 1 xs) inside)
   unfolding addressIn
-  lower-address n xs e = rw (t .lowerNotOwn n e, e, addressIn)
+  lower-address n xs e = rw (t .insidePoints n e, e, addressIn)
 
   -- and of the groups behind it.
   next-address : (n : ℕ) (xs : List ℕ) → among n (numbersOf (groupFrames behind)) ≡ true
       → addressIn count n xs (group h ps inside behind) ≡ count h * size + addressIn count n xs behind
   unfolding addressIn
-  next-address n xs e = rw (t .nextNotOwn n e, t .nextNotLower n e, addressIn)
+  next-address n xs e = rw (t .behindPoints n e, t .behindInside n e, addressIn)
 
   -- A point of the group itself,
-  of-own : (j : ℕ) (p : ModelPoint) → Own (set path k j) (offset + j * size) ps p
-      → Lower count k path offset (group h ps inside behind) p
+  of-own : (j : ℕ) (p : ModelPoint) → Own body (set path k j) (offset + j * size) ps p
+      → Lower body count k path offset (group h ps inside behind) p
   of-own j p o =
       let n = p .definition .number in
       let s = kept j (pathOf p) (λ i b. ap (λ xs. getD xs i 0) (o .onPath)) in
@@ -263,11 +216,12 @@ module _ (count : Head → ℕ) (k : ℕ) (path : List ℕ) (offset : ℕ) (h : 
         defined = in-front (p .definition) ps (lowerPoints inside ++ lowerPoints behind) (o .defined);
         keeps = s .1;
         addressed = omega (arith, a, b);
+        reads = o .reads;
       }
 
   -- of the groups in it,
-  of-lower : (j : ℕ) (p : ModelPoint) → Lower count (suc k) (set path k j) (offset + j * size + pointsSize ps) inside p
-      → Lower count k path offset (group h ps inside behind) p
+  of-lower : (j : ℕ) (p : ModelPoint) → Lower body count (suc k) (set path k j) (offset + j * size + pointsSize ps) inside p
+      → Lower body count k path offset (group h ps inside behind) p
   of-lower j p o =
       let n = p .definition .number in
       let s = kept j (pathOf p) (o .keeps) in
@@ -284,11 +238,12 @@ module _ (count : Head → ℕ) (k : ℕ) (path : List ℕ) (offset : ℕ) (h : 
             (in-front (p .definition) (lowerPoints inside) (lowerPoints behind) (o .defined));
         keeps = s .1;
         addressed = omega (arith, a, b);
+        reads = o .reads;
       }
 
   -- and of the groups behind it.
-  of-next : (p : ModelPoint) → Lower count k path (offset + count h * size) behind p
-      → Lower count k path offset (group h ps inside behind) p
+  of-next : (p : ModelPoint) → Lower body count k path (offset + count h * size) behind p
+      → Lower body count k path offset (group h ps inside behind) p
   of-next p o =
       let a = next-address (p .definition .number) (drop k (pathOf p)) (lower-among (p .definition) behind (o .defined)) in
       let b = o .addressed in
@@ -297,21 +252,22 @@ module _ (count : Head → ℕ) (k : ℕ) (path : List ℕ) (offset : ℕ) (h : 
             (in-behind (p .definition) (lowerPoints inside) (lowerPoints behind) (o .defined));
         keeps = o .keeps;
         addressed = omega (arith, a, b);
+        reads = o .reads;
       }
 
 -- Each point of groups at a level below the top.
 pub each-lower : (body : List ℕ) (count : Head → ℕ) (level : ℕ) (scope : Scope) (path : List ℕ) (offset : ℕ)
     (top enclosing : List Point) (g : Groups) → SoundGroups top enclosing level g → 2 ≤ level → length path ≡ 3
     → Distinct (numbersOf (groupFrames g))
-    → Each (Lower count (level - 2) path offset g) (groupsAt body count level scope path offset g)
+    → Each (Lower body count (level - 2) path offset g) (groupsAt body count level scope path offset g)
 unfolding groupsAt
 each-lower body count level scope path offset top enclosing noGroup s below l d = tt
 each-lower body count level scope path offset top enclosing (group h ps inside behind) s below l d =
     let k = level - 2 in
     let deeper : suc level - 2 ≡ suc k = omega (arith, below) in
-    let t = parts ps inside behind (d .1) in
+    let t = apart ps inside behind (d .1) in
     let low : k < 3 = let r = s .0 .levelInRange in omega (arith, r) in
-    let P : ModelPoint → Type 0 = Lower count k path offset (group h ps inside behind) in
+    let P : ModelPoint → Type 0 = Lower body count k path offset (group h ps inside behind) in
     let size = pointsSize ps + groupsSize count inside in
     let own : ℕ → ℕ → List ModelPoint = λ j o. pointsAt body (within body o ps scope) (set path k j) o ps in
     let lower : ℕ → ℕ → List ModelPoint = λ j o.
@@ -319,17 +275,17 @@ each-lower body count level scope path offset top enclosing (group h ps inside b
     let three : (j : ℕ) → length (set path k j) ≡ 3 = λ j. length-set path k j ∙ l in
     let each : (j : ℕ) → Each P (own j (offset + j * size) ++ lower j (offset + j * size)) = λ j.
     let o = offset + j * size in
-    let L : ℕ → ModelPoint → Type 0 = λ m. Lower count m (set path k j) (o + pointsSize ps) inside in
+    let L : ℕ → ModelPoint → Type 0 = λ m. Lower body count m (set path k j) (o + pointsSize ps) inside in
     each-append P (own j o) (lower j o)
-    (each-implied (Own (set path k j) o ps) P (of-own count k path offset h ps inside behind t l low j) (own j o)
-    (each-own body (within body o ps scope) (set path k j) o ps (three j) (t .own)))
+    (each-implied (Own body (set path k j) o ps) P (of-own body count k path offset h ps inside behind t l low j) (own j o)
+    (each-own body (within body o ps scope) (set path k j) o ps (three j) (t .pointsDistinct)))
     (each-implied (L (suc level - 2)) P
-    (λ p q. of-lower count k path offset h ps inside behind t l low j p (subst (λ m. L m p) deeper q)) (lower j o)
+    (λ p q. of-lower body count k path offset h ps inside behind t l low j p (subst (λ m. L m p) deeper q)) (lower j o)
     (each-lower body count (suc level) (within body o ps scope) (set path k j) (o + pointsSize ps) top (ps ++ enclosing) inside
-    (s .3) (omega arith) (three j) (t .lower))) in
+    (s .3) (omega arith) (three j) (t .insideDistinct))) in
     let mid = offset + count h * size in
     let next = groupsAt body count level scope path mid behind in
     each-append P (instances (count h) 0 offset size (λ j o. own j o ++ lower j o)) next
     (each-instance P size (λ j o. own j o ++ lower j o) offset each (count h) 0 offset (omega arith))
-    (each-implied (Lower count k path mid behind) P (of-next count k path offset h ps inside behind t l low) next
-    (each-lower body count level scope path mid top enclosing behind (s .4) below l (t .next)))
+    (each-implied (Lower body count k path mid behind) P (of-next body count k path offset h ps inside behind t l low) next
+    (each-lower body count level scope path mid top enclosing behind (s .4) below l (t .behindDistinct)))

@@ -5,41 +5,30 @@ use mathlib.Core.List.{List, [], _∷_}
 use mathlib.Core.Logic.{_⊎_, inl, inr, ⊎-elim}
 use Prim.Native.Nat.{ℕ, _+_, _≤_}
 use native.Mathlib.Omega.{arith}
-use lib.Dec.{eqb, ltb}
+use lib.Dec.{eqb}
 use lib.ListN.{length}
 use Rattle.values.specs.Each.{Each}
+use Rattle.values.proofs.TestOutcomes.{by-same-test}
 use Rattle.catalog.specs.Frames.{Point, Head}
 use Rattle.catalog.specs.Rules.{among}
 use Rattle.catalog.specs.Definitions.{noGroup, Content, Definition, pointsSize, pointFrames}
 use Rattle.catalog.specs.Soundness.{SoundDefinition, Distinct, numbersOf, In, first, later}
-use Rattle.values.proofs.TestOutcomes.{by-test, by-same-test}
 use Rattle.catalog.proofs.TestLaws.{neither}
 use Rattle.listing.specs.Points.{ModelPoint}
-use Rattle.listing.specs.Layout.{topScope, countUnimplemented, fits, countsOf, noInstance, pointsAt, groupsAt, contentAt}
-use Rattle.listing.specs.Reading.{Reading, faulty, points, Fault, allButLast, padLeftOut, laidOut, readBy}
+use Rattle.listing.specs.Layout.{topScope, countsOf, noInstance, pointsAt, groupsAt, contentAt}
+use Rattle.listing.specs.Reading.{points, allButLast, readBy}
 use Rattle.listing.specs.Tiling.{lowerPoints, definedPoints, Tiles}
-use Rattle.listing.proofs.EachLaws.{each-implied, each-append}
+use Rattle.listing.proofs.EachLaws.{each-implied, each-append, each-one, each-any}
 use Rattle.listing.proofs.InLaws.{in-front, in-behind, all-in}
 use Rattle.listing.proofs.LeftOutPad.{each-but-last}
-use Rattle.listing.proofs.GroupNumbers.{point-among}
+use Rattle.listing.proofs.GroupNumbers.{point-among, Apart, apart}
 use Rattle.listing.proofs.OnePoint.{one-point}
 use Rattle.listing.proofs.BodyTiling.{read-tiled}
 use Rattle.writing.specs.AfterWriting.{depthIn, agreeTo, pathOf}
 use Rattle.writing.proofs.Places.{Place}
-use Rattle.writing.proofs.PointAddresses.{offsetIn, addressIn, agree-address, Own, each-own, Lower, each-lower}
-use Rattle.writing.proofs.PointAddresses.{lower-among, Parts, parts}
-
--- ---- Lists
-
--- What holds of each holds of one,
-pub each-one : {A : Type 0} (P : A → Type 0) (xs : List A) → Each P xs → (x : A) → In x xs → P x
-each-one P (y ∷ ys) e x first = e .0
-each-one P (y ∷ ys) e x (later i) = each-one P ys (e .1) x i
-
--- and what holds of any one holds of each.
-pub each-any : {A : Type 0} (P : A → Type 0) (xs : List A) → ((x : A) → In x xs → P x) → Each P xs
-each-any P [] f = tt
-each-any P (x ∷ xs) f = (f x first, each-any P xs (λ y i. f y (later i)))
+use Rattle.writing.proofs.PointAddresses.{offsetIn, addressIn, agree-address, Reads, Own, each-own, Lower, each-lower}
+use Rattle.writing.proofs.PointAddresses.{lower-among}
+use Rattle.listing.proofs.Readings.{pointsLeft, by-reading}
 
 -- ---- One point behind the other
 
@@ -92,20 +81,21 @@ tiles-laid d s from to (p ∷ ps) (q ∷ qs) e f t =
 
 -- ---- The addresses of a model's points
 
--- A point is one of a definition's, and begins at the address by its number and its path.
-abbrev At : Definition → (ℕ → List ℕ → ℕ) → ModelPoint → Type 0
-At d address p = (In (p .definition) (definedPoints d)) × (p .offset ≡ address (p .definition .number) (pathOf p))
+-- A point is one of a definition's, begins at the address by its number and its path, and shows what its registers hold.
+abbrev At : Definition → List ℕ → (ℕ → List ℕ → ℕ) → ModelPoint → Type 0
+At d body address p =
+    (In (p .definition) (definedPoints d)) × (p .offset ≡ address (p .definition .number) (pathOf p)) × Reads body p
 
 -- So is each point of a model, and the address looks only at the instance numbers that lead to the point.
-record Addressed (d : Definition) (ps : List ModelPoint) : Type 0 where
+record Addressed (d : Definition) (body : List ℕ) (ps : List ModelPoint) : Type 0 where
   address : ℕ → List ℕ → ℕ
   near : (n : ℕ) (xs ys : List ℕ) → length xs ≡ length ys → agreeTo (depthIn n (d .top .groups)) xs ys ≡ true
       → address n xs ≡ address n ys
-  each : Each (At d address) ps
+  each : Each (At d body address) ps
 
 -- The numbers of a sound definition's top points and groups are all different.
-top-parts : (d : Definition) → SoundDefinition d → Parts (d .top .points) (d .top .groups) noGroup
-top-parts d s = parts (d .top .points) (d .top .groups) noGroup (s .distinct)
+top-apart : (d : Definition) → SoundDefinition d → Apart (d .top .points) (d .top .groups) noGroup
+top-apart d s = apart (d .top .points) (d .top .groups) noGroup (s .distinct)
 
 -- The registers before the point with a number, on a path into the groups of the top group.
 unfoldable addressOf : Content → (Head → ℕ) → ℕ → List ℕ → ℕ
@@ -115,7 +105,7 @@ addressOf c count n path =
       | false ↦ pointsSize (c .points) + addressIn count n path (c .groups)
     ]
 
-module _ (d : Definition) (count : Head → ℕ) where
+module _ (d : Definition) (body : List ℕ) (count : Head → ℕ) where
   -- It looks only at the instance numbers that lead to the point.
   agree-top : (n : ℕ) (xs ys : List ℕ) → length xs ≡ length ys → agreeTo (depthIn n (d .top .groups)) xs ys ≡ true
       → addressOf (d .top) count n xs ≡ addressOf (d .top) count n ys
@@ -125,49 +115,52 @@ module _ (d : Definition) (count : Head → ℕ) where
       (λ q. ap (λ a. pointsSize (d .top .points) + a) (agree-address count n (d .top .groups) xs ys l e))
 
   -- A top point has its address,
-  own-at : (p : ModelPoint) → Own noInstance 0 (d .top .points) p → At d (addressOf (d .top) count) p
+  own-at : (p : ModelPoint) → Own body noInstance 0 (d .top .points) p → At d body (addressOf (d .top) count) p
   unfolding addressOf
   own-at p o =
       let ps = d .top .points in
       let a = o .addressed in (
         in-front (p .definition) ps (lowerPoints (d .top .groups)) (o .defined),
         rw (point-among (p .definition) ps (o .defined), addressOf) (omega (arith, a)),
+        o .reads,
       )
 
   -- and so has a point of the groups.
-  lower-at : SoundDefinition d → (p : ModelPoint) → Lower count 0 noInstance (pointsSize (d .top .points)) (d .top .groups) p
-      → At d (addressOf (d .top) count) p
+  lower-at : SoundDefinition d → (p : ModelPoint)
+      → Lower body count 0 noInstance (pointsSize (d .top .points)) (d .top .groups) p → At d body (addressOf (d .top) count) p
   unfolding addressOf
   lower-at s p o =
       let g = d .top .groups in
       let n = p .definition .number in (
         in-behind (p .definition) (d .top .points) (lowerPoints g) (o .defined),
-        rw (top-parts d s .lowerNotOwn n (lower-among (p .definition) g (o .defined)), addressOf) (o .addressed),
+        rw (top-apart d s .insidePoints n (lower-among (p .definition) g (o .defined)), addressOf) (o .addressed),
+        o .reads,
       )
 
 -- A model in full.
-content-addressed : (d : Definition) → SoundDefinition d → (body : List ℕ) → Addressed d (contentAt (d .top) body)
+content-addressed : (d : Definition) → SoundDefinition d → (body : List ℕ) → Addressed d body (contentAt (d .top) body)
 unfolding contentAt
 content-addressed d s body =
     let ps = d .top .points in
     let g = d .top .groups in
     let count = countsOf (d .top) body in
     let scope = topScope ps body in
-    let t = top-parts d s in
+    let t = top-apart d s in
     let own = pointsAt body scope noInstance 0 ps in
     let lower = groupsAt body count 2 scope noInstance (pointsSize ps) g in
-    let P = At d (addressOf (d .top) count) in
+    let P = At d body (addressOf (d .top) count) in
     record {
       address = addressOf (d .top) count;
-      near = agree-top d count;
+      near = agree-top d body count;
       each = each-append P own lower
-          (each-implied (Own noInstance 0 ps) P (own-at d count) own (each-own body scope noInstance 0 ps refl (t .own)))
-          (each-implied (Lower count 0 noInstance (pointsSize ps) g) P (lower-at d count s) lower
-          (each-lower body count 2 scope noInstance (pointsSize ps) ps ps g (s .groups) (omega arith) refl (t .lower)));
+          (each-implied (Own body noInstance 0 ps) P (own-at d body count) own
+          (each-own body scope noInstance 0 ps refl (t .pointsDistinct)))
+          (each-implied (Lower body count 0 noInstance (pointsSize ps) g) P (lower-at d body count s) lower
+          (each-lower body count 2 scope noInstance (pointsSize ps) ps ps g (s .groups) (omega arith) refl (t .insideDistinct)));
     }
 
 -- All but the last of points are of them,
-in-but-last : (p : Point) (ps : List Point) → In p (allButLast ps) → In p ps
+pub in-but-last : (p : Point) (ps : List Point) → In p (allButLast ps) → In p ps
 in-but-last p ps = each-one (λ q. In q ps) (allButLast ps) (each-but-last (λ q. In q ps) ps (all-in ps)) p
 
 -- have none of the numbers that these have not,
@@ -189,60 +182,47 @@ distinct-but-last (p ∷ []) d = tt
 distinct-but-last (p ∷ q ∷ ps) d = (none-but-last (p .number) (q ∷ ps) (d .0), distinct-but-last (q ∷ ps) (d .1))
 
 -- A model whose last pad is left out.
-pad-addressed : (d : Definition) → SoundDefinition d → (body : List ℕ)
-    → Addressed d (pointsAt body (topScope (allButLast (d .top .points)) body) noInstance 0 (allButLast (d .top .points)))
-pad-addressed d s body =
+pad-addressed : (d : Definition) → SoundDefinition d → (id : ℕ) (body : List ℕ) → Addressed d body (pointsLeft id (d .top) body)
+pad-addressed d s id body =
     let ps = d .top .points in
     let qs = allButLast ps in
     let by : ℕ → List ℕ → ℕ = λ n path. offsetIn n qs in
-    let own-at : (p : ModelPoint) → Own noInstance 0 qs p → At d by p = λ p o.
+    let own-at : (p : ModelPoint) → Own body noInstance 0 qs p → At d body by p = λ p o.
     let a = o .addressed in
     let one = in-but-last (p .definition) ps (o .defined) in
-    (in-front (p .definition) ps (lowerPoints (d .top .groups)) one, omega (arith, a)) in
+    (in-front (p .definition) ps (lowerPoints (d .top .groups)) one, omega (arith, a), o .reads) in
     record {
       address = by;
       near = λ n xs ys l e. refl;
-      each = each-implied (Own noInstance 0 qs) (At d by) own-at (pointsAt body (topScope qs body) noInstance 0 qs)
-          (each-own body (topScope qs body) noInstance 0 qs refl (distinct-but-last ps (top-parts d s .own)));
+      each = each-implied (Own body noInstance 0 qs) (At d body by) own-at (pointsAt body (topScope qs body) noInstance 0 qs)
+          (each-own body (topScope qs body) noInstance 0 qs refl (distinct-but-last ps (top-apart d s .pointsDistinct)));
     }
-
--- No fault is a reading of points.
-not-points : {A : Type 0} (fault : Fault) (ps : List ModelPoint) → faulty fault ≡ points ps → A
-not-points fault ps e = let z : _≡_ {A = ℕ} 0 1 = cc in absurd (omega arith)
 
 -- A model that is read by a sound definition.
 read-addressed : (d : Definition) → SoundDefinition d → (id : ℕ) (body : List ℕ) (ps : List ModelPoint)
-    → readBy id (d .top) body ≡ points ps → Addressed d ps
-unfolding readBy laidOut
-read-addressed d s id body ps =
-    let c = d .top in
-    let W : Reading → Type 0 = λ r. r ≡ points ps → Addressed d ps in
-    by-test W (padLeftOut id c (length body)) (λ _ e.
-    let q : pointsAt body (topScope (allButLast (c .points)) body) noInstance 0 (allButLast (c .points)) ≡ ps = cc in
-    subst (Addressed d) q (pad-addressed d s body))
-    (λ _.
-    by-test W (ltb (length body) (pointsSize (c .points))) (λ t e. not-points _ ps e) (λ _.
-    by-test W (countUnimplemented (topScope (c .points) body) (c .groups)) (λ t e. not-points _ ps e) (λ _.
-    by-test W (fits c body) (λ f e.
-    let q : contentAt c body ≡ ps = cc in
-    subst (Addressed d) q (content-addressed d s body))
-    (λ t e. not-points _ ps e))))
+    → readBy id (d .top) body ≡ points ps → Addressed d body ps
+read-addressed d s id body =
+    by-reading id (d .top) body (Addressed d body) (λ _. pad-addressed d s id body) (λ _ _. content-addressed d s body)
 
 -- ---- The points of a model that is read
 
 module _ (d : Definition) (sound : SoundDefinition d) (body : List ℕ) (ps : List ModelPoint)
     (read : readBy (d .id) (d .top) body ≡ points ps) where
   -- The addresses of the points.
-  addressed : Addressed d ps
+  addressed : Addressed d body ps
   addressed = read-addressed d sound (d .id) body ps read
 
-  -- Each point is one of the definition's and begins at its address.
-  point-at : (p : ModelPoint) → In p ps → At d (addressed .address) p
-  point-at = each-one (At d (addressed .address)) ps (addressed .each)
+  -- Each point is one of the definition's, begins at its address and shows what its registers hold.
+  point-at : (p : ModelPoint) → In p ps → At d body (addressed .address) p
+  point-at = each-one (At d body (addressed .address)) ps (addressed .each)
 
   -- So each is one of the definition's,
   pub point-defined : (p : ModelPoint) → In p ps → In (p .definition) (definedPoints d)
   point-defined p i = point-at p i .0
+
+  -- its raw value is what its registers hold,
+  pub point-reads : (p : ModelPoint) → In p ps → Reads body p
+  point-reads p i = point-at p i .2
 
   -- they lie one behind the other,
   points-laid : Laid 0 (length body) ps

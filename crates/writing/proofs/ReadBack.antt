@@ -15,10 +15,9 @@ use Rattle.listing.proofs.ListingCases.{with-room, listing-records, walk-record
 use Rattle.listing.proofs.WalksBehind.{listed-walks}
 use Rattle.writing.specs.Writing.{refusal, rewritten, written, writing}
 use Rattle.writing.specs.AfterWriting.{RecordAfter, Pairwise}
-use Rattle.writing.proofs.ModelClaim.{ModelClaim}
 use Rattle.writing.proofs.WritingCases.{accepted-write}
 use Rattle.writing.proofs.PairwiseLaws.{pairwise-length, pairwise-found}
-use Rattle.writing.proofs.StoredRegisters.{length-split, stored-outside}
+use Rattle.writing.proofs.StoredRegisters.{split-length, stored-outside}
 use Rattle.writing.proofs.AfterCases.{same-record, after-written}
 use Rattle.writing.proofs.MapAfter.{map-after}
 
@@ -47,29 +46,30 @@ pub record ReadBack (catalog map : List ℕ) (index number : ℕ) (path : List �
   pub outside : (k : ℕ) → (k < point .address) ⊎ (point .address + point .point .definition .size ≤ k)
       → getD new k 0 ≡ getD map k 0
 
--- Only the registers of the point are written.
 module _ (w : Record) (raw : ℕ) (map : List ℕ) where
+  -- The map stays as long as it was,
   rewritten-length : length (rewritten w raw map) ≡ length map
   unfolding rewritten
   rewritten-length = length-sets map (w .address) (split (w .point .definition .size) raw)
 
+  -- and only the registers of the point are written.
   rewritten-outside : (k : ℕ) → (k < w .address) ⊎ (w .address + w .point .definition .size ≤ k)
       → getD (rewritten w raw map) k 0 ≡ getD map k 0
   unfolding rewritten
   rewritten-outside k h =
       let size = w .point .definition .size in
-      stored-outside (split size raw) map (w .address) k 0
-      (subst (λ n. (k < w .address) ⊎ (w .address + n ≤ k)) (sym (length-split size raw)) h)
+      stored-outside map (w .address) (split size raw) k 0
+      (subst (λ n. (k < w .address) ⊎ (w .address + n ≤ k)) (sym (split-length size raw)) h)
 
-module _ (modelAfter : ModelClaim) (catalog map : List ℕ) (index number : ℕ) (path : List ℕ) (raw : ℕ) (new : List ℕ) where
-  -- The claim.
+module _ (catalog map : List ℕ) (index number : ℕ) (path : List ℕ) (raw : ℕ) (new : List ℕ) where
+  -- Every accepted write comes to this.
   pub read-back : writing catalog map index number path raw ≡ written new → ReadBack catalog map index number path raw new
   read-back e =
       let a = accepted-write catalog map index number path raw new e in
       let w = a .point in
       let ds = definitions catalog in
       let test = isRecord index number path in
-      let m = map-after modelAfter catalog map (a .records) (a .headers) (a .all) index number path w (a .found) raw
+      let m = map-after catalog map (a .records) (a .headers) (a .all) index number path w (a .found) raw
       (a .accepted) in
       let s = pairwise-found (RecordAfter ds w raw) test (same-record ds w raw index number path) (a .records) (m .0) (m .2) w
       (a .found) in
@@ -96,7 +96,7 @@ module _ (modelAfter : ModelClaim) (catalog map : List ℕ) (index number : ℕ)
         outside = λ k o. ap (λ l. getD l k 0) (a .rewrites) ∙ rewritten-outside w raw map k o;
       }
 
--- What listing shows, with any room for it: where the old records had room, the new ones are shown.
+-- So with what listing shows, whatever the room: where the old records were shown, the new ones are.
 pub shown-after : (catalog map : List ℕ) (index number : ℕ) (path : List ℕ) (raw : ℕ) (new : List ℕ)
     → (b : ReadBack catalog map index number path raw new) → (room : ℕ) (rs : List Record) (headers : ℕ)
     → listing catalog map room ≡ listed rs headers

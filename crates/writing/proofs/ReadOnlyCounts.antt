@@ -43,6 +43,7 @@ count-point-kept n (p ∷ ps) e = go (eqb (p .access) readOnly) refl e (count-po
     named : Bool
     named = eqb (p .number) n && eqb (p .typeCode) uint16
 
+    -- What one test implies.
     or-mono : (z a b : Bool) → (a ≡ true → b ≡ true) → z || a ≡ true → z || b ≡ true
     or-mono true a b f h = refl
     or-mono false a b f h = f h
@@ -80,10 +81,11 @@ module _ (c : Content) (sound : SoundGroups (c .points) (c .points) 2 (c .groups
     (len : length after ≡ length body)
     (agree : (p : Point) → In p (c .points) → p .access ≡ readOnly
     → topScope (c .points) after (p .number) ≡ topScope (c .points) body (p .number)) where
-  -- The scopes of the top group in the two.
+  -- The scopes of the top group in the one,
   abbrev old : Scope
   old = topScope (c .points) body
 
+  -- and in the other.
   abbrev now : Scope
   now = topScope (c .points) after
 
@@ -99,12 +101,13 @@ module _ (c : Content) (sound : SoundGroups (c .points) (c .points) 2 (c .groups
   pub same-unimplemented : countUnimplemented now (c .groups) ≡ countUnimplemented old (c .groups)
   same-unimplemented = unimplemented-agrees now old (readOnlyPoints (c .points)) scopes (c .points) 2 (c .groups) below
 
-  -- The rest and an instance of the fill group have the same size,
+  -- The rest has the same size,
   same-rest : restSize c after ≡ restSize c body
   same-rest =
       ap (λ (n : ℕ). pointsSize (c .points) + n)
       (sizes-agree now old (readOnlyPoints (c .points)) scopes 0 (c .points) 2 (c .groups) below)
 
+  -- and so has an instance of the fill group,
   same-fill-size : fillSizeOf c after ≡ fillSizeOf c body
   same-fill-size = fill-sizes-agree now old (readOnlyPoints (c .points)) scopes 0 (c .points) 2 (c .groups) below
 

@@ -5,24 +5,17 @@ use Prim.Native.Nat.{ℕ, _+_}
 use native.Mathlib.Omega.{arith}
 use lib.ListN.{length}
 use Rattle.catalog.specs.Soundness.{In, first, later}
-use Rattle.register_map.specs.Scan.{Model, sizeOf, totalSize, Ending, marked, broken}
+use Rattle.register_map.specs.Scan.{Model, sizeOf, totalSize, Ending}
 use Rattle.listing.specs.Points.{ModelPoint}
 use Rattle.listing.specs.Reading.{Reading, unknown, faulty, points}
-use Rattle.listing.specs.Listing.{Record, recordOf, Answer, listed, withRecords, walk}
+use Rattle.listing.specs.Listing.{Record, recordOf, listed, withRecords, walk}
 use Rattle.listing.specs.Walks.{pointsOf}
-use Rattle.listing.proofs.WalkSteps.{not-listed, in-front-listed, walk-no-records, walk-faulty, walk-points}
+use Rattle.listing.proofs.InLaws.{in-either}
+use Rattle.listing.proofs.WalkSteps.{not-listed, walk-no-records, walk-faulty, walk-points}
+use Rattle.listing.proofs.ModelRecords.{Listed, walk-listed, end-listed}
 use Rattle.writing.specs.AfterWriting.{Pairwise}
+use Rattle.writing.proofs.ListLaws.{not-in-none}
 use Rattle.writing.proofs.PairwiseLaws.{pairwise-append, pairwise-same, pairwise-map}
-
--- Nothing is in a list of nothing.
-not-in-none : {A B : Type 0} (x : A) (xs : List A) → xs ≡ [] → In x xs → B
-not-in-none x (y ∷ ys) e i = let z : _≡_ {A = ℕ} 0 1 = cc in absurd (omega arith)
-
--- One of two lists, one behind the other, has it.
-in-either : {A B : Type 0} (x : A) (xs ys : List A) → In x (xs ++ ys) → (In x xs → B) → (In x ys → B) → B
-in-either x [] ys i f g = g i
-in-either x (y ∷ xs) ys first f g = f first
-in-either x (y ∷ xs) ys (later i) f g = in-either x xs ys i (λ j. f (later j)) g
 
 -- One of the records of points is the record of one of them.
 in-records : (i at id : ℕ) (ps : List ModelPoint) (r : Record) → In r (map (recordOf i at id) ps)
@@ -45,24 +38,21 @@ pub record OfModel (read : Model → Reading) (index at : ℕ) (ms : List Model)
   pub place : r ≡ recordOf (index + length front) (at + totalSize front) (own .id) (r .point)
 
 module _ (read : Model → Reading) (ending : Ending) where
-  -- The first model's records, and those behind it.
   module _ (index at : ℕ) (m : Model) (ms : List Model) (rs : List Record) (headers : ℕ) where
+    -- The records of a walk are the first model's, and those behind it.
     records-first : walk read ending index at (m ∷ ms) ≡ listed rs headers
         → (ss : List Record)
         × (walk read ending (index + 1) (at + sizeOf m) ms ≡ listed ss headers)
         × (rs ≡ map (recordOf index at (m .id)) (pointsOf (read m)) ++ ss)
-    records-first e = go (read m) refl
+    records-first e = go (read m) (walk-listed read ending index at m ms rs headers e)
       where
-        rest : Answer
-        rest = walk read ending (index + 1) (at + sizeOf m) ms
-
-        go : (r : Reading) → read m ≡ r
-            → (ss : List Record) × (rest ≡ listed ss headers) × (rs ≡ map (recordOf index at (m .id)) (pointsOf r) ++ ss)
-        go unknown q = in-front-listed [] rest rs headers (sym (walk-no-records read ending index at m ms q) ∙ e)
-        go (faulty fault) q = not-listed (sym (walk-faulty read ending index at m ms q) ∙ e)
-        go (points ps) q =
-            in-front-listed (map (recordOf index at (m .id)) ps) rest rs headers
-            (sym (walk-points read ending index at m ms q) ∙ e)
+        go : (r : Reading) → Listed read ending index at m ms rs headers r
+            → (ss : List Record)
+            × (walk read ending (index + 1) (at + sizeOf m) ms ≡ listed ss headers)
+            × (rs ≡ map (recordOf index at (m .id)) (pointsOf r) ++ ss)
+        go unknown l = (rs, l, refl)
+        go (faulty fault) l = absurd l
+        go (points ps) l = l
 
     -- With other models behind it, the first one's records stay.
     records-behind : walk read ending index at (m ∷ ms) ≡ listed rs headers → (ns : List Model) (ss : List Record)
@@ -77,19 +67,10 @@ module _ (read : Model → Reading) (ending : Ending) where
         go (points ps) q =
             walk-points read ending index at m ns q ∙ ap (withRecords (map (recordOf index at (m .id)) ps)) f
 
-  -- At the end nothing is listed.
-  none-at-end : (index at : ℕ) (rs : List Record) (headers : ℕ) → walk read ending index at [] ≡ listed rs headers → rs ≡ []
-  unfolding walk
-  none-at-end index at rs headers = go ending
-    where
-      go : (x : Ending) → walk read x index at [] ≡ listed rs headers → rs ≡ []
-      go marked e = let same : [] ≡ rs = cc in sym same
-      go (broken number) e = not-listed e
-
   -- Each record is that of a point of a model.
   pub record-of-model : (ms : List Model) (index at : ℕ) (rs : List Record) (headers : ℕ)
       → walk read ending index at ms ≡ listed rs headers → (r : Record) → In r rs → OfModel read index at ms r
-  record-of-model [] index at rs headers e r i = not-in-none r rs (none-at-end index at rs headers e) i
+  record-of-model [] index at rs headers e r i = not-in-none r rs (end-listed read ending index at rs headers e) i
   record-of-model (m ∷ ms) index at rs headers e r i =
       let s = records-first index at m ms rs headers e in
       let own = map (recordOf index at (m .id)) (pointsOf (read m)) in

@@ -1,5 +1,5 @@
 -- The ways in which writing comes to its answer.
-use mathlib.Core.Path.{_≡_, refl}
+use mathlib.Core.Path.{_≡_, refl, sym, ap, _∙_}
 use mathlib.Core.Bool.{true, false}
 use mathlib.Core.List.{List}
 use mathlib.Core.Option.{Option, none, some}
@@ -10,11 +10,16 @@ use lib.Dec.{eqb, ltb}
 use Rattle.values.specs.Classes.{classified}
 use Rattle.values.proofs.TestOutcomes.{by-test}
 use Rattle.catalog.specs.Frames.{readOnly}
-use Rattle.listing.specs.Listing.{Record, allRecords}
+use Rattle.listing.specs.Listing.{Record, allRecords, withRoom, listing}
 use Rattle.listing.specs.Listing as Listing
 use Rattle.listing.specs.Finding.{isRecord, firstWith, finding}
 use Rattle.listing.specs.Finding as Finding
-use Rattle.listing.proofs.RefusalNumbers.{Between}
+use Rattle.listing.proofs.RefusalNumbers.{Between, catalog-number, opening-number}
+use Rattle.listing.proofs.WalkSteps.{not-listed}
+use Rattle.listing.proofs.WalksBehind.{walk-number}
+use Rattle.listing.proofs.ListingCases as listings
+use Rattle.listing.proofs.ListingCases.{catalogRefused, openingRefused, walkRefused, noRoom, allListed, listing-case}
+use Rattle.listing.proofs.ListingCases.{listing-records, walk-records}
 use Rattle.writing.specs.Writing.{isUnimplemented, canHold, refusal, rewritten, Answer, refused, written, writing}
 
 -- An answer by what decides it.
@@ -31,54 +36,60 @@ pub data Case (catalog map : List ℕ) (index number : ℕ) (path : List ℕ) (r
       → Case catalog map index number path raw (written (rewritten w raw map))
 
 module _ (catalog map : List ℕ) (index number : ℕ) (path : List ℕ) where
-  -- What finding comes to, by the records and by the record that is found.
+  -- What finding comes to where listing is refused,
   finding-refused : {n place headers : ℕ} → allRecords catalog map ≡ Listing.refused n place headers
       → finding catalog map index number path ≡ Finding.refused n place
   unfolding finding
   finding-refused e = rw (e, finding)
 
   module _ {rs : List Record} {headers : ℕ} (e : allRecords catalog map ≡ Listing.listed rs headers) where
+    -- where no record is the one asked for,
     finding-nothing : firstWith (isRecord index number path) rs ≡ none
         → finding catalog map index number path ≡ Finding.nothing
     unfolding finding
     finding-nothing f = rw (e, finding) (rw f)
 
+    -- and where one is.
     finding-found : {w : Record} → firstWith (isRecord index number path) rs ≡ some w
         → finding catalog map index number path ≡ Finding.found w
     unfolding finding
     finding-found f = rw (e, finding) (rw f)
 
   module _ (raw : ℕ) where
-    -- The answer of each way.
+    -- The answer by what finding comes to: a refusal,
     answer-refused : {n place : ℕ} → finding catalog map index number path ≡ Finding.refused n place
         → writing catalog map index number path raw ≡ refused n place
     unfolding writing
     answer-refused f = rw (f, writing)
 
+    -- no such point,
     answer-nothing : finding catalog map index number path ≡ Finding.nothing
         → writing catalog map index number path raw ≡ refused 31 0
     unfolding writing
     answer-nothing f = rw (f, writing)
 
+    -- or a record.
     answer-found : {w : Record} → finding catalog map index number path ≡ Finding.found w
         → writing catalog map index number path raw
         ≡ elim (refusal w raw) [ some n ↦ refused n 0 | none ↦ written (rewritten w raw map) ]
     unfolding writing
     answer-found f = rw (f, writing)
 
-    -- By the refusal of the point, by what is found, and by the records.
+    -- How the answer is reached: by the refusal of the point,
     by-refusal : {rs : List Record} {headers : ℕ} (w : Record) → allRecords catalog map ≡ Listing.listed rs headers
         → firstWith (isRecord index number path) rs ≡ some w → (o : Option ℕ) → refusal w raw ≡ o
         → Case catalog map index number path raw (writing catalog map index number path raw)
     by-refusal w e f none q = rw (answer-found (finding-found e f), q) (pointWritten e f q)
     by-refusal w e f (some n) q = rw (answer-found (finding-found e f), q) (pointRefused e f q)
 
+    -- by what is found,
     by-found : {rs : List Record} {headers : ℕ} → allRecords catalog map ≡ Listing.listed rs headers → (o : Option Record)
         → firstWith (isRecord index number path) rs ≡ o
         → Case catalog map index number path raw (writing catalog map index number path raw)
     by-found e none f = rw (answer-nothing (finding-nothing e f)) (noPoint e f)
     by-found e (some w) f = by-refusal w e f (refusal w raw) refl
 
+    -- and by the records.
     by-records : (a : Listing.Answer) → allRecords catalog map ≡ a
         → Case catalog map index number path raw (writing catalog map index number path raw)
     by-records (Listing.refused n place headers) e = rw (answer-refused (finding-refused e)) (listingRefused e)
@@ -88,7 +99,27 @@ module _ (catalog map : List ℕ) (index number : ℕ) (path : List ℕ) where
     pub writing-case : Case catalog map index number path raw (writing catalog map index number path raw)
     writing-case = by-records (allRecords catalog map) refl
 
--- ---- The refusals of a point that is found
+-- ---- The numbers of refusals
+
+module _ (catalog map : List ℕ) where
+  -- A refusal before the records, by how listing is answered,
+  number-case : {n place headers : ℕ} (answer : Listing.Answer) → listings.Case catalog map 0 answer
+      → allRecords catalog map ≡ Listing.refused n place headers → answer ≡ Listing.refused n place headers → Between 1 29 n
+  number-case {n} answer (catalogRefused {n = k} {place = p} c) q e =
+      let b = catalog-number k p catalog c in let same : k ≡ n = cc in (omega arith, omega arith)
+  number-case {n} answer (openingRefused {n = k} a c) q e =
+      let b = opening-number map k c in let same : k ≡ n = cc in (omega arith, omega arith)
+  number-case {n} answer (walkRefused {n = k} w) q e =
+      let b = walk-number catalog map w in let same : k ≡ n = cc in (omega arith, omega arith)
+  number-case {n} answer (noRoom w l) q e = not-listed (sym q ∙ walk-records catalog map w)
+  number-case {n} answer (allListed w l) q e = not-listed (sym e)
+
+  -- has one of the numbers 1 to 29.
+  pub records-number : {n place headers : ℕ} → allRecords catalog map ≡ Listing.refused n place headers → Between 1 29 n
+  unfolding withRoom
+  records-number e =
+      number-case (listing catalog map 0) (listing-case catalog map 0) e
+      (listing-records catalog map 0 ∙ ap (withRoom 0) e)
 
 -- A point that is not refused: it may be written, takes up to four registers, is implemented and can hold the raw value.
 pub record Writable (w : Record) (raw : ℕ) : Type 0 where
@@ -98,11 +129,12 @@ pub record Writable (w : Record) (raw : ℕ) : Type 0 where
   pub holds : canHold (w .point .definition) raw ≡ true
 
 module _ (w : Record) (raw : ℕ) where
-  -- Where it is refused, the number is 32 to 35; else it is writable.
+  -- What is known by the refusal: its number is 32 to 35, or the point is writable.
   abbrev Outcome : Option ℕ → Type 0
   Outcome none = Writable w raw
   Outcome (some n) = Between 32 35 n
 
+  -- So it is.
   outcome : Outcome (refusal w raw)
   unfolding refusal
   outcome =
@@ -117,10 +149,11 @@ module _ (w : Record) (raw : ℕ) where
         holds = h;
       }) (λ _. (omega arith, omega arith)))))
 
-  -- A refusal and its absence, each with what it tells.
+  -- Of a point that is refused,
   pub refusal-number : {n : ℕ} → refusal w raw ≡ some n → Between 32 35 n
   refusal-number e = rw e at outcome
 
+  -- and of one that is not.
   pub refusal-none : refusal w raw ≡ none → Writable w raw
   refusal-none e = rw e at outcome
 
@@ -146,6 +179,7 @@ module _ (catalog map : List ℕ) (index number : ℕ) (path : List ℕ) (raw : 
   accepted-case answer (pointWritten {rs = rs} {headers = headers} {w = w} e f r) q =
       record { records = rs; headers = headers; all = e; point = w; found = f; accepted = r; rewrites = cc }
 
+  -- So every accepted write has found a point.
   pub accepted-write : writing catalog map index number path raw ≡ written new
       → Accepted catalog map index number path raw new
   accepted-write =

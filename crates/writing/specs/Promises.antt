@@ -2,7 +2,6 @@
 use mathlib.Core.List.{List}
 use mathlib.Core.Option.{Option, none, some}
 use Prim.Native.Nat.{ℕ}
-use Rattle.catalog.specs.Frames.{Point}
 use Rattle.listing.specs.Listing.{Record}
 use Rattle.listing.specs.declared.search.Target.{Target}
 use Rattle.writing.specs.Writing.{refusal, rewritten, Answer, refused, written}

@@ -1,5 +1,4 @@
 -- `writing::is_unimplemented` meets its contract: class by class.
-use mathlib.Core.Path.{_≡_}
 use borrow.Author.Needs.{needs}
 use Rattle.writing.proofs.is_unimplemented.Statement.{statement}
 use Rattle.writing.proofs.is_unimplemented.Tie as tie

@@ -1,5 +1,5 @@
 -- `listing::records::put_found` meets its contract: test by test, and then what is told of the point.
-use mathlib.Core.Path.{_≡_, sym, ap, _∙_}
+use mathlib.Core.Path.{sym, ap, _∙_}
 use native.Mathlib.Omega.{arith}
 use borrow.Author.Tests.{not-true, not-false}
 use Rattle.values.specs.Registers.{shownRaw}

@@ -3,9 +3,7 @@ use mathlib.Core.Path.{_≡_, refl, sym, ap, subst, _∙_}
 use mathlib.Core.List.{List}
 use Prim.Native.Nat.{ℕ}
 use native.Mathlib.Omega.{arith}
-use Rattle.catalog.specs.Definitions.{definitions}
-use Rattle.listing.specs.Reading.{reading}
-use Rattle.listing.specs.Listing.{Record, listed, walked, allRecords, listedTold}
+use Rattle.listing.specs.Listing.{listed, allRecords, listedTold}
 use Rattle.listing.specs.Listing as Listing
 use Rattle.listing.specs.Answers.{answer}
 use Rattle.listing.specs.Promises.{IsListed, NarrowFound, toldBy}

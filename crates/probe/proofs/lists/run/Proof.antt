@@ -1,11 +1,6 @@
 use borrow.Author.Needs.{needs}
 use Rattle.probe.proofs.lists.run.Statement.{statement}
 use Rattle.probe.proofs.lists.run.Tie as tie
-use Rattle.probe.proofs.lists.run.Reads as reads
-use Rattle.probe.proofs.lists.run.Lts as lts
-use Rattle.probe.proofs.fields.decimal_field.Reads as decimal-field-reads
-use Rattle.probe.proofs.lists.write_listing.Reads as write-listing-reads
-use Rattle.probe.proofs.plants.plant_at.Reads as plant-at-reads
 
 -- src/lists.rt:18:9
 decimal-field-requires : tie.Need-decimal-field-requires

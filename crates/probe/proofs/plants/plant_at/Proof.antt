@@ -1,10 +1,6 @@
 use borrow.Author.Needs.{needs}
 use Rattle.probe.proofs.plants.plant_at.Statement.{statement}
 use Rattle.probe.proofs.plants.plant_at.Tie as tie
-use Rattle.probe.proofs.plants.plant_at.Reads as reads
-use Rattle.probe.proofs.plants.plant_at.Lts as lts
-use Rattle.probe.proofs.fields.nothing_left.Reads as nothing-left-reads
-use Rattle.probe.proofs.fields.words_field.Reads as words-field-reads
 
 -- src/plants.rt:19:9
 words-field-requires : tie.Need-words-field-requires

@@ -1,12 +1,6 @@
 use borrow.Author.Needs.{needs}
 use Rattle.probe.proofs.writes.run.Statement.{statement}
 use Rattle.probe.proofs.writes.run.Tie as tie
-use Rattle.probe.proofs.writes.run.Reads as reads
-use Rattle.probe.proofs.writes.run.Lts as lts
-use Rattle.probe.proofs.fields.u64_field.Reads as u64-field-reads
-use Rattle.probe.proofs.plants.plant_at.Reads as plant-at-reads
-use Rattle.probe.proofs.writes.named_at.Reads as named-at-reads
-use Rattle.probe.proofs.writes.write_written.Reads as write-written-reads
 
 -- src/writes.rt:30:9
 named-at-requires : tie.Need-named-at-requires

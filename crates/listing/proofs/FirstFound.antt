@@ -1,4 +1,4 @@
--- The first of a list for which a test holds: it is one of the list, and there is one where the test holds of any.
+-- The first of a list for which a test holds.
 use mathlib.Core.Path.{_≡_, refl, sym, _∙_}
 use mathlib.Core.Bool.{Bool, true, false}
 use mathlib.Core.List.{List, [], _∷_}
@@ -7,18 +7,19 @@ use Prim.Native.Nat.{ℕ}
 use native.Mathlib.Omega.{arith}
 use Rattle.values.specs.Each.{Each}
 use Rattle.catalog.specs.Soundness.{In, first, later}
 use Rattle.listing.specs.Finding.{firstWith}
 
 -- Nothing is not something.
 pub not-none : {A B : Type 0} {x : B} → none ≡ some x → A
 not-none e = let z : _≡_ {A = ℕ} 0 1 = cc in absurd (omega arith)
 
 module _ {A : Type 0} (test : A → Bool) where
-  -- By whether the test holds of the first one.
+  -- Where the test holds of the first one,
   pub found-here : (x : A) (xs : List A) → test x ≡ true → firstWith test (x ∷ xs) ≡ some x
   unfolding firstWith
   found-here x xs e = rw (e, firstWith)
 
+  -- and where it does not.
   pub found-behind : (x : A) (xs : List A) → test x ≡ false → firstWith test (x ∷ xs) ≡ firstWith test xs
   unfolding firstWith
   found-behind x xs e = rw (e, firstWith)
@@ -46,8 +47,3 @@ module _ {A : Type 0} (test : A → Bool) where
           → Each (λ x. test x ≡ false) (x ∷ xs)
       go true t rest = not-none (sym e ∙ found-here x xs t)
       go false t rest = (t, rest (sym (found-behind x xs t) ∙ e))
-
--- What holds of each holds of one of them.
-pub each-in : {A : Type 0} (P : A → Type 0) (xs : List A) (x : A) → Each P xs → In x xs → P x
-each-in P (y ∷ ys) x e first = e .0
-each-in P (y ∷ ys) x e (later i) = each-in P ys x (e .1) i

@@ -1,0 +1,166 @@
+-- Writes on one plant, computed by the definitions: a scale factor in a group of two instances, and each refusal.
+use mathlib.Core.Path.{_≡_, refl}
+use mathlib.Core.Bool.{Bool, true, false}
+use mathlib.Core.List.{List, [], _∷_, _++_, map}
+use mathlib.Core.Option.{Option, none, some}
+use Prim.Native.Nat.{ℕ}
+use lib.ListN.{take}
+use Rattle.values.specs.Rows.{rows, rowAmong, mayScale, registersOf}
+use Rattle.values.specs.Registers.{join, split, shownRaw, tooWide}
+use Rattle.values.specs.Classes.{twosComplement, integer, inRange, classOf, classified}
+use Rattle.catalog.specs.Frames.{frameOf, framesFrom}
+use Rattle.catalog.specs.Rules.{isSizeOf}
+use Rattle.catalog.specs.Checking.{checkFrom, checked}
+use Rattle.catalog.specs.Definitions.{Content, parsed, definitions}
+use Rattle.register_map.specs.Headers.{opening}
+use Rattle.register_map.specs.Scan.{scanFrom, scan}
+use Rattle.listing.specs.Points.{pointAt}
+use Rattle.listing.specs.Layout.{within, groupsSize, fillSize, countUnimplemented, fits, fillOf, pointsAt, instances, groupsAt}
+use Rattle.listing.specs.Layout.{contentAt}
+use Rattle.listing.specs.Reading.{endsWithPad, allButLast, laidOut, readBy, topOf, reading}
+use Rattle.listing.specs.Listing as Listing
+use Rattle.listing.specs.Listing.{Record, recordNumbers, walk, recordsBy, allRecords, withRoom, listing}
+use Rattle.listing.specs.Finding.{firstWith, isRecord, finding}
+use Rattle.listing.proofs.WorkedCases.{Shown, listed, shown, model, times, point, uint16, scaled, sunssf, end, joined, body, row}
+use Rattle.writing.specs.Writing.{refusal, rewritten, Answer, refused, written, writing}
+use Rattle.writing.specs.AfterWriting.{depthIn, isScaleFactorOf}
+use Rattle.writing.proofs.OtherRecords.{OtherRecords, other-records}
+
+-- ---- The plant
+
+-- A point with access RW.
+abbrev writable : List ℕ → List ℕ
+writable p = take 7 p ++ 1 ∷ []
+
+-- Of the model 900: a uint32, a uint16 with access R, a string of five registers, a pad and an int16; and in a group of two
+-- instances an int16 with the sunssf behind it as its scale factor.
+abbrev catalog : List ℕ
+catalog =
+    joined (
+    model 900 ∷ writable (point 1 10 2) ∷ uint16 2 ∷ writable (point 3 19 5) ∷ writable (point 4 6 1) ∷ writable (point 8 1 1)
+    ∷ times 5 2 ∷ scaled 6 7 ∷ writable (sunssf 7) ∷ end ∷ end ∷ [])
+
+-- The map of a plant, by the two registers of its uint32, its pad and the scale factor of instance 1. The int16 of the top group
+-- is unimplemented.
+abbrev plantWith : ℕ → ℕ → ℕ → ℕ → List ℕ
+plantWith high low pad factor =
+    body (high ∷ low ∷ 5 ∷ 0x4142 ∷ 0 ∷ 0 ∷ 0 ∷ 0 ∷ pad ∷ 0x8000 ∷ 100 ∷ 0xFFFF ∷ 200 ∷ factor ∷ [])
+
+-- The pad holds 0, and the scale factor of instance 1 is 11: both are out of range.
+abbrev plant : List ℕ
+plant = plantWith 1 2 0 11
+
+-- The path to an instance of the group; that to instance 0 is also the path to the top group.
+abbrev instance : ℕ → List ℕ
+instance j = j ∷ 0 ∷ 0 ∷ []
+
+-- ---- The scale factor of instance 1
+
+-- The map behind it, register by register.
+abbrev rescaledPlant : List ℕ
+rescaledPlant =
+    0x5375 ∷ 0x6E53 ∷ 1 ∷ 1 ∷ 7 ∷ 900 ∷ 14
+    ∷ 1 ∷ 2 ∷ 5 ∷ 0x4142 ∷ 0 ∷ 0 ∷ 0 ∷ 0 ∷ 0 ∷ 0x8000 ∷ 100 ∷ 0xFFFF ∷ 200 ∷ 0xFFFE
+    ∷ 0xFFFF ∷ 0
+    ∷ []
+
+-- It becomes -2: one register changes.
+pub factor-written : writing catalog plant 1 7 (instance 1) 0xFFFE ≡ written rescaledPlant
+unfolding checkFrom checked framesFrom frameOf isSizeOf rows rowAmong mayScale registersOf twosComplement join shownRaw tooWide
+    integer inRange classOf classified parsed opening scanFrom scan pointAt within groupsSize fillSize countUnimplemented
+    fits fillOf pointsAt instances groupsAt contentAt endsWithPad allButLast laidOut readBy topOf reading walk recordsBy
+    allRecords firstWith finding split refusal rewritten writing
+factor-written = refl
+
+-- The records by the status and scale of the scaled point of instance 1, and by the status and raw value of its scale factor.
+abbrev recordsWith : ℕ → ℕ → ℕ → ℕ → Shown
+recordsWith status scale factorStatus factor =
+    listed (
+    row 1 0 0 0 7 0 65538 0
+    ∷ row 2 0 0 0 9 0 5 0
+    ∷ row 3 0 0 0 10 0 0 0
+    ∷ row 4 0 0 0 15 5 0 0
+    ∷ row 8 0 0 0 16 1 32768 0
+    ∷ row 6 0 0 0 17 0 100 65535
+    ∷ row 7 0 0 0 18 0 65535 0
+    ∷ row 6 1 0 0 19 status 200 scale
+    ∷ row 7 1 0 0 20 factorStatus factor 0
+    ∷ []) 3
+
+-- Before the write and behind it: nothing else has changed.
+pub records-changed : map (λ m. shown (listing catalog m 90)) (plant ∷ rescaledPlant ∷ [])
+    ≡ recordsWith 4 0 5 11 ∷ recordsWith 0 65534 0 65534 ∷ []
+unfolding checkFrom checked framesFrom frameOf isSizeOf rows rowAmong mayScale registersOf twosComplement join shownRaw tooWide
+    integer inRange classOf classified parsed opening scanFrom scan pointAt within groupsSize fillSize countUnimplemented
+    fits fillOf pointsAt instances groupsAt contentAt endsWithPad allButLast laidOut readBy topOf reading recordNumbers
+    walk recordsBy allRecords withRoom listing
+records-changed = refl
+
+-- So says the theorem on all records, for this write.
+pub others : OtherRecords catalog plant 1 7 (instance 1) 0xFFFE rescaledPlant
+others = other-records catalog plant 1 7 (instance 1) 0xFFFE rescaledPlant factor-written
+
+-- Whose scale factor a point of the plant is: of each record in turn.
+abbrev scaledBy : ℕ → List ℕ → Listing.Answer → Option Content → List Bool
+scaledBy number path (Listing.listed rs headers) (some top) =
+    elim (firstWith (isRecord 1 number path) rs) [
+      | none ↦ []
+      | some w ↦ map (λ (r : Record). isScaleFactorOf top (w .point) (r .point)) rs
+    ]
+scaledBy number path (Listing.listed rs headers) none = []
+scaledBy number path (Listing.refused n place headers) top = []
+
+-- That of instance 1 is that of the scaled point of instance 1 only.
+pub scaled-by-instance-1 : scaledBy 7 (instance 1) (allRecords catalog plant) (topOf 900 (definitions catalog))
+    ≡ false ∷ false ∷ false ∷ false ∷ false ∷ false ∷ false ∷ true ∷ false ∷ []
+unfolding checkFrom checked framesFrom frameOf isSizeOf rows rowAmong mayScale registersOf twosComplement join shownRaw tooWide
+    integer inRange classOf classified parsed opening scanFrom scan pointAt within groupsSize fillSize countUnimplemented
+    fits fillOf pointsAt instances groupsAt contentAt endsWithPad allButLast laidOut readBy topOf reading walk recordsBy
+    allRecords firstWith depthIn
+scaled-by-instance-1 = refl
+
+-- ---- Other writes
+
+-- A write: the point's number, its path and the raw value; and the answer.
+pub record Write : Type 0 where
+  pub number : ℕ
+  pub path : List ℕ
+  pub raw : ℕ
+  pub answer : Answer
+
+-- A write on one line.
+abbrev write : ℕ → List ℕ → ℕ → Answer → Write
+write n p r a = record { number = n; path = p; raw = r; answer = a }
+
+-- Writes to the plant.
+unfoldable pub writes : List Write
+writes =
+    -- The high register first
+    write 1 (instance 0) 0x00030004 (written (plantWith 3 4 0 11))
+    -- A pad can take 8000
+    ∷ write 4 (instance 0) 0x8000 (written (plantWith 1 2 0x8000 11))
+    -- 31: no such number, no such instance, and a point of the top group is in no instance 1
+    ∷ write 9 (instance 0) 1 (refused 31 0)
+    ∷ write 7 (instance 2) 1 (refused 31 0)
+    ∷ write 1 (instance 1) 1 (refused 31 0)
+    -- 32: access R
+    ∷ write 2 (instance 0) 6 (refused 32 0)
+    -- 33: five registers
+    ∷ write 3 (instance 0) 1 (refused 33 0)
+    -- 34: unimplemented
+    ∷ write 8 (instance 0) 1 (refused 34 0)
+    -- 35: the raw value is unimplemented, out of range or too wide; and a pad can take nothing but 8000
+    ∷ write 7 (instance 0) 0x8000 (refused 35 0)
+    ∷ write 7 (instance 0) 11 (refused 35 0)
+    ∷ write 7 (instance 0) 0x10001 (refused 35 0)
+    ∷ write 4 (instance 0) 0 (refused 35 0)
+    ∷ []
+
+-- Every write is answered as it says.
+pub worked-writes : map (λ (w : Write). writing catalog plant 1 (w .number) (w .path) (w .raw)) writes
+    ≡ map (λ (w : Write). w .answer) writes
+unfolding writes checkFrom checked framesFrom frameOf isSizeOf rows rowAmong mayScale registersOf twosComplement join shownRaw
+    tooWide integer inRange classOf classified parsed opening scanFrom scan pointAt within groupsSize fillSize
+    countUnimplemented fits fillOf pointsAt instances groupsAt contentAt endsWithPad allButLast laidOut readBy topOf
+    reading walk recordsBy allRecords firstWith finding split refusal rewritten writing
+worked-writes = refl
