@@ -1,76 +1,77 @@
+-- `probe::lists::run` is safe: what `decimal_field` and `plant_at` say of their answers is read at the numbers in these.
+use Prim.Native.Nat.{_≤_}
+use mathlib.Core.Path.{subst}
 use borrow.Author.Needs.{needs}
+use Rattle.io.specs.Counts.{Counts}
+use Rattle.io.proofs.Counting.{counts}
+use Rattle.probe.specs.Fields.{AtMost, PlantIn}
 use Rattle.probe.proofs.lists.run.Statement.{statement}
 use Rattle.probe.proofs.lists.run.Tie as tie
 
--- src/lists.rt:18:9
+-- ENTRIES is at most the list's length.
+entries-fit : (c : tie.After-room) → c .room .given .0 .0 ≤ 20000
+entries-fit c = subst (AtMost 20000) (c .room .given .1) (c .before .before .decimal-field .ensures)
+
+-- The words of the catalog and of the map are at the start of their arrays.
+plant-stored : (c : tie.After-plant)
+    → Counts (c .plant .given .0 .0) (c .before .before .before .before .plant-at .last .1 .1 .0)
+    × Counts (c .plant .given .0 .1 .0) (c .before .before .before .before .plant-at .last .1 .1 .1 .0)
+plant-stored c =
+    let called = c .before .before .before .before in
+    let in-lists = PlantIn (called .plant-at .last .1 .1 .0) (called .plant-at .last .1 .1 .1 .0) in
+    subst in-lists (c .plant .given .1) (called .plant-at .ensures)
+
 decimal-field-requires : tie.Need-decimal-field-requires
 decimal-field-requires c κs = search needs
 
--- src/lists.rt:19:22
 enum-known-room : tie.Need-enum-known-room
 enum-known-room c = search needs
 
--- src/lists.rt:20:9
 enum-told : tie.Need-enum-told
 enum-told c = search needs
 
--- src/lists.rt:20:9
 returns : tie.Need-returns
 returns c = search needs
 
--- src/lists.rt:24:38
 slice-aggregate-plant-at : tie.Need-slice-aggregate-plant-at
 slice-aggregate-plant-at c = search needs
 
--- src/lists.rt:24:52
 slice-aggregate-plant-at-2 : tie.Need-slice-aggregate-plant-at-2
 slice-aggregate-plant-at-2 c = search needs
 
--- src/lists.rt:24:9
 plant-at-requires : tie.Need-plant-at-requires
 plant-at-requires c κs = search needs
 
--- src/lists.rt:25:21
 enum-known-plant : tie.Need-enum-known-plant
 enum-known-plant c = search needs
 
--- src/lists.rt:26:9
 enum-told-2 : tie.Need-enum-told-2
 enum-told-2 c = search needs
 
--- src/lists.rt:26:9
 returns-2 : tie.Need-returns-2
 returns-2 c = search needs
 
--- src/lists.rt:30:19
 array-share-prefix-catalog : tie.Need-array-share-prefix-catalog
-array-share-prefix-catalog c = ?
+array-share-prefix-catalog c = plant-stored (c .before) .0 .0
 
--- src/lists.rt:30:19
 slice-aggregate-write-listing : tie.Need-slice-aggregate-write-listing
-slice-aggregate-write-listing c = ?
+slice-aggregate-write-listing c = plant-stored (c .before .before) .0 .1
 
--- src/lists.rt:30:38
 array-share-prefix-map : tie.Need-array-share-prefix-map
-array-share-prefix-map c = ?
+array-share-prefix-map c = plant-stored (c .before .before) .1 .0
 
--- src/lists.rt:30:38
 slice-aggregate-write-listing-2 : tie.Need-slice-aggregate-write-listing-2
-slice-aggregate-write-listing-2 c = ?
+slice-aggregate-write-listing-2 c = plant-stored (c .before .before .before) .1 .1
 
--- src/lists.rt:30:57
 array-borrow-prefix-list : tie.Need-array-borrow-prefix-list
-array-borrow-prefix-list c = ?
+array-borrow-prefix-list c = entries-fit (c .before .before .before .before .before .before .before .before .before .before .before)
 
--- src/lists.rt:30:57
 slice-aggregate-write-listing-3 : tie.Need-slice-aggregate-write-listing-3
-slice-aggregate-write-listing-3 c = ?
+slice-aggregate-write-listing-3 c = (counts _ _ (entries-fit (c .before .before .before .before .before .before .before .before .before .before .before .before))) .1
 
--- src/lists.rt:30:5
 write-listing-requires : tie.Need-write-listing-requires
 write-listing-requires c κs = search needs
 
--- src/lists.rt:17:1
 returns-3 : tie.Need-returns-3
 returns-3 c = search needs
 
