@@ -24,5 +24,6 @@ pub mod ModelAnew
 pub mod RecordSources
 pub mod RawValues
 pub mod MapAfter
+pub mod RefusalTests
 pub mod RegisterSteps
 pub mod FoundTargets

@@ -76,13 +76,15 @@ fn write_to(map: &mut [u16], target: Target, raw: u64) -> Written
 fn judge(target: Target, raw: u64) -> Verdict
     ensures { λ r. ⌜ refusalForm r ≡ Writings.refusal (recordOf target) raw ⌝ }
 {
-    if target.access == READ_ONLY {
+    let read_only = target.access == READ_ONLY;
+    let unimplemented = is_unimplemented(target.type_code, target.raw);
+    if read_only {
         return Verdict::Refuses(32);
     }
     if 4 < target.size {
         return Verdict::Refuses(33);
     }
-    if is_unimplemented(target.type_code, target.raw) {
+    if unimplemented {
         return Verdict::Refuses(34);
     }
     if !can_hold(target, raw) {

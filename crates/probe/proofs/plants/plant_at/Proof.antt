@@ -59,8 +59,7 @@ same-length-7 c = search needs
 returns-4 : tie.Need-returns-4
 returns-4 c =
     let frames = c .before .before .before .before .before .before .before .before .before .before .before .before .before .before .words-field in
-    let stored = c .before .before .before .before .before .before .before .words-field2 in
-    (
+    let stored = c .before .before .before .before .before .before .before .words-field2 in (
       subst (StoredIn (frames .last .1 .1 .0)) (c .before .before .before .before .before .before .before .before .before .before .frames .given .1) (frames .ensures),
       subst (StoredIn (stored .last .1 .1 .0)) (c .before .before .before .stored .given .1) (stored .ensures),
     )
