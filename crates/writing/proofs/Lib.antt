@@ -24,6 +24,7 @@ pub mod ModelAnew
 pub mod RecordSources
 pub mod RawValues
 pub mod MapAfter
+pub mod OneRecord
 pub mod RefusalTests
 pub mod RegisterSteps
 pub mod FoundTargets

@@ -1,24 +1,23 @@
 -- 31 is honest: a point that listing shows is never refused as missing, and where 31 is the answer no record is that point's.
 use mathlib.Core.Path.{_≡_, refl, sym, _∙_}
-use mathlib.Core.Bool.{true, false}
+use mathlib.Core.Bool.{false}
 use mathlib.Core.List.{List}
 use Prim.Native.Nat.{ℕ}
 use native.Mathlib.Omega.{arith}
-use borrow.Author.Tests.{eq-eqb}
 use Rattle.values.specs.Each.{Each}
-use Rattle.values.proofs.TestOutcomes.{clash}
 use Rattle.catalog.specs.Soundness.{In}
 use Rattle.listing.specs.Listing.{Record, listed, allRecords, listing}
-use Rattle.listing.specs.Finding.{isRecord}
+use Rattle.listing.specs.Finding.{isRecord, finding}
+use Rattle.listing.specs.Finding as Finding
 use Rattle.listing.proofs.WalkSteps.{not-listed}
 use Rattle.listing.proofs.WalksBehind.{listed-walks}
 use Rattle.listing.proofs.ListingCases.{walk-records}
 use Rattle.writing.specs.Writing.{Answer, refused, writing}
 use Rattle.writing.specs.AfterWriting.{pathOf}
-use Rattle.listing.proofs.EachLaws.{each-one}
-use Rattle.listing.proofs.FirstFound.{none-found}
+use Rattle.listing.proofs.FirstFound.{not-none, none-found}
 use Rattle.writing.proofs.WritingCases.{Case, listingRefused, noPoint, pointRefused, pointWritten, writing-case}
-use Rattle.writing.proofs.WritingCases.{records-number, refusal-number}
+use Rattle.writing.proofs.WritingCases.{finding-found, records-number, refusal-number}
+use Rattle.writing.proofs.OneRecord.{own-found}
 
 -- There is no such point: of all records that the map has, none is that of the point asked for.
 pub record Missing (catalog map : List ℕ) (index number : ℕ) (path : List ℕ) : Type 0 where
@@ -27,25 +26,17 @@ pub record Missing (catalog map : List ℕ) (index number : ℕ) (path : List �
   pub all : allRecords catalog map ≡ listed records headers
   pub none : Each (λ r. isRecord index number path r ≡ false) records
 
--- What is claimed of 31. A point that listing shows, with any room, is never refused so, whatever the raw value. And where a
--- write is refused so, the place is 0 and there is no such point.
+-- What is claimed of 31. A point that listing shows, with any room, is found by its index, number and path, and none else; so it
+-- is never refused so, whatever the raw value. And where a write is refused so, the place is 0 and there is no such point.
 pub record Honest (catalog map : List ℕ) : Type 0 where
+  pub shownIsIt : (room : ℕ) (rs : List Record) (headers : ℕ) → listing catalog map room ≡ listed rs headers
+      → (r : Record) → In r rs
+      → finding catalog map (r .index) (r .point .definition .number) (pathOf (r .point)) ≡ Finding.found r
   pub shownIsFound : (room : ℕ) (rs : List Record) (headers : ℕ) → listing catalog map room ≡ listed rs headers
       → (r : Record) → In r rs → (raw place : ℕ)
       → writing catalog map (r .index) (r .point .definition .number) (pathOf (r .point)) raw ≡ refused 31 place → ⊥
   pub refusedIsMissing : (index number : ℕ) (path : List ℕ) (raw place : ℕ)
       → writing catalog map index number path raw ≡ refused 31 place → (place ≡ 0) × Missing catalog map index number path
-
--- The record of a point is the one with its own place.
-own-place : (r : Record) → isRecord (r .index) (r .point .definition .number) (pathOf (r .point)) r ≡ true
-own-place r =
-    simp (
-      eq-eqb (r .index) (r .index) refl,
-      eq-eqb (r .point .definition .number) (r .point .definition .number) refl,
-      eq-eqb (r .point .level2) (r .point .level2) refl,
-      eq-eqb (r .point .level3) (r .point .level3) refl,
-      eq-eqb (r .point .level4) (r .point .level4) refl,
-    )
 
 module _ (catalog map : List ℕ) where
   -- A point that is one of all records is not refused so, in whatever way the answer is reached.
@@ -55,10 +46,8 @@ module _ (catalog map : List ℕ) where
       → answer ≡ refused 31 place → ⊥
   found-case r raw place e i answer (listingRefused q) f = not-listed (sym q ∙ e)
   found-case r raw place {rs} e i answer (noPoint {rs = ss} q f) g =
-      let test = isRecord (r .index) (r .point .definition .number) (pathOf (r .point)) in
       let same : ss ≡ rs = cc in
-      let all = none-found test rs (rw same at f) in
-      clash (sym (own-place r) ∙ each-one (λ s. test s ≡ false) rs all r i)
+      not-none (sym (rw same at f) ∙ own-found catalog map rs _ e r i)
   found-case r raw place e i answer (pointRefused {w = w} {n = n} q found why) f =
       let b = refusal-number w raw why in
       let same : n ≡ 31 = cc in
@@ -86,6 +75,10 @@ module _ (catalog map : List ℕ) where
   pub honest : Honest catalog map
   honest =
       record {
+        shownIsIt = λ room rs headers e r i.
+            let all = walk-records catalog map (listed-walks catalog map room rs headers e .0) in
+            finding-found catalog map (r .index) (r .point .definition .number) (pathOf (r .point)) all
+            (own-found catalog map rs headers all r i);
         shownIsFound = λ room rs headers e r i raw place.
             let w = listed-walks catalog map room rs headers e .0 in
             let number = r .point .definition .number in

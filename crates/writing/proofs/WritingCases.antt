@@ -50,7 +50,7 @@ module _ (catalog map : List ℕ) (index number : ℕ) (path : List ℕ) where
     finding-nothing f = rw (e, finding) (rw f)
 
     -- and where one is.
-    finding-found : {w : Record} → firstWith (isRecord index number path) rs ≡ some w
+    pub finding-found : {w : Record} → firstWith (isRecord index number path) rs ≡ some w
         → finding catalog map index number path ≡ Finding.found w
     unfolding finding
     finding-found f = rw (e, finding) (rw f)
