@@ -1,5 +1,5 @@
 -- 31 is honest: a point that listing shows is never refused as missing, and where 31 is the answer no record is that point's.
-use mathlib.Core.Path.{_≡_, refl, sym, _∙_}
+use mathlib.Core.Path.{_≡_, sym, _∙_}
 use mathlib.Core.Bool.{false}
 use mathlib.Core.List.{List}
 use Prim.Native.Nat.{ℕ}
