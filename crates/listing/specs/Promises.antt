@@ -163,7 +163,7 @@ pub record PointFits (body : List ℕ) (offset : ℕ) (visit : Visit) (p : Frame
   pub short : length body ≤ 65535
   pub address : visit .address ≤ 65536
 
--- What writing the points of an instance asks for: they stand at the frame, lie in the body, and have room.
+-- What walking the points of an instance asks for: they stand at the frame, lie in the body, and have room.
 pub record RunAsks (ws body out : List ℕ) (visit : Visit) (at : Progress) (ps : List Frames.Point) : Type 0 where
   pub stands : Stands ws (at .frame)
   pub few : length ws / 8 ≤ 4096
@@ -173,13 +173,13 @@ pub record RunAsks (ws body out : List ℕ) (visit : Visit) (at : Progress) (ps 
   pub inside : at .offset + pointsSize ps ≤ length body
   pub room : Listing.recordWidth * (at .records + length ps) ≤ capacity (visit .task) (length out)
 
--- How far writing has come behind points.
+-- How far the walk has come behind points.
 pub record BehindRun (at : Progress) (ps : List Frames.Point) (r : Progress) : Type 0 where
   pub records : r .records ≡ at .records + length ps
   pub offset : r .offset ≡ at .offset + pointsSize ps
   pub frame : r .frame ≡ at .frame + length ps
 
--- What writing groups asks for: the walk stands at them, they lie in the body, and have room.
+-- What walking groups asks for: it stands at them, they lie in the body, and have room.
 pub record GroupsAsk (ws body table out : List ℕ) (visit : Visit) (fill levels : ℕ) (path : List ℕ) (at : Progress) : Type 0 where
   pub standing : AtGroups ws (at .frame) levels
   pub isTable : IsTable table
@@ -192,7 +192,7 @@ pub record GroupsAsk (ws body table out : List ℕ) (visit : Visit) (fill levels
   pub room : Listing.recordWidth * (at .records + groupsPoints (countOf (scopeIn table) fill) (heldAt ws (at .frame) .groups))
       ≤ capacity (visit .task) (length out)
 
--- How far writing has come behind groups.
+-- How far the walk has come behind groups.
 pub record BehindGroups (gs : Groups) (count : Frames.Head → ℕ) (at r : Progress) : Type 0 where
   pub records : r .records ≡ at .records + groupsPoints count gs
   pub offset : r .offset ≡ at .offset + groupsSize count gs

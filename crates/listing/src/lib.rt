@@ -148,7 +148,7 @@ fn survey_map(catalog: &[u16], map: &[u16], table: &mut [u16]) -> Listing
     refused(22, at, headers)
 }
 
-// A refusal at a header.
+// A refusal.
 fn refused(number: u16, place: usize, headers: usize) -> Listing
     ensures { λ r. ⌜ answer r ≡ Listings.refusedTold number place headers ⌝ }
 {
@@ -197,7 +197,7 @@ fn put_map(catalog: &[u16], map: &[u16], table: &mut [u16], out: &mut [u64])
     }
 }
 
-// Writes the records of a model that the catalog knows, and none for another; answers how many there are then.
+// Walks a model that the catalog knows, and passes over another; answers how many points were met then.
 fn put_known(
     catalog: &[u16],
     map: &[u16],

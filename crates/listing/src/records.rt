@@ -62,14 +62,16 @@ struct Model {
     fill: usize,
 }
 
-// How far writing has come: the records written, the offset in the body, and the frame.
+// How far the walk has come: the points met, which is the number of the next record, the offset in the body, and
+// the frame.
 pub(crate) struct Progress {
     pub(crate) records: usize,
     pub(crate) offset: usize,
     pub(crate) frame: usize,
 }
 
-// Writes the records of a model whose definition begins at frame `first`; the table holds its top group.
+// Walks a model whose definition begins at frame `first`, and answers how many points were met then; the table holds
+// its top group.
 pub(crate) fn put_model(
     catalog: &[u16],
     table: &mut [u16],
@@ -115,8 +117,7 @@ pub(crate) fn put_model(
     behind.records
 }
 
-// Writes the records of the points of an instance. Ends where the body does, so that a pad that is left out has
-// no record.
+// Walks the points of an instance. Ends where the body does, so that a pad that is left out has no record.
 fn put_run(
     catalog: &[u16],
     table: &[u16],
@@ -149,8 +150,8 @@ fn put_run(
     at
 }
 
-// Writes the records of the groups side by side from a frame on, in a group that may hold groups of so many
-// levels: each instance's own points first, then the groups in it. An instance takes the frames of its group anew.
+// Walks the groups side by side from a frame on, in a group that may hold groups of so many levels: each
+// instance's own points first, then the groups in it. An instance takes the frames of its group anew.
 fn put_groups(
     catalog: &[u16],
     table: &mut [u16],
@@ -191,7 +192,7 @@ fn put_groups(
     at
 }
 
-// Puts the points of an instance into the table and writes their records; they stand behind the group frame.
+// Puts the points of an instance into the table and walks them; they stand behind the group frame.
 fn put_own(
     catalog: &[u16],
     table: &mut [u16],
@@ -239,7 +240,7 @@ fn instance_path(path: InstancePath, levels: usize, j: u16) -> InstancePath
     InstancePath { instances }
 }
 
-// Writes what is asked of a point.
+// Writes of a point what the walk is for.
 fn put_point(
     table: &[u16],
     out: &mut [u64],

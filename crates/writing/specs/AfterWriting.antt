@@ -41,7 +41,7 @@ abbrev pub pathOf : ModelPoint → List ℕ
 pathOf p = p .level2 ∷ p .level3 ∷ p .level4 ∷ []
 
 -- Is the first point the scale factor of the second, in a model by the top group of its definition? The second names its number,
--- and it is of the same instance, or of the one around it (document 01, "Status of a point").
+-- and it is of the same instance or of one around it (document 01, "Status of a point").
 abbrev pub isScaleFactorOf : Content → ModelPoint → ModelPoint → Bool
 isScaleFactorOf top w p =
     eqb (p .definition .scaleKind) scaleByPoint
