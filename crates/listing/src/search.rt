@@ -23,7 +23,7 @@ ghost use Rattle.listing.specs.Walks.{Accepted, IsTable};
 ghost use Rattle.listing.specs.Answers.{findingForm};
 ghost use Rattle.listing.specs.Promises.{foundWidth, foundIn, IsListed, toldBy, NarrowFound};
 
-// The numbers that the walk tells of the point sought.
+// How many numbers the walk tells of the point sought.
 const FOUND_WIDTH: usize = 6;
 
 // A point: its address, its type, size and access by the catalog, and its raw value (0 if it takes over four
@@ -107,7 +107,7 @@ fn search_map(
 }
 
 // The answer by the numbers that a search wrote.
-fn told(found: [u64; 6]) -> Finding
+fn told(found: [u64; FOUND_WIDTH]) -> Finding
     requires { ⌜ NarrowFound found ⌝ }
     ensures { λ r. ⌜ findingForm r ≡ toldBy found ⌝ }
 {

@@ -12,8 +12,8 @@ use Rattle.listing.specs.Listing as Listing
 use Rattle.listing.specs.Finding.{isRecord, firstWith, finding}
 use Rattle.listing.specs.Finding as Finding
 use Rattle.listing.specs.declared.search.Target.{Target}
-use Rattle.writing.specs.Writing.{refusal, rewritten, Answer, refused, written, writing, refusedTold, writtenTold, told, mapBehind}
-use Rattle.writing.specs.Promises.{recordOf, answerTo}
+use Rattle.writing.specs.Writing.{refusal, rewritten, Answer, refused, written, writingTo, writing, refusedTold, writtenTold, told, mapBehind}
+use Rattle.writing.specs.Promises.{targetRecord}
 use Rattle.listing.proofs.FirstFound.{found-in}
 use Rattle.writing.proofs.RawValues.{record-inside}
 
@@ -22,19 +22,19 @@ use Rattle.writing.proofs.RawValues.{record-inside}
 module _ (r : Record) (raw : ℕ) (map : List ℕ) where
   -- It is refused.
   pub refuses : {n : ℕ} → some n ≡ refusal r raw
-      → (refusedTold n 0 ≡ told (answerTo r raw map)) × (map ≡ mapBehind (answerTo r raw map) map)
+      → (refusedTold n 0 ≡ told (writingTo r raw map)) × (map ≡ mapBehind (writingTo r raw map) map)
   refuses {n} e =
-      let a : answerTo r raw map ≡ refused n 0 =
+      let a : writingTo r raw map ≡ refused n 0 =
       sym (ap {B = Answer} (λ o. elim o [ some n ↦ refused n 0 | none ↦ written (rewritten r raw map) ]) e) in
       (sym (ap told a), sym (ap (λ x. mapBehind x map) a))
 
   -- It takes the value.
   pub takes : {new : List ℕ} → none ≡ refusal r raw
       → new ≡ sets map (r .address) (split (r .point .definition .size) raw)
-      → (writtenTold ≡ told (answerTo r raw map)) × (new ≡ mapBehind (answerTo r raw map) map)
+      → (writtenTold ≡ told (writingTo r raw map)) × (new ≡ mapBehind (writingTo r raw map) map)
   unfolding rewritten
   takes e w =
-      let a : answerTo r raw map ≡ written (rewritten r raw map) =
+      let a : writingTo r raw map ≡ written (rewritten r raw map) =
       sym (ap {B = Answer} (λ o. elim o [ some n ↦ refused n 0 | none ↦ written (rewritten r raw map) ]) e) in
       (sym (ap told a), w ∙ sym (ap (λ x. mapBehind x map) a))
 
@@ -46,7 +46,7 @@ tells t = Finding.foundTold (t .address) (t .«type_code») (t .size) (t .access
 
 -- A write asks no more of a record than is told of it.
 same-answer : (w : Record) (t : Target) → tells t ≡ Finding.told (Finding.found w) → (raw : ℕ) (map : List ℕ)
-    → answerTo (recordOf t) raw map ≡ answerTo w raw map
+    → writingTo (targetRecord t) raw map ≡ writingTo w raw map
 unfolding refusal rewritten
 same-answer w t e raw map =
     let address : t .address ≡ w .address = cc in
@@ -97,13 +97,13 @@ module _ (catalog map : List ℕ) (index number : ℕ) (path : List ℕ) (raw : 
       let a : all ≡ refused 31 0 = rw (told-nothing found e, writing) in
       (sym (ap told a), sym (ap (λ x. mapBehind x map) a))
 
-  by-found : (w : Record) → found ≡ Finding.found w → all ≡ answerTo w raw map
+  by-found : (w : Record) → found ≡ Finding.found w → all ≡ writingTo w raw map
   unfolding writing
   by-found w f = rw (f, writing)
 
   module _ (t : Target) (e : tells t ≡ Finding.told found) where
     -- What writing to the target comes to is what writing comes to.
-    pub writing-found : answerTo (recordOf t) raw map ≡ all
+    pub writing-found : writingTo (targetRecord t) raw map ≡ all
     writing-found =
         let r = told-record found t e in same-answer (r .0) t (r .2) raw map ∙ sym (by-found (r .0) (r .1))
 

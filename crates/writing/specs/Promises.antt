@@ -8,8 +8,8 @@ use Rattle.writing.specs.Writing.{refusal, rewritten, Answer, refused, w
 use Rattle.writing.specs.declared.Verdict.{Verdict}
 
 -- A record with what `find` tells of one; a write asks for nothing else.
-abbrev pub recordOf : Target → Record
-recordOf t =
+abbrev pub targetRecord : Target → Record
+targetRecord t =
     record {
       index = 0;
       id = 0;
@@ -33,10 +33,6 @@ recordOf t =
         scale = 0;
       };
     }
-
--- What writing to a point that is found comes to.
-abbrev pub answerTo : Record → ℕ → List ℕ → Answer
-answerTo r raw map = elim (refusal r raw) [ some n ↦ refused n 0 | none ↦ written (rewritten r raw map) ]
 
 -- The number of a refusal, if there is one.
 abbrev pub refusalForm : Verdict → Option ℕ

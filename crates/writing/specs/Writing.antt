@@ -13,7 +13,7 @@ use Rattle.listing.specs.Listing.{Record}
 use Rattle.listing.specs.Finding as Finding
 use Rattle.listing.specs.Finding.{finding}
 
--- Are registers unimplemented, by what they are?
+-- Is a raw number unimplemented, by its class?
 abbrev pub isUnimplemented : Classified → Bool
 isUnimplemented (ofClass unimplemented) = true
 isUnimplemented (ofClass value) = false
@@ -49,14 +49,18 @@ pub data Answer : Type 0 where
   refused : ℕ → ℕ → Answer
   written : List ℕ → Answer
 
--- Writing a raw value to the point with a number at a path, in the model with an index. Listing's 1 to 29 come first. 31: there is
--- no such point. 31 to 35 have place 0.
+-- Writing a raw value to a point that is found. 32 to 35 have place 0.
+abbrev pub writingTo : Record → ℕ → List ℕ → Answer
+writingTo r raw map = elim (refusal r raw) [ some n ↦ refused n 0 | none ↦ written (rewritten r raw map) ]
+
+-- Writing a raw value to the point with a number at a path, in the model with an index. Listing's 1 to 29 come first, with
+-- their place. 31: there is no such point; its place is 0.
 unfoldable pub writing : List ℕ → List ℕ → ℕ → ℕ → List ℕ → ℕ → Answer
 writing catalog map index number path raw =
     elim (finding catalog map index number path) [
       | Finding.refused n place ↦ refused n place
       | Finding.nothing ↦ refused 31 0
-      | Finding.found r ↦ elim (refusal r raw) [ some n ↦ refused n 0 | none ↦ written (rewritten r raw map) ]
+      | Finding.found r ↦ writingTo r raw map
     ]
 
 -- The map behind an answer: a refusal changes nothing.

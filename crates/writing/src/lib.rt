@@ -18,7 +18,7 @@ ghost use Rattle.values.specs.Registers.{split, tooWide};
 ghost use Rattle.values.specs.Classes.{classified, isValue};
 ghost use Rattle.writing.specs.Writing as Writings;
 ghost use Rattle.writing.specs.Answers.{answer};
-ghost use Rattle.writing.specs.Promises.{recordOf, answerTo, refusalForm};
+ghost use Rattle.writing.specs.Promises.{targetRecord, refusalForm};
 
 // What `write` answers: that the point is written, or the number of a refusal and its place.
 pub enum Written {
@@ -59,8 +59,8 @@ pub fn write(
 // Writes a raw value to a point that was found.
 fn write_to(map: &mut [u16], target: Target, raw: u64) -> Written
     requires { ⌜ target .address + target .size ≤ length (now map) ⌝ }
-    ensures { λ r. ⌜ answer r ≡ Writings.told (answerTo (recordOf target) raw (now (map .entry))) ⌝ }
-    ensures { λ _. ⌜ now (map .exit) ≡ Writings.mapBehind (answerTo (recordOf target) raw (now (map .entry))) (now (map .entry)) ⌝ }
+    ensures { λ r. ⌜ answer r ≡ Writings.told (Writings.writingTo (targetRecord target) raw (now (map .entry))) ⌝ }
+    ensures { λ _. ⌜ now (map .exit) ≡ Writings.mapBehind (Writings.writingTo (targetRecord target) raw (now (map .entry))) (now (map .entry)) ⌝ }
 {
     let verdict = judge(target, raw);
     match verdict {
@@ -74,7 +74,7 @@ fn write_to(map: &mut [u16], target: Target, raw: u64) -> Written
 
 // 32 to 35, in order.
 fn judge(target: Target, raw: u64) -> Verdict
-    ensures { λ r. ⌜ refusalForm r ≡ Writings.refusal (recordOf target) raw ⌝ }
+    ensures { λ r. ⌜ refusalForm r ≡ Writings.refusal (targetRecord target) raw ⌝ }
 {
     let read_only = target.access == READ_ONLY;
     let unimplemented = is_unimplemented(target.type_code, target.raw);
@@ -136,7 +136,7 @@ fn register_of(raw: u64, behind: usize) -> u16
     (raw / power(behind) % 0x10000) as u16
 }
 
-// What a one in the register counts that has so many behind it.
+// The weight of a register that has so many behind it: 65536 to that power.
 fn power(behind: usize) -> u64
     requires { ⌜ behind ≤ 3 ⌝ }
     ensures { λ r. ⌜ r ≡ 65536 ^ behind ⌝ }
