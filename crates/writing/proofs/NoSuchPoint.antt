@@ -1,5 +1,5 @@
 -- 31 is honest: a point that listing shows is never refused as missing, and where 31 is the answer no record is that point's.
-use mathlib.Core.Path.{_≡_, sym, _∙_}
+use mathlib.Core.Path.{_≡_, sym, subst, _∙_}
 use mathlib.Core.Bool.{false}
 use mathlib.Core.List.{List}
 use Prim.Native.Nat.{ℕ}
@@ -19,12 +19,14 @@ use Rattle.writing.proofs.WritingCases.{Case, listingRefused, noPoint, 
 use Rattle.writing.proofs.WritingCases.{finding-found, records-number, refusal-number}
 use Rattle.writing.proofs.OneRecord.{own-found}
 
--- There is no such point: of all records that the map has, none is that of the point asked for.
+-- There is no such point: of all records that the map has, and so of those that a listing shows, none is that of the point asked for.
 pub record Missing (catalog map : List ℕ) (index number : ℕ) (path : List ℕ) : Type 0 where
   pub records : List Record
   pub headers : ℕ
   pub all : allRecords catalog map ≡ listed records headers
   pub none : Each (λ r. isRecord index number path r ≡ false) records
+  pub unlisted : (room : ℕ) (rs : List Record) (n : ℕ) → listing catalog map room ≡ listed rs n
+      → Each (λ r. isRecord index number path r ≡ false) rs
 
 -- What is claimed of 31. A point that listing shows, with any room, is found by its index, number and path, and none else; so it
 -- is never refused so, whatever the raw value. And where a write is refused so, the place is 0 and there is no such point.
@@ -63,7 +65,20 @@ module _ (catalog map : List ℕ) where
       let same : n ≡ 31 = cc in
       absurd (omega arith)
   missing-case index number path raw place answer (noPoint {rs = rs} {headers = headers} q f) g =
-      (cc, record { records = rs; headers = headers; all = q; none = none-found (isRecord index number path) rs f })
+      let none = none-found (isRecord index number path) rs f in (
+        cc,
+        record {
+          records = rs;
+          headers = headers;
+          all = q;
+          none = none;
+          unlisted = λ room ss n e.
+              let same : listed rs headers ≡ listed ss n =
+              sym q ∙ walk-records catalog map (listed-walks catalog map room ss n e .0) in
+              let records : rs ≡ ss = cc in
+              subst (Each (λ r. isRecord index number path r ≡ false)) records none;
+        },
+      )
   missing-case index number path raw place answer (pointRefused {w = w} {n = n} q found why) f =
       let b = refusal-number w raw why in
       let same : n ≡ 31 = cc in

@@ -14,7 +14,7 @@ use Rattle.catalog.specs.Definitions.{Content, Definition, definitions}
 use Rattle.catalog.specs.Soundness.{In}
 use Rattle.register_map.specs.Scan.{totalSize, scan}
 use Rattle.listing.specs.Reading.{topOf}
-use Rattle.listing.specs.Listing.{Record, listed, allRecords}
+use Rattle.listing.specs.Listing.{Record, listed, allRecords, listing}
 use Rattle.listing.specs.Finding.{isRecord, firstWith}
 use Rattle.writing.specs.Writing.{written, writing}
 use Rattle.writing.specs.AfterWriting.{isScaleFactorOf, Holds, rescaled, RecordAfter, Pairwise}
@@ -22,7 +22,7 @@ use Rattle.listing.proofs.FirstFound.{found-in}
 use Rattle.writing.proofs.PairwiseLaws.{pairwise-at, pairwise-implied}
 use Rattle.writing.proofs.AfterCases.{after-elsewhere, after-here, after-scaled, after-unscaled}
 use Rattle.writing.proofs.RecordSources.{record-source}
-use Rattle.writing.proofs.ReadBack.{read-back}
+use Rattle.writing.proofs.ReadBack.{read-back, shown-after}
 
 -- A record r has become s by writing a raw value to the point of the record w, in a model with this top group. It keeps its
 -- index, id and address. One of another model is unchanged. One of the same model that is not w, by its address, is unchanged
@@ -37,7 +37,8 @@ pub record Change (top : Content) (w : Record) (raw : ℕ) (r s : Record) : Type
       → s ≡ record { index = r .index; id = r .id; address = r .address; point = rescaled raw (r .point) }
   pub holds : r .index ≡ w .index → r .address ≡ w .address → Holds raw (r .point) (s .point)
 
--- What an accepted write makes of the records: as many as before, in the same order, each changed so by the point that was found.
+-- What an accepted write makes of the records, and so of what a listing shows, whatever the room: as many as before, in the same
+-- order, each changed so by the point that was found.
 pub record OtherRecords (catalog map : List ℕ) (index number : ℕ) (path : List ℕ) (raw : ℕ) (new : List ℕ) : Type 0 where
   pub before : List Record
   pub after : List Record
@@ -49,6 +50,8 @@ pub record OtherRecords (catalog map : List ℕ) (index number : ℕ) (path : Li
   pub top : Content
   pub known : topOf (point .id) (definitions catalog) ≡ some top
   pub changes : Pairwise (Change top point raw) before after
+  pub shown : (room : ℕ) (rs : List Record) (n : ℕ) → listing catalog map room ≡ listed rs n
+      → (rs ≡ before) × (listing catalog new room ≡ listed after n)
 
 module _ (catalog map : List ℕ) (rs : List Record) (headers : ℕ) (all : allRecords catalog map ≡ listed rs headers) where
   -- A record's address, by its index and its offset.
@@ -133,6 +136,8 @@ module _ (catalog map : List ℕ) (index number : ℕ) (path : List ℕ) (raw : 
         known = t .1;
         changes = changes-of catalog map (b .before) (b .headers) (b .allBefore) (b .point) there raw (t .0) (t .1) (b .after)
             (b .pairs);
+        shown = λ room rs n l.
+            let s = shown-after catalog map index number path raw new b room rs n l in (s .0, s .2);
       }
 
   -- So with the records at any one position of the old and the new ones.

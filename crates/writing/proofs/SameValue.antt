@@ -1,15 +1,20 @@
 -- Writing the value that a point holds changes nothing.
-use mathlib.Core.Path.{_≡_, sym, ap, _∙_}
+use mathlib.Core.Path.{_≡_, refl, sym, ap, _∙_}
 use mathlib.Core.List.{List}
 use mathlib.Core.Option.{some}
 use Prim.Native.Nat.{ℕ}
 use Rattle.values.specs.Registers.{AreRegisters}
-use Rattle.listing.specs.Listing.{Record, listed, allRecords}
+use Rattle.catalog.specs.Soundness.{In}
+use Rattle.listing.specs.Listing.{Record, listed, allRecords, listing}
 use Rattle.listing.specs.Finding.{isRecord, firstWith}
+use Rattle.listing.proofs.ListingCases.{walk-records}
+use Rattle.listing.proofs.WalksBehind.{listed-walks}
 use Rattle.writing.specs.Writing.{rewritten, written, writing}
+use Rattle.writing.specs.AfterWriting.{pathOf}
 use Rattle.listing.proofs.FirstFound.{found-in}
 use Rattle.writing.proofs.StoredRegisters.{shown-stored}
 use Rattle.writing.proofs.WritingCases.{accepted-write, refusal-none}
+use Rattle.writing.proofs.OneRecord.{own-found}
 use Rattle.writing.proofs.RawValues.{record-inside, record-raw}
 
 -- In a map of 16-bit registers, an accepted write of the raw value that the point found has already gives the same map.
@@ -29,3 +34,14 @@ same-value catalog map index number path raw new registers e rs headers all w fo
     ∙ ap (λ r. rewritten r raw map) point
     ∙ shown-stored map registers (w .address) (w .point .definition .size) raw (record-inside catalog map rs headers all w there)
     (can .small) (sym holds ∙ record-raw catalog map rs headers all w there)
+
+-- So it is with a point that a listing shows, and the raw value that it shows.
+pub same-value-shown : (catalog map : List ℕ) (room : ℕ) (rs : List Record) (headers : ℕ) (new : List ℕ) → AreRegisters map
+    → listing catalog map room ≡ listed rs headers
+    → (r : Record) → In r rs
+    → writing catalog map (r .index) (r .point .definition .number) (pathOf (r .point)) (r .point .raw) ≡ written new
+    → new ≡ map
+same-value-shown catalog map room rs headers new registers e r there q =
+    let all = walk-records catalog map (listed-walks catalog map room rs headers e .0) in
+    same-value catalog map (r .index) (r .point .definition .number) (pathOf (r .point)) (r .point .raw) new registers q rs
+    headers all r (own-found catalog map rs headers all r there) refl

@@ -1,10 +1,8 @@
 -- What private functions promise each other.
-use mathlib.Core.List.{List}
 use mathlib.Core.Option.{Option, none, some}
 use Prim.Native.Nat.{ℕ}
 use Rattle.listing.specs.Listing.{Record}
 use Rattle.listing.specs.declared.search.Target.{Target}
-use Rattle.writing.specs.Writing.{refusal, rewritten, Answer, refused, written}
 use Rattle.writing.specs.declared.Verdict.{Verdict}
 
 -- A record with what `find` tells of one; a write asks for nothing else.
