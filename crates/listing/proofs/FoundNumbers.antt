@@ -25,7 +25,7 @@ use Rattle.listing.specs.Reading.{Reading, unknown, faulty, points, read
 use Rattle.listing.specs.Listing.{Record, recordOf, listed, walk, walked, allRecords}
 use Rattle.listing.specs.Listing as Listing
 use Rattle.listing.specs.Finding.{firstWith, isRecord, Finding, refused, nothing, found, finding, Told, refusedTold, nothingTold, foundTold, told}
-use Rattle.listing.specs.Promises.{foundNumbers, foundIn, NarrowFound, toldBy}
+use Rattle.listing.specs.Promises.{foundNumbers, foundIn, NarrowFound, targetIn, toldBy}
 use Rattle.listing.specs.declared.records.Sought.{Sought}
 use Rattle.listing.proofs.EachLaws.{each-append, each-one}
 use Rattle.listing.proofs.FirstFound.{found-in}
@@ -138,14 +138,14 @@ module _ (found : List ℕ) where
   pub told-nothing : getD found 0 0 ≡ 0 → nothingTold ≡ toldBy found
   told-nothing e = sym (ap {B = Told} (λ b. elim b [
     | true ↦ nothingTold
-    | false ↦ foundTold (getD found 1 0) (getD found 2 0) (getD found 3 0) (getD found 4 0) (getD found 5 0)
+    | false ↦ foundTold (targetIn found)
   ]) (eq-eqb (getD found 0 0) 0 e))
 
   pub told-found : (getD found 0 0 ≡ 0 → ⊥)
-      → foundTold (getD found 1 0) (getD found 2 0) (getD found 3 0) (getD found 4 0) (getD found 5 0) ≡ toldBy found
+      → foundTold (targetIn found) ≡ toldBy found
   told-found n = sym (ap {B = Told} (λ b. elim b [
     | true ↦ nothingTold
-    | false ↦ foundTold (getD found 1 0) (getD found 2 0) (getD found 3 0) (getD found 4 0) (getD found 5 0)
+    | false ↦ foundTold (targetIn found)
   ]) (ne-eqb (getD found 0 0) 0 n))
 
 -- What is told by a search of all records is what finding comes to.

@@ -10,6 +10,7 @@ use Rattle.listing.specs.Walks.{heldAt, Surveyed, surveyedUnknown, surve
 use Rattle.listing.specs.declared.Listing as Code
 use Rattle.listing.specs.Finding as Finding
 use Rattle.listing.specs.declared.search.Finding as CodeFinding
+use Rattle.listing.specs.declared.search.Target.{Target}
 use Rattle.listing.specs.declared.frames.PointOr.{PointOr}
 use Rattle.listing.specs.declared.frames.GroupOr.{GroupOr}
 use Rattle.listing.specs.declared.frames.Found.{Found}
@@ -20,10 +21,14 @@ abbrev pub answer : Code.Listing → Listing.Told
 answer (Code.Listing.Listed points headers) = Listing.listedTold points headers
 answer (Code.Listing.Refused number place headers) = Listing.refusedTold number place headers
 
+-- A point that `find` tells of.
+abbrev pub targetForm : Target → Finding.Target
+targetForm t =
+    record { address = t .address; typeCode = t .«type_code»; size = t .size; access = t .access; raw = t .raw }
+
 -- The answer of `find`.
 abbrev pub findingForm : CodeFinding.Finding → Finding.Told
-findingForm (CodeFinding.Finding.Found t) =
-    Finding.foundTold (t .address) (t .«type_code») (t .size) (t .access) (t .raw)
+findingForm (CodeFinding.Finding.Found t) = Finding.foundTold (targetForm t)
 findingForm CodeFinding.Finding.Nothing = Finding.nothingTold
 findingForm (CodeFinding.Finding.Refused number place) = Finding.refusedTold number place
 

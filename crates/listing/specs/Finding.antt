@@ -40,16 +40,31 @@ finding catalog map index number path =
       | Listing.listed rs headers ↦ elim (firstWith (isRecord index number path) rs) [ none ↦ nothing | some r ↦ found r ]
     ]
 
--- What is told of a record that is found: its address, its type, size and access by the catalog, and its raw value.
+-- What a write asks of a record: its address, its type, size and access by the catalog, and its raw value.
+pub record Target : Type 0 where
+  pub address : ℕ
+  pub typeCode : ℕ
+  pub size : ℕ
+  pub access : ℕ
+  pub raw : ℕ
+
+abbrev pub targetOf : Record → Target
+targetOf r =
+    record {
+      address = r .address;
+      typeCode = r .point .definition .typeCode;
+      size = r .point .definition .size;
+      access = r .point .definition .access;
+      raw = r .point .raw;
+    }
+
+-- What is told of what finding comes to: of a record only what a write asks of it.
 pub data Told : Type 0 where
   refusedTold : ℕ → ℕ → Told
   nothingTold : Told
-  foundTold : ℕ → ℕ → ℕ → ℕ → ℕ → Told
+  foundTold : Target → Told
 
--- What is told of what it comes to.
 abbrev pub told : Finding → Told
 told (refused n place) = refusedTold n place
 told nothing = nothingTold
-told (found r) =
-    foundTold (r .address) (r .point .definition .typeCode) (r .point .definition .size) (r .point .definition .access)
-    (r .point .raw)
+told (found r) = foundTold (targetOf r)

@@ -222,10 +222,21 @@ pub record NarrowFound (found : List ℕ) : Type 0 where
   pub size : getD found 3 0 ≤ 65535
   pub access : getD found 4 0 ≤ 65535
 
+-- The point that a search tells of by its numbers.
+abbrev pub targetIn : List ℕ → Finding.Target
+targetIn found =
+    record {
+      address = getD found 1 0;
+      typeCode = getD found 2 0;
+      size = getD found 3 0;
+      access = getD found 4 0;
+      raw = getD found 5 0;
+    }
+
 -- What is told by the numbers that a search wrote.
 abbrev pub toldBy : List ℕ → Finding.Told
 toldBy found =
     elim (eqb (getD found 0 0) 0) [
       | true ↦ Finding.nothingTold
-      | false ↦ Finding.foundTold (getD found 1 0) (getD found 2 0) (getD found 3 0) (getD found 4 0) (getD found 5 0)
+      | false ↦ Finding.foundTold (targetIn found)
     ]

@@ -1,5 +1,5 @@
 -- The point that `find` tells of: its record, where it lies, and what writing to it comes to.
-use mathlib.Core.Path.{_≡_, refl, sym, ap, _∙_}
+use mathlib.Core.Path.{_≡_, refl, sym, ap, subst, _∙_}
 use mathlib.Core.List.{List}
 use mathlib.Core.Option.{Option, none, some}
 use Prim.Native.Nat.{ℕ, _+_, _≤_}
@@ -9,59 +9,41 @@ use lib.Seq.{sets}
 use Rattle.values.specs.Registers.{split}
 use Rattle.listing.specs.Listing.{Record, allRecords}
 use Rattle.listing.specs.Listing as Listing
-use Rattle.listing.specs.Finding.{isRecord, firstWith, finding}
+use Rattle.listing.specs.Finding.{isRecord, firstWith, finding, Target, targetOf}
 use Rattle.listing.specs.Finding as Finding
-use Rattle.listing.specs.declared.search.Target.{Target}
 use Rattle.writing.specs.Writing.{refusal, rewritten, Answer, refused, written, writingTo, writing, refusedTold, writtenTold, told, mapBehind}
-use Rattle.writing.specs.Promises.{targetRecord}
 use Rattle.listing.proofs.FirstFound.{found-in}
 use Rattle.writing.proofs.RawValues.{record-inside}
 
 -- ---- Writing to a point
 
-module _ (r : Record) (raw : ℕ) (map : List ℕ) where
+module _ (t : Target) (raw : ℕ) (map : List ℕ) where
   -- It is refused.
-  pub refuses : {n : ℕ} → some n ≡ refusal r raw
-      → (refusedTold n 0 ≡ told (writingTo r raw map)) × (map ≡ mapBehind (writingTo r raw map) map)
+  pub refuses : {n : ℕ} → some n ≡ refusal t raw
+      → (refusedTold n 0 ≡ told (writingTo t raw map)) × (map ≡ mapBehind (writingTo t raw map) map)
   refuses {n} e =
-      let a : writingTo r raw map ≡ refused n 0 =
-      sym (ap {B = Answer} (λ o. elim o [ some n ↦ refused n 0 | none ↦ written (rewritten r raw map) ]) e) in
+      let a : writingTo t raw map ≡ refused n 0 =
+      sym (ap {B = Answer} (λ o. elim o [ some n ↦ refused n 0 | none ↦ written (rewritten t raw map) ]) e) in
       (sym (ap told a), sym (ap (λ x. mapBehind x map) a))
 
   -- It takes the value.
-  pub takes : {new : List ℕ} → none ≡ refusal r raw
-      → new ≡ sets map (r .address) (split (r .point .definition .size) raw)
-      → (writtenTold ≡ told (writingTo r raw map)) × (new ≡ mapBehind (writingTo r raw map) map)
+  pub takes : {new : List ℕ} → none ≡ refusal t raw
+      → new ≡ sets map (t .address) (split (t .size) raw)
+      → (writtenTold ≡ told (writingTo t raw map)) × (new ≡ mapBehind (writingTo t raw map) map)
   unfolding rewritten
   takes e w =
-      let a : writingTo r raw map ≡ written (rewritten r raw map) =
-      sym (ap {B = Answer} (λ o. elim o [ some n ↦ refused n 0 | none ↦ written (rewritten r raw map) ]) e) in
+      let a : writingTo t raw map ≡ written (rewritten t raw map) =
+      sym (ap {B = Answer} (λ o. elim o [ some n ↦ refused n 0 | none ↦ written (rewritten t raw map) ]) e) in
       (sym (ap told a), w ∙ sym (ap (λ x. mapBehind x map) a))
 
--- ---- The record of a target
-
--- What is told of a record by numbers.
-abbrev tells : Target → Finding.Told
-tells t = Finding.foundTold (t .address) (t .«type_code») (t .size) (t .access) (t .raw)
-
--- A write asks no more of a record than is told of it.
-same-answer : (w : Record) (t : Target) → tells t ≡ Finding.told (Finding.found w) → (raw : ℕ) (map : List ℕ)
-    → writingTo (targetRecord t) raw map ≡ writingTo w raw map
-unfolding refusal rewritten
-same-answer w t e raw map =
-    let address : t .address ≡ w .address = cc in
-    let typeCode : t .«type_code» ≡ w .point .definition .typeCode = cc in
-    let size : t .size ≡ w .point .definition .size = cc in
-    let access : t .access ≡ w .point .definition .access = cc in
-    let present : t .raw ≡ w .point .raw = cc in
-    rw (address, typeCode, size, access, present)
+-- ---- What is told
 
 -- A target that is told is that of a record.
-told-record : (f : Finding.Finding) (t : Target) → tells t ≡ Finding.told f
-    → (w : Record) × (f ≡ Finding.found w) × (tells t ≡ Finding.told (Finding.found w))
+told-record : (f : Finding.Finding) (t : Target) → Finding.foundTold t ≡ Finding.told f
+    → (w : Record) × (f ≡ Finding.found w) × (t ≡ targetOf w)
 told-record (Finding.refused n place) t e = let z : _≡_ {A = ℕ} 0 1 = cc in absurd (omega arith)
 told-record Finding.nothing t e = let z : _≡_ {A = ℕ} 0 1 = cc in absurd (omega arith)
-told-record (Finding.found w) t e = (w, refl, e)
+told-record (Finding.found w) t e = (w, refl, cc)
 
 -- The other answers.
 told-nothing : (f : Finding.Finding) → Finding.nothingTold ≡ Finding.told f → f ≡ Finding.nothing
@@ -97,25 +79,22 @@ module _ (catalog map : List ℕ) (index number : ℕ) (path : List ℕ) (raw : 
       let a : all ≡ refused 31 0 = rw (told-nothing found e, writing) in
       (sym (ap told a), sym (ap (λ x. mapBehind x map) a))
 
-  by-found : (w : Record) → found ≡ Finding.found w → all ≡ writingTo w raw map
+  by-found : (w : Record) → found ≡ Finding.found w → all ≡ writingTo (targetOf w) raw map
   unfolding writing
   by-found w f = rw (f, writing)
 
-  module _ (t : Target) (e : tells t ≡ Finding.told found) where
+  module _ (t : Target) (e : Finding.foundTold t ≡ Finding.told found) where
     -- What writing to the target comes to is what writing comes to.
-    pub writing-found : writingTo (targetRecord t) raw map ≡ all
+    pub writing-found : writingTo t raw map ≡ all
     writing-found =
-        let r = told-record found t e in same-answer (r .0) t (r .2) raw map ∙ sym (by-found (r .0) (r .1))
+        let r = told-record found t e in ap (λ x. writingTo x raw map) (r .2) ∙ sym (by-found (r .0) (r .1))
 
     -- Its registers lie in the map.
     pub target-inside : t .address + t .size ≤ length map
     unfolding finding
     target-inside =
         let r = told-record found t e in
-        let w = r .0 in
-        let address : t .address ≡ w .address = cc in
-        let size : t .size ≡ w .point .definition .size = cc in
-        omega (arith, address, size, inside w (r .1))
+        subst (λ (x : Target). x .address + x .size ≤ length map) (sym (r .2)) (inside (r .0) (r .1))
       where
         by-record : (w : Record) (rs : List Record) (headers : ℕ) → allRecords catalog map ≡ Listing.listed rs headers
             → (o : Option Record) → firstWith (isRecord index number path) rs ≡ o

@@ -15,7 +15,7 @@ use Rattle.register_map.specs.Scan.{sizeOf, marked, scan}
 use Rattle.listing.specs.Points.{ModelPoint}
 use Rattle.listing.specs.Reading.{points, topOf, reading}
 use Rattle.listing.specs.Listing.{Record, recordOf, listed, walk, allRecords}
-use Rattle.listing.specs.Finding.{isRecord, firstWith}
+use Rattle.listing.specs.Finding.{isRecord, firstWith, targetOf}
 use Rattle.listing.proofs.ListingCases.{records-walk, walk-records}
 use Rattle.listing.proofs.WalksBehind.{headers-walked}
 use Rattle.writing.specs.Writing.{refusal, rewritten}
@@ -56,10 +56,10 @@ module _ (ds : List Definition) (w : Record) (raw : ℕ) where
       }
 
 module _ (catalog map : List ℕ) (rs : List Record) (headers : ℕ)
-    (all : allRecords catalog map ≡ listed rs headers) (w : Record) (there : In w rs) (raw : ℕ) (can : Writable w raw) where
+    (all : allRecords catalog map ≡ listed rs headers) (w : Record) (there : In w rs) (raw : ℕ) (can : Writable (targetOf w) raw) where
   -- For any writable record of the map, the records are listed as before, each as writing makes it.
   records-after : (ss : List Record)
-      × (allRecords catalog (rewritten w raw map) ≡ listed ss headers)
+      × (allRecords catalog (rewritten (targetOf w) raw map) ≡ listed ss headers)
       × Pairwise (RecordAfter (definitions catalog) w raw) rs ss
   unfolding rewritten
   records-after =
@@ -109,10 +109,10 @@ module _ (catalog map : List ℕ) (rs : List Record) (headers : ℕ)
 -- So it is for the record that is found and not refused.
 pub map-after : (catalog map : List ℕ) (rs : List Record) (headers : ℕ) → allRecords catalog map ≡ listed rs headers
     → (index number : ℕ) (path : List ℕ) (w : Record) → firstWith (isRecord index number path) rs ≡ some w
-    → (raw : ℕ) → refusal w raw ≡ none
+    → (raw : ℕ) → refusal (targetOf w) raw ≡ none
     → (ss : List Record)
-    × (allRecords catalog (rewritten w raw map) ≡ listed ss headers)
+    × (allRecords catalog (rewritten (targetOf w) raw map) ≡ listed ss headers)
     × Pairwise (RecordAfter (definitions catalog) w raw) rs ss
 map-after catalog map rs headers all index number path w found raw accepted =
     records-after catalog map rs headers all w (found-in (isRecord index number path) rs w found .0) raw
-    (refusal-none w raw accepted)
+    (refusal-none (targetOf w) raw accepted)

@@ -7,7 +7,7 @@ use native.Mathlib.Omega.{arith}
 use Rattle.values.specs.Each.{Each}
 use Rattle.catalog.specs.Soundness.{In}
 use Rattle.listing.specs.Listing.{Record, listed, allRecords, listing}
-use Rattle.listing.specs.Finding.{isRecord, finding}
+use Rattle.listing.specs.Finding.{isRecord, finding, targetOf}
 use Rattle.listing.specs.Finding as Finding
 use Rattle.listing.proofs.WalkSteps.{not-listed}
 use Rattle.listing.proofs.WalksBehind.{listed-walks}
@@ -51,7 +51,7 @@ module _ (catalog map : List ℕ) where
       let same : ss ≡ rs = cc in
       not-none (sym (rw same at f) ∙ own-found catalog map rs _ e r i)
   found-case r raw place e i answer (pointRefused {w = w} {n = n} q found why) f =
-      let b = refusal-number w raw why in
+      let b = refusal-number (targetOf w) raw why in
       let same : n ≡ 31 = cc in
       omega arith
   found-case r raw place e i answer (pointWritten q found why) f = let z : _≡_ {A = ℕ} 0 1 = cc in absurd (omega arith)
@@ -80,7 +80,7 @@ module _ (catalog map : List ℕ) where
         },
       )
   missing-case index number path raw place answer (pointRefused {w = w} {n = n} q found why) f =
-      let b = refusal-number w raw why in
+      let b = refusal-number (targetOf w) raw why in
       let same : n ≡ 31 = cc in
       absurd (omega arith)
   missing-case index number path raw place answer (pointWritten q found why) f =

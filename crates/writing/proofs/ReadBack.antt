@@ -10,7 +10,7 @@ use lib.Seq.{length-sets}
 use Rattle.values.specs.Registers.{split}
 use Rattle.catalog.specs.Definitions.{definitions}
 use Rattle.listing.specs.Listing.{Record, listed, allRecords, withRoom, listing}
-use Rattle.listing.specs.Finding.{isRecord, firstWith}
+use Rattle.listing.specs.Finding.{isRecord, firstWith, targetOf}
 use Rattle.listing.proofs.ListingCases.{with-room, listing-records, walk-records}
 use Rattle.listing.proofs.WalksBehind.{listed-walks}
 use Rattle.writing.specs.Writing.{refusal, rewritten, written, writing}
@@ -30,8 +30,8 @@ pub record ReadBack (catalog map : List ℕ) (index number : ℕ) (path : List �
   pub allBefore : allRecords catalog map ≡ listed before headers
   pub point : Record
   pub found : firstWith (isRecord index number path) before ≡ some point
-  pub accepted : refusal point raw ≡ none
-  pub rewrites : new ≡ rewritten point raw map
+  pub accepted : refusal (targetOf point) raw ≡ none
+  pub rewrites : new ≡ rewritten (targetOf point) raw map
   pub after : List Record
   pub allAfter : allRecords catalog new ≡ listed after headers
   pub pairs : Pairwise (RecordAfter (definitions catalog) point raw) before after
@@ -48,13 +48,13 @@ pub record ReadBack (catalog map : List ℕ) (index number : ℕ) (path : List �
 
 module _ (w : Record) (raw : ℕ) (map : List ℕ) where
   -- The map stays as long as it was,
-  rewritten-length : length (rewritten w raw map) ≡ length map
+  rewritten-length : length (rewritten (targetOf w) raw map) ≡ length map
   unfolding rewritten
   rewritten-length = length-sets map (w .address) (split (w .point .definition .size) raw)
 
   -- and only the registers of the point are written.
   rewritten-outside : (k : ℕ) → (k < w .address) ⊎ (w .address + w .point .definition .size ≤ k)
-      → getD (rewritten w raw map) k 0 ≡ getD map k 0
+      → getD (rewritten (targetOf w) raw map) k 0 ≡ getD map k 0
   unfolding rewritten
   rewritten-outside k h =
       let size = w .point .definition .size in

@@ -6,7 +6,7 @@ use Prim.Native.Nat.{ℕ}
 use lib.Dec.{eqb, ltb}
 use Rattle.values.specs.Classes.{classified}
 use Rattle.catalog.specs.Frames.{readOnly}
-use Rattle.listing.specs.Listing.{Record}
+use Rattle.listing.specs.Finding.{Target}
 use Rattle.writing.specs.Writing.{isUnimplemented, canHold, refusal}
 
 -- By what the tests of 32, 33, 34 and 35 come out as.
@@ -20,45 +20,45 @@ byTests readable wide missing held =
       ]
     ]
 
-module _ (r : Record) (raw : ℕ) where
+module _ (t : Target) (raw : ℕ) where
   abbrev access : Bool
-  access = eqb (r .point .definition .access) readOnly
+  access = eqb (t .access) readOnly
 
   abbrev wide : Bool
-  wide = ltb 4 (r .point .definition .size)
+  wide = ltb 4 (t .size)
 
   abbrev missing : Bool
-  missing = isUnimplemented (classified (r .point .definition .typeCode) (r .point .raw))
+  missing = isUnimplemented (classified (t .typeCode) (t .raw))
 
   abbrev held : Bool
-  held = canHold (r .point .definition) raw
+  held = canHold (t .typeCode) (t .size) raw
 
-  by-tests : byTests access wide missing held ≡ refusal r raw
+  by-tests : byTests access wide missing held ≡ refusal t raw
   unfolding refusal
   by-tests = refl
 
   -- 32.
-  pub access-refuses : access ≡ true → some 32 ≡ refusal r raw
+  pub access-refuses : access ≡ true → some 32 ≡ refusal t raw
   access-refuses a = sym (ap (λ b. byTests b wide missing held) a) ∙ by-tests
 
   module _ (a : access ≡ false) where
-    past-access : byTests false wide missing held ≡ refusal r raw
+    past-access : byTests false wide missing held ≡ refusal t raw
     past-access = sym (ap (λ b. byTests b wide missing held) a) ∙ by-tests
 
     -- 33.
-    pub size-refuses : wide ≡ true → some 33 ≡ refusal r raw
+    pub size-refuses : wide ≡ true → some 33 ≡ refusal t raw
     size-refuses w = sym (ap (λ b. byTests false b missing held) w) ∙ past-access
 
     module _ (w : wide ≡ false) where
-      past-size : byTests false false missing held ≡ refusal r raw
+      past-size : byTests false false missing held ≡ refusal t raw
       past-size = sym (ap (λ b. byTests false b missing held) w) ∙ past-access
 
       -- 34.
-      pub present-refuses : missing ≡ true → some 34 ≡ refusal r raw
+      pub present-refuses : missing ≡ true → some 34 ≡ refusal t raw
       present-refuses m = sym (ap (λ b. byTests false false b held) m) ∙ past-size
 
       module _ (m : missing ≡ false) where
         -- 35, or none.
-        pub value-decides : {b : Bool} → held ≡ b → byTests false false false b ≡ refusal r raw
+        pub value-decides : {b : Bool} → held ≡ b → byTests false false false b ≡ refusal t raw
         value-decides h =
             sym (ap (λ b. byTests false false b held) m ∙ ap (λ b. byTests false false false b) h) ∙ past-size

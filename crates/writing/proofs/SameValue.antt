@@ -6,7 +6,7 @@ use Prim.Native.Nat.{ℕ}
 use Rattle.values.specs.Registers.{AreRegisters}
 use Rattle.catalog.specs.Soundness.{In}
 use Rattle.listing.specs.Listing.{Record, listed, allRecords, listing}
-use Rattle.listing.specs.Finding.{isRecord, firstWith}
+use Rattle.listing.specs.Finding.{isRecord, firstWith, targetOf}
 use Rattle.listing.proofs.ListingCases.{walk-records}
 use Rattle.listing.proofs.WalksBehind.{listed-walks}
 use Rattle.writing.specs.Writing.{rewritten, written, writing}
@@ -28,10 +28,10 @@ same-value catalog map index number path raw new registers e rs headers all w fo
     let a = accepted-write catalog map index number path raw new e in
     let records : a .records ≡ rs = cc in
     let point : a .point ≡ w = cc in
-    let can = refusal-none w raw (rw point at (a .accepted)) in
+    let can = refusal-none (targetOf w) raw (rw point at (a .accepted)) in
     let there = found-in (isRecord index number path) rs w found .0 in
     a .rewrites
-    ∙ ap (λ r. rewritten r raw map) point
+    ∙ ap (λ r. rewritten (targetOf r) raw map) point
     ∙ shown-stored map registers (w .address) (w .point .definition .size) raw (record-inside catalog map rs headers all w there)
     (can .small) (sym holds ∙ record-raw catalog map rs headers all w there)
 

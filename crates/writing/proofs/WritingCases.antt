@@ -12,7 +12,7 @@ use Rattle.values.proofs.TestOutcomes.{by-test}
 use Rattle.catalog.specs.Frames.{readOnly}
 use Rattle.listing.specs.Listing.{Record, allRecords, withRoom, listing}
 use Rattle.listing.specs.Listing as Listing
-use Rattle.listing.specs.Finding.{isRecord, firstWith, finding}
+use Rattle.listing.specs.Finding.{isRecord, firstWith, finding, Target, targetOf}
 use Rattle.listing.specs.Finding as Finding
 use Rattle.listing.proofs.RefusalNumbers.{Between, catalog-number, opening-number}
 use Rattle.listing.proofs.WalkSteps.{not-listed}
@@ -29,11 +29,11 @@ pub data Case (catalog map : List ℕ) (index number : ℕ) (path : List ℕ) (r
   noPoint : {rs : List Record} {headers : ℕ} → allRecords catalog map ≡ Listing.listed rs headers
       → firstWith (isRecord index number path) rs ≡ none → Case catalog map index number path raw (refused 31 0)
   pointRefused : {rs : List Record} {headers : ℕ} {w : Record} {n : ℕ} → allRecords catalog map ≡ Listing.listed rs headers
-      → firstWith (isRecord index number path) rs ≡ some w → refusal w raw ≡ some n
+      → firstWith (isRecord index number path) rs ≡ some w → refusal (targetOf w) raw ≡ some n
       → Case catalog map index number path raw (refused n 0)
   pointWritten : {rs : List Record} {headers : ℕ} {w : Record} → allRecords catalog map ≡ Listing.listed rs headers
-      → firstWith (isRecord index number path) rs ≡ some w → refusal w raw ≡ none
-      → Case catalog map index number path raw (written (rewritten w raw map))
+      → firstWith (isRecord index number path) rs ≡ some w → refusal (targetOf w) raw ≡ none
+      → Case catalog map index number path raw (written (rewritten (targetOf w) raw map))
 
 module _ (catalog map : List ℕ) (index number : ℕ) (path : List ℕ) where
   -- What finding comes to where listing is refused,
@@ -71,13 +71,13 @@ module _ (catalog map : List ℕ) (index number : ℕ) (path : List ℕ) where
     -- or a record.
     answer-found : {w : Record} → finding catalog map index number path ≡ Finding.found w
         → writing catalog map index number path raw
-        ≡ elim (refusal w raw) [ some n ↦ refused n 0 | none ↦ written (rewritten w raw map) ]
+        ≡ elim (refusal (targetOf w) raw) [ some n ↦ refused n 0 | none ↦ written (rewritten (targetOf w) raw map) ]
     unfolding writing
     answer-found f = rw (f, writing)
 
     -- How the answer is reached: by the refusal of the point,
     by-refusal : {rs : List Record} {headers : ℕ} (w : Record) → allRecords catalog map ≡ Listing.listed rs headers
-        → firstWith (isRecord index number path) rs ≡ some w → (o : Option ℕ) → refusal w raw ≡ o
+        → firstWith (isRecord index number path) rs ≡ some w → (o : Option ℕ) → refusal (targetOf w) raw ≡ o
         → Case catalog map index number path raw (writing catalog map index number path raw)
     by-refusal w e f none q = rw (answer-found (finding-found e f), q) (pointWritten e f q)
     by-refusal w e f (some n) q = rw (answer-found (finding-found e f), q) (pointRefused e f q)
@@ -87,7 +87,7 @@ module _ (catalog map : List ℕ) (index number : ℕ) (path : List ℕ) where
         → firstWith (isRecord index number path) rs ≡ o
         → Case catalog map index number path raw (writing catalog map index number path raw)
     by-found e none f = rw (answer-nothing (finding-nothing e f)) (noPoint e f)
-    by-found e (some w) f = by-refusal w e f (refusal w raw) refl
+    by-found e (some w) f = by-refusal w e f (refusal (targetOf w) raw) refl
 
     -- and by the records.
     by-records : (a : Listing.Answer) → allRecords catalog map ≡ a
@@ -122,39 +122,38 @@ module _ (catalog map : List ℕ) where
       (listing-records catalog map 0 ∙ ap (withRoom 0) e)
 
 -- A point that is not refused: it may be written, takes up to four registers, is implemented and can hold the raw value.
-pub record Writable (w : Record) (raw : ℕ) : Type 0 where
-  pub access : w .point .definition .access ≡ readOnly → ⊥
-  pub small : w .point .definition .size ≤ 4
-  pub given : isUnimplemented (classified (w .point .definition .typeCode) (w .point .raw)) ≡ false
-  pub holds : canHold (w .point .definition) raw ≡ true
+pub record Writable (t : Target) (raw : ℕ) : Type 0 where
+  pub access : t .access ≡ readOnly → ⊥
+  pub small : t .size ≤ 4
+  pub given : isUnimplemented (classified (t .typeCode) (t .raw)) ≡ false
+  pub holds : canHold (t .typeCode) (t .size) raw ≡ true
 
-module _ (w : Record) (raw : ℕ) where
+module _ (t : Target) (raw : ℕ) where
   -- What is known by the refusal: its number is 32 to 35, or the point is writable.
   abbrev Outcome : Option ℕ → Type 0
-  Outcome none = Writable w raw
+  Outcome none = Writable t raw
   Outcome (some n) = Between 32 35 n
 
   -- So it is.
-  outcome : Outcome (refusal w raw)
+  outcome : Outcome (refusal t raw)
   unfolding refusal
   outcome =
-      let p = w .point .definition in
-      by-test Outcome (eqb (p .access) readOnly) (λ _. (omega arith, omega arith)) (λ a.
-      by-test Outcome (ltb 4 (p .size)) (λ _. (omega arith, omega arith)) (λ s.
-      by-test Outcome (isUnimplemented (classified (p .typeCode) (w .point .raw))) (λ _. (omega arith, omega arith)) (λ g.
-      by-test Outcome (canHold p raw) (λ h. record {
-        access = eqb-false (p .access) readOnly a;
-        small = ltb-false 4 (p .size) s;
+      by-test Outcome (eqb (t .access) readOnly) (λ _. (omega arith, omega arith)) (λ a.
+      by-test Outcome (ltb 4 (t .size)) (λ _. (omega arith, omega arith)) (λ s.
+      by-test Outcome (isUnimplemented (classified (t .typeCode) (t .raw))) (λ _. (omega arith, omega arith)) (λ g.
+      by-test Outcome (canHold (t .typeCode) (t .size) raw) (λ h. record {
+        access = eqb-false (t .access) readOnly a;
+        small = ltb-false 4 (t .size) s;
         given = g;
         holds = h;
       }) (λ _. (omega arith, omega arith)))))
 
   -- Of a point that is refused,
-  pub refusal-number : {n : ℕ} → refusal w raw ≡ some n → Between 32 35 n
+  pub refusal-number : {n : ℕ} → refusal t raw ≡ some n → Between 32 35 n
   refusal-number e = rw e at outcome
 
   -- and of one that is not.
-  pub refusal-none : refusal w raw ≡ none → Writable w raw
+  pub refusal-none : refusal t raw ≡ none → Writable t raw
   refusal-none e = rw e at outcome
 
 -- ---- An accepted write
@@ -166,8 +165,8 @@ pub record Accepted (catalog map : List ℕ) (index number : ℕ) (path : List �
   pub all : allRecords catalog map ≡ Listing.listed records headers
   pub point : Record
   pub found : firstWith (isRecord index number path) records ≡ some point
-  pub accepted : refusal point raw ≡ none
-  pub rewrites : new ≡ rewritten point raw map
+  pub accepted : refusal (targetOf point) raw ≡ none
+  pub rewrites : new ≡ rewritten (targetOf point) raw map
 
 module _ (catalog map : List ℕ) (index number : ℕ) (path : List ℕ) (raw : ℕ) (new : List ℕ) where
   -- Only one way leads to a new map.

@@ -8,10 +8,9 @@ use lib.Seq.{sets}
 use Rattle.values.specs.Registers.{split, tooWide}
 use Rattle.values.specs.Classes.{value, unimplemented, outOfRange, Classified, ofClass, unknownType, classified, isValue}
 use Rattle.values.specs.Classes as Classes
-use Rattle.catalog.specs.Frames.{Point, readOnly}
-use Rattle.listing.specs.Listing.{Record}
+use Rattle.catalog.specs.Frames.{readOnly}
 use Rattle.listing.specs.Finding as Finding
-use Rattle.listing.specs.Finding.{finding}
+use Rattle.listing.specs.Finding.{finding, Target, targetOf}
 
 -- Is a raw number unimplemented, by its class?
 abbrev pub isUnimplemented : Classified → Bool
@@ -21,28 +20,28 @@ isUnimplemented (ofClass outOfRange) = false
 isUnimplemented Classes.tooWide = false
 isUnimplemented unknownType = false
 
--- Can a point hold a raw value? It is a value of the point's type, and not too wide for its registers.
-abbrev pub canHold : Point → ℕ → Bool
-canHold p raw = isValue (classified (p .typeCode) raw) && not (tooWide (p .size) raw)
+-- Can a point of a type and a size hold a raw value? It is a value of the type, and not too wide for the registers.
+abbrev pub canHold : ℕ → ℕ → ℕ → Bool
+canHold typeCode size raw = isValue (classified typeCode raw) && not (tooWide size raw)
 
 -- The refusals of a point that is found, in order. 32: its access is R. 33: it takes over four registers. 34: its present
--- registers are unimplemented. 35: the new value is unimplemented, out of range or too wide.
-unfoldable pub refusal : Record → ℕ → Option ℕ
-refusal r raw =
-    elim (eqb (r .point .definition .access) readOnly) [
+-- registers, joined, are unimplemented. 35: the new value is unimplemented, out of range or too wide.
+unfoldable pub refusal : Target → ℕ → Option ℕ
+refusal t raw =
+    elim (eqb (t .access) readOnly) [
       | true ↦ some 32
-      | false ↦ elim (ltb 4 (r .point .definition .size)) [
+      | false ↦ elim (ltb 4 (t .size)) [
         | true ↦ some 33
-        | false ↦ elim (isUnimplemented (classified (r .point .definition .typeCode) (r .point .raw))) [
+        | false ↦ elim (isUnimplemented (classified (t .typeCode) (t .raw))) [
           | true ↦ some 34
-          | false ↦ elim (canHold (r .point .definition) raw) [ true ↦ none | false ↦ some 35 ]
+          | false ↦ elim (canHold (t .typeCode) (t .size) raw) [ true ↦ none | false ↦ some 35 ]
         ]
       ]
     ]
 
 -- The map with a raw value in the registers of a point, the highest first. Only these change.
-unfoldable pub rewritten : Record → ℕ → List ℕ → List ℕ
-rewritten r raw map = sets map (r .address) (split (r .point .definition .size) raw)
+unfoldable pub rewritten : Target → ℕ → List ℕ → List ℕ
+rewritten t raw map = sets map (t .address) (split (t .size) raw)
 
 -- What writing comes to: a refusal with its place, or the new map.
 pub data Answer : Type 0 where
@@ -50,8 +49,8 @@ pub data Answer : Type 0 where
   written : List ℕ → Answer
 
 -- Writing a raw value to a point that is found. 32 to 35 have place 0.
-abbrev pub writingTo : Record → ℕ → List ℕ → Answer
-writingTo r raw map = elim (refusal r raw) [ some n ↦ refused n 0 | none ↦ written (rewritten r raw map) ]
+abbrev pub writingTo : Target → ℕ → List ℕ → Answer
+writingTo t raw map = elim (refusal t raw) [ some n ↦ refused n 0 | none ↦ written (rewritten t raw map) ]
 
 -- Writing a raw value to the point with a number at a path, in the model with an index. Listing's 1 to 29 come first, with
 -- their place. 31: there is no such point; its place is 0.
@@ -60,7 +59,7 @@ writing catalog map index number path raw =
     elim (finding catalog map index number path) [
       | Finding.refused n place ↦ refused n place
       | Finding.nothing ↦ refused 31 0
-      | Finding.found r ↦ writingTo r raw map
+      | Finding.found r ↦ writingTo (targetOf r) raw map
     ]
 
 -- The map behind an answer: a refusal changes nothing.

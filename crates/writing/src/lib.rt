@@ -10,15 +10,16 @@ use values::classify;
 use values::is_value;
 use values::too_wide;
 ghost use mathlib.Core.Path.{_≡_};
-ghost use mathlib.Core.Bool.{_&&_, not};
+ghost use mathlib.Core.Bool.{_&&_};
 ghost use Prim.Native.Nat.{_+_, _/_, _%_, _^_, _≤_};
 ghost use lib.ListN.{length};
 ghost use lib.Seq.{sets};
-ghost use Rattle.values.specs.Registers.{split, tooWide};
-ghost use Rattle.values.specs.Classes.{classified, isValue};
+ghost use Rattle.values.specs.Registers.{split};
+ghost use Rattle.values.specs.Classes.{classified};
+ghost use Rattle.listing.specs.Answers.{targetForm};
 ghost use Rattle.writing.specs.Writing as Writings;
 ghost use Rattle.writing.specs.Answers.{answer};
-ghost use Rattle.writing.specs.Promises.{targetRecord, refusalForm};
+ghost use Rattle.writing.specs.Promises.{refusalForm};
 
 // What `write` answers: that the point is written, or the number of a refusal and its place.
 pub enum Written {
@@ -59,8 +60,8 @@ pub fn write(
 // Writes a raw value to a point that was found.
 fn write_to(map: &mut [u16], target: Target, raw: u64) -> Written
     requires { ⌜ target .address + target .size ≤ length (now map) ⌝ }
-    ensures { λ r. ⌜ answer r ≡ Writings.told (Writings.writingTo (targetRecord target) raw (now (map .entry))) ⌝ }
-    ensures { λ _. ⌜ now (map .exit) ≡ Writings.mapBehind (Writings.writingTo (targetRecord target) raw (now (map .entry))) (now (map .entry)) ⌝ }
+    ensures { λ r. ⌜ answer r ≡ Writings.told (Writings.writingTo (targetForm target) raw (now (map .entry))) ⌝ }
+    ensures { λ _. ⌜ now (map .exit) ≡ Writings.mapBehind (Writings.writingTo (targetForm target) raw (now (map .entry))) (now (map .entry)) ⌝ }
 {
     let verdict = judge(target, raw);
     match verdict {
@@ -74,7 +75,7 @@ fn write_to(map: &mut [u16], target: Target, raw: u64) -> Written
 
 // 32 to 35, in order.
 fn judge(target: Target, raw: u64) -> Verdict
-    ensures { λ r. ⌜ refusalForm r ≡ Writings.refusal (targetRecord target) raw ⌝ }
+    ensures { λ r. ⌜ refusalForm r ≡ Writings.refusal (targetForm target) raw ⌝ }
 {
     let read_only = target.access == READ_ONLY;
     let unimplemented = is_unimplemented(target.type_code, target.raw);
@@ -111,7 +112,7 @@ fn is_unimplemented(type_code: u16, raw: u64) -> bool
 
 // Can a point hold a raw value? A string is as wide as its registers, and not as its type at its longest.
 fn can_hold(target: Target, raw: u64) -> bool
-    ensures { λ r. ⌜ r ≡ (isValue (classified (target .«type_code») raw) && not (tooWide (target .size) raw)) ⌝ }
+    ensures { λ r. ⌜ r ≡ Writings.canHold (target .«type_code») (target .size) raw ⌝ }
 {
     is_value(target.type_code, raw) && !too_wide(target.size, raw)
 }

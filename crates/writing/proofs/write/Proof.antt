@@ -1,6 +1,6 @@
 -- `writing::write` meets its contract: by what is found.
 use mathlib.Core.Path.{sym, ap, _∙_}
-use Rattle.listing.specs.Answers.{findingForm}
+use Rattle.listing.specs.Answers.{targetForm, findingForm}
 use Rattle.writing.specs.Writing.{told, mapBehind}
 use Rattle.writing.proofs.FoundTargets.{writing-refused, writing-nothing, writing-found, target-inside}
 use borrow.Author.Needs.{needs}
@@ -18,7 +18,7 @@ write-to-requires c κs =
     let v = c .before .before .before .before .before .before .before .before .args in
     let g = c .before .before .finding .given in
     let e = ap findingForm (sym (g .1)) ∙ c .before .before .before .before .find .ensures in
-    target-inside (v .catalog .now) (v .map .now) (v .model) (v .point) (v .path .instances) (v .raw) (g .0 .0) e
+    target-inside (v .catalog .now) (v .map .now) (v .model) (v .point) (v .path .instances) (v .raw) (targetForm (g .0 .0)) e
 
 enum-told : tie.Need-enum-told
 enum-told c = search needs
@@ -34,7 +34,7 @@ returns c =
     let v = c .before .before .before .before .before .before .before .before .before .before .before .args in
     let g = c .before .before .before .before .before .finding .given in
     let e = ap findingForm (sym (g .1)) ∙ c .before .before .before .before .before .before .before .find .ensures in
-    let a = writing-found (v .catalog .now) (v .map .now) (v .model) (v .point) (v .path .instances) (v .raw) (g .0 .0) e in
+    let a = writing-found (v .catalog .now) (v .map .now) (v .model) (v .point) (v .path .instances) (v .raw) (targetForm (g .0 .0)) e in
     let w = c .before .before .write-to .ensures in
     (w .0 ∙ ap told a, w .1 ∙ ap (λ x. mapBehind x (v .map .now)) a)
 

@@ -1,6 +1,7 @@
 -- `writing::write_to` meets its contract: by the verdict.
 use mathlib.Core.Path.{sym, ap, _∙_}
-use Rattle.writing.specs.Promises.{targetRecord, refusalForm}
+use Rattle.listing.specs.Answers.{targetForm}
+use Rattle.writing.specs.Promises.{refusalForm}
 use Rattle.writing.proofs.WritingCases.{refusal-none}
 use Rattle.writing.proofs.FoundTargets.{refuses, takes}
 use borrow.Author.Needs.{needs}
@@ -20,7 +21,7 @@ put-registers-requires : tie.Need-put-registers-requires
 put-registers-requires c κs =
     let s = c .before .before .before .before .before .before in
     let e = sym (c .before .before .before .before .judge .ensures) ∙ ap refusalForm (c .before .before .enum-told .given .1) in
-    (refusal-none (targetRecord (s .args .target)) (s .args .raw) e .small, s .pre)
+    (refusal-none (targetForm (s .args .target)) (s .args .raw) e .small, s .pre)
 
 enum-known-verdict : tie.Need-enum-known-verdict
 enum-known-verdict c = search needs
@@ -32,13 +33,13 @@ returns : tie.Need-returns
 returns c =
     let v = c .before .before .before .before .before .before .before .before .before .args in
     let e = ap refusalForm (sym (c .before .before .before .before .before .enum-told .given .1)) ∙ c .before .before .before .before .before .before .before .judge .ensures in
-    takes (targetRecord (v .target)) (v .raw) (v .map .now) e (c .before .before .put-registers .ensures)
+    takes (targetForm (v .target)) (v .raw) (v .map .now) e (c .before .before .put-registers .ensures)
 
 returns-2 : tie.Need-returns-2
 returns-2 c =
     let v = c .before .before .before .before .before .args in
     let e = ap refusalForm (sym (c .before .verdict .given .1)) ∙ c .before .before .before .judge .ensures in
-    refuses (targetRecord (v .target)) (v .raw) (v .map .now) e
+    refuses (targetForm (v .target)) (v .raw) (v .map .now) e
 
 pub write-to-spec : {M : Type 1} → statement M
 write-to-spec =
