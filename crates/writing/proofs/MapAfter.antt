@@ -74,7 +74,7 @@ module _ (catalog map : List ℕ) (rs : List Record) (headers : ℕ)
       let vs = split (p .definition .size) raw in
       let n = storedIn m (p .offset) vs in
       let a = model-after d (o .by .sound) (m .body) (o .all) (o .by .reads) p (o .holds) raw (can .access) (can .small)
-      (can .given) (can .holds) in
+      (can .implemented) (can .holds) in
       let qs = a .0 in
       let R = PointAfter (d .top) p raw in
       let Q = RecordAfter ds w raw in

@@ -1,8 +1,8 @@
 -- What a write makes of one model: its point holds the raw value, those that it scales are rescaled, all others stay.
 use mathlib.Core.Path.{_≡_, sym, ap, subst, _∙_}
 use mathlib.Core.Bool.{true, false}
-use mathlib.Core.List.{List, _++_}
-use Prim.Native.Nat.{ℕ, suc, _-_, _≤_}
+use mathlib.Core.List.{List}
+use Prim.Native.Nat.{ℕ, _-_, _≤_}
 use native.Mathlib.Omega.{arith}
 use borrow.Author.Tests.{eqb-true}
 use lib.Dec.{eqb}
@@ -14,19 +14,18 @@ use Rattle.values.specs.Classes.{classified}
 use Rattle.values.proofs.TestOutcomes.{both}
 use Rattle.catalog.specs.Frames.{Point, readOnly}
 use Rattle.catalog.specs.Rules.{isSizeOf}
-use Rattle.catalog.specs.Definitions.{Groups, noGroup, group, Definition, pointsSize}
-use Rattle.catalog.specs.Soundness.{In, SoundPoint, SoundGroups, SoundDefinition, ScaleResolves}
+use Rattle.catalog.specs.Definitions.{Definition, pointsSize}
+use Rattle.catalog.specs.Soundness.{In, SoundPoint, SoundDefinition, ScaleResolves}
 use Rattle.catalog.proofs.References.{points-resolve}
 use Rattle.listing.specs.Points.{ModelPoint, Scope}
 use Rattle.listing.specs.Layout.{nothing, topScope, countsOf, noInstance, pointsAt, groupsAt, contentAt}
 use Rattle.listing.specs.Reading.{points, allButLast, padLeftOut, readBy}
 use Rattle.listing.specs.Tiling.{lowerPoints, definedPoints}
-use Rattle.listing.proofs.EachLaws.{each-append, each-one, each-parts}
+use Rattle.listing.proofs.EachLaws.{each-one, each-parts}
 use Rattle.listing.proofs.InLaws.{in-front, in-behind}
 use Rattle.listing.proofs.OnePoint.{one-point}
 use Rattle.listing.proofs.LeftOutPad.{each-but-last, left-out}
 use Rattle.listing.proofs.IntoGroups.{definition-below}
-use Rattle.listing.proofs.Sizes.{points-sized}
 use Rattle.listing.proofs.ModelWriting.{Full, resolves-left}
 use Rattle.writing.specs.Writing.{isUnimplemented, canHold}
 use Rattle.writing.specs.AfterWriting.{depthIn, agreeTo, pathOf, PointAfter, Pairwise}
@@ -34,30 +33,12 @@ use Rattle.writing.proofs.PairwiseLaws.{pairwise-append}
 use Rattle.writing.proofs.Places.{Place}
 use Rattle.writing.proofs.PointPlaces.{in-but-last, point-defined, point-inside, point-places}
 use Rattle.writing.proofs.Depths.{levels, absent-depth}
+use Rattle.listing.proofs.ListedPoints.{all-sized}
 use Rattle.listing.proofs.Readings.{pointsLeft, read-left, read-full, by-reading}
 use Rattle.writing.proofs.OnePointAfter as one
 use Rattle.writing.proofs.OnePointAfter.{fails, Write}
 use Rattle.writing.proofs.GroupsAfter as after
 use Rattle.writing.proofs.ReadOnlyCounts as counts
-
--- ---- Sizes
-
--- The points of sound groups have sizes of their types,
-lower-sized : (top enclosing : List Point) (level : ℕ) (g : Groups) → SoundGroups top enclosing level g
-    → Each (λ p. isSizeOf (p .typeCode) (p .size) ≡ true) (lowerPoints g)
-lower-sized top enclosing level noGroup s = tt
-lower-sized top enclosing level (group h ps inside behind) s =
-    let S : Point → Type 0 = λ p. isSizeOf (p .typeCode) (p .size) ≡ true in
-    each-append S ps (lowerPoints inside ++ lowerPoints behind) (points-sized (ps ++ enclosing) ps (s .2))
-    (each-append S (lowerPoints inside) (lowerPoints behind) (lower-sized top (ps ++ enclosing) (suc level) inside (s .3))
-    (lower-sized top enclosing level behind (s .4)))
-
--- and so those of a sound definition.
-all-sized : (d : Definition) → SoundDefinition d → Each (λ p. isSizeOf (p .typeCode) (p .size) ≡ true) (definedPoints d)
-all-sized d s =
-    each-append (λ p. isSizeOf (p .typeCode) (p .size) ≡ true) (d .top .points) (lowerPoints (d .top .groups))
-    (points-sized (d .top .points) (d .top .points) (s .points))
-    (lower-sized (d .top .points) (d .top .points) 2 (d .top .groups) (s .groups))
 
 -- ---- One model
 
@@ -65,7 +46,7 @@ module _ (d : Definition) (sound : SoundDefinition d) (body : List ℕ) (ps : Li
     (read : readBy (d .id) (d .top) body ≡ points ps)
     (w : ModelPoint) (there : In w ps) (raw : ℕ)
     (writable : w .definition .access ≡ readOnly → ⊥) (small : w .definition .size ≤ 4)
-    (given : isUnimplemented (classified (w .definition .typeCode) (w .raw)) ≡ false)
+    (implemented : isUnimplemented (classified (w .definition .typeCode) (w .raw)) ≡ false)
     (holds : canHold (w .definition .typeCode) (w .definition .size) raw ≡ true) where
   -- The body behind the write.
   abbrev new : List ℕ
@@ -85,7 +66,7 @@ module _ (d : Definition) (sound : SoundDefinition d) (body : List ℕ) (ps : Li
             known;
         small = small;
         inside = point-inside d sound body ps read w there;
-        given = given;
+        implemented = implemented;
         holds = holds;
       }
 

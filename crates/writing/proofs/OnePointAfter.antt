@@ -40,7 +40,7 @@ pub record Write (defined : List Point) (w : ModelPoint) (raw : ℕ) (body : Lis
   pub sized : isSizeOf (w .definition .typeCode) (w .definition .size) ≡ true
   pub small : w .definition .size ≤ 4
   pub inside : w .offset + w .definition .size ≤ length body
-  pub given : isUnimplemented (classified (w .definition .typeCode) (w .raw)) ≡ false
+  pub implemented : isUnimplemented (classified (w .definition .typeCode) (w .raw)) ≡ false
   pub holds : canHold (w .definition .typeCode) (w .definition .size) raw ≡ true
 
 module _ (top : Content) (w : ModelPoint) (raw : ℕ) (body : List ℕ) where
@@ -213,10 +213,10 @@ module _ (top : Content) (w : ModelPoint) (raw : ℕ) (body : List ℕ) where
             let may = sound .scalable (λ z. let c : _≡_ {A = ℕ} 0 2 = sym z ∙ k in absurd (omega arith)) in
             sym may ∙ ap mayScale code ∙ status.scale-factor-unscaled))
 
-        -- What it held was given,
-        was-given : a ≡ w .offset → isUnimplemented (classified (p .typeCode) (join (registersAt body a p))) ≡ false
+        -- What it held was implemented,
+        was-implemented : a ≡ w .offset → isUnimplemented (classified (p .typeCode) (join (registersAt body a p))) ≡ false
         unfolding pointAt
-        was-given here =
+        was-implemented here =
             let point = same-point here in
             let shownOld : shownRaw (registersAt body a p) ≡ w .raw = ap (λ (x : ModelPoint). x .raw) (place .same here) in
             let size = ap (λ (x : Point). x .size) point in
@@ -224,7 +224,7 @@ module _ (top : Content) (w : ModelPoint) (raw : ℕ) (body : List ℕ) where
             ap (λ (x : Point). isUnimplemented (classified (x .typeCode) (join (registersAt body a p)))) point
             ∙ ap (λ (x : ℕ). isUnimplemented (classified (w .definition .typeCode) x))
             (sym (shown (registersAt body a p) few) ∙ shownOld)
-            ∙ x .given
+            ∙ x .implemented
 
         -- and what it holds is a value.
         now-value : a ≡ w .offset → classified (p .typeCode) (join (registersAt new a p)) ≡ ofClass value
@@ -244,7 +244,7 @@ module _ (top : Content) (w : ModelPoint) (raw : ℕ) (body : List ℕ) where
             let now : after .status ≡ statusOf p (ofClass value) r′ = ap (λ c. statusOf p c r′) (now-value here) in
             let grade = subst (λ (x : ℕ). status.OfValue x) (sym now) (status.value-status p r′) in
             let kept : (old .status ≡ 5 → ⊥) → after .status ≡ old .status = λ f.
-            let was = status.was-value p (classified (p .typeCode) (join (registersAt body a p))) r (was-given here) f in
+            let was = status.was-value p (classified (p .typeCode) (join (registersAt body a p))) r (was-implemented here) f in
             now ∙ same-status p r′ r (own-factor here) (ofClass value) ∙ sym (ap (λ c. statusOf p c r) was) in
             record {
               offset = refl;

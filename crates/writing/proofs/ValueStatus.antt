@@ -25,7 +25,7 @@ value-class (ofClass outOfRange) e = clash (sym e)
 value-class tooWide e = clash (sym e)
 value-class unknownType e = clash (sym e)
 
--- What is given, and not out of range by its status, was a value.
+-- What is implemented, and not out of range by its status, was a value.
 pub was-value : (p : Point) (c : Classified) (register : ℕ) → isUnimplemented c ≡ false → (statusOf p c register ≡ 5 → ⊥)
     → c ≡ ofClass value
 was-value p (ofClass value) register e f = refl

@@ -125,7 +125,7 @@ module _ (catalog map : List ℕ) where
 pub record Writable (t : Target) (raw : ℕ) : Type 0 where
   pub access : t .access ≡ readOnly → ⊥
   pub small : t .size ≤ 4
-  pub given : isUnimplemented (classified (t .typeCode) (t .raw)) ≡ false
+  pub implemented : isUnimplemented (classified (t .typeCode) (t .raw)) ≡ false
   pub holds : canHold (t .typeCode) (t .size) raw ≡ true
 
 module _ (t : Target) (raw : ℕ) where
@@ -144,7 +144,7 @@ module _ (t : Target) (raw : ℕ) where
       by-test Outcome (canHold (t .typeCode) (t .size) raw) (λ h. record {
         access = eqb-false (t .access) readOnly a;
         small = ltb-false 4 (t .size) s;
-        given = g;
+        implemented = g;
         holds = h;
       }) (λ _. (omega arith, omega arith)))))
 
