@@ -13,7 +13,7 @@ use Rattle.catalog.specs.Frames.{Frame, frames}
 use Rattle.catalog.specs.State.{State, start, next}
 use Rattle.catalog.specs.Rules.{noModel, run, fault}
 use Rattle.catalog.specs.Checking.{Verdict, accepted, refused, checkFrom, checked}
-use Rattle.values.proofs.TestOutcomes.{clash, by-test}
+use Rattle.registers.proofs.TestOutcomes.{clash, by-test}
 
 -- A refusal accepts nothing.
 never-refused : {A : Type 0} (r i n : ℕ) → refused r i ≡ accepted n → A

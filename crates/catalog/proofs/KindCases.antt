@@ -6,7 +6,7 @@ use Prim.Native.Nat.{ℕ}
 use native.Mathlib.Omega.{arith}
 use borrow.Author.Tests.{ne-eqb, lt-ltb}
 use lib.Dec.{eqb, ltb}
-use Rattle.values.specs.Rows.{mayScale}
+use Rattle.point_types.specs.Rows.{mayScale}
 use Rattle.values.specs.Classes.{twosComplement, isScaleFactor}
 use Rattle.catalog.specs.Frames.{Point, Head, noScale, fixedScale, scaleByPoint, constantCount, countByPoint, fill}
 use Rattle.catalog.specs.Rules.{oneHolds, scaleFaults, countFaults, hasScaleFactor, hasCountPoint}

@@ -4,8 +4,8 @@ use mathlib.Core.Path.{_≡_, refl, sym, ap, subst}
 use mathlib.Core.List.{List, [], _∷_, _++_}
 use Prim.Native.Nat.{ℕ, _≤_, _<_}
 use native.Mathlib.Omega.{arith}
-use Rattle.values.specs.Each.{Each}
-use Rattle.values.specs.Registers.{AreRegisters}
+use Rattle.registers.specs.Each.{Each}
+use Rattle.registers.specs.Registers.{AreRegisters}
 use Rattle.catalog.specs.Frames.{Frame, modelFrame, groupFrame, pointFrame, endFrame, malformed, frames, wordsOf, wordsOfAll}
 use Rattle.catalog.specs.Checking.{accepted, checked}
 use Rattle.catalog.specs.Definitions.{Definition, definitionFrames, catalogFrames, parsed, definitions, modelIds}

@@ -7,7 +7,7 @@ use Prim.Native.Nat.{ℕ, _≤_}
 use native.Mathlib.Omega.{arith}
 use borrow.Author.Tests.{eqb-false, ne-eqb}
 use lib.Dec.{eqb}
-use Rattle.values.specs.Each.{Each}
+use Rattle.registers.specs.Each.{Each}
 use Rattle.catalog.specs.Frames.{Point, Frame, modelFrame, groupFrame, pointFrame, endFrame, malformed}
 use Rattle.catalog.specs.Rules.{among}
 use Rattle.catalog.specs.Definitions.{Groups, noGroup, group, Definition, pointFrames, groupFrames, definitionFrames}

@@ -8,8 +8,8 @@ use Prim.Native.Nat.{ℕ}
 use native.Mathlib.Omega.{arith}
 use borrow.Author.Tests.{eqb-true, eq-eqb, not-false}
 use lib.Dec.{eqb}
-use Rattle.values.proofs.TestOutcomes.{clash, by-test}
-use Rattle.values.specs.Each.{Each}
+use Rattle.registers.proofs.TestOutcomes.{clash, by-test}
+use Rattle.registers.specs.Each.{Each}
 use Rattle.catalog.specs.Rules.{oneHolds, firstBroken}
 
 -- Neither of two tests holds.

@@ -21,7 +21,7 @@ use Rattle.catalog.specs.declared.state.State.{State}
 use Rattle.catalog.proofs.FrameWords.{eight-back}
 use Rattle.catalog.proofs.IdSetLaws.{none-in, in-with, length-with}
 use Rattle.catalog.proofs.OpenGroups.{one-deeper}
-use Rattle.values.proofs.TestOutcomes.{clash}
+use Rattle.registers.proofs.TestOutcomes.{clash}
 use Rattle.catalog.proofs.TestLaws.{none-broken, neither}
 use Rattle.catalog.proofs.TrackedRules.{no-point-ahead}
 

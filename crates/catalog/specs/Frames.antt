@@ -4,7 +4,7 @@ use mathlib.Core.List.{List, [], _∷_, _++_}
 use Prim.Native.Nat.{ℕ, zero, suc, _+_, _*_, _/_}
 use lib.Dec.{eqb}
 use lib.ListN.{length, getD}
-use Rattle.values.specs.Registers.{allZero}
+use Rattle.registers.specs.Registers.{allZero}
 
 -- Words 1 to 7 of a point frame. `scale` is the fixed scale factor, as a register holds it, or the number of the point that
 -- gives it.

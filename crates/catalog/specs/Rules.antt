@@ -5,7 +5,7 @@ use mathlib.Core.Option.{Option, none, some}
 use Prim.Native.Nat.{ℕ}
 use lib.Dec.{eqb, leb, ltb}
 use lib.ListN.{length}
-use Rattle.values.specs.Rows.{mayScale, registersOf}
+use Rattle.point_types.specs.Rows.{mayScale, registersOf}
 use Rattle.values.specs.Classes.{twosComplement, isScaleFactor}
 use Rattle.catalog.specs.Frames.{Point, Head, Frame, modelFrame, groupFrame, pointFrame, endFrame, malformed, noScale, fixedScale, scaleByPoint, constantCount, countByPoint, fill, uint16, sunssf, readOnly}
 use Rattle.catalog.specs.State.{OpenGroup, State}

@@ -7,7 +7,7 @@ use Prim.Native.Nat.{ℕ, _+_, _≤_}
 use native.Mathlib.Omega.{arith}
 use lib.ListN.{length, take, drop, length-take}
 use lib.Seq.{take-take}
-use Rattle.values.specs.Registers.{allZero}
+use Rattle.registers.specs.Registers.{allZero}
 use Rattle.display.specs.Text.{untilZeroByte, hasString, stringAt, textAt}
 use Rattle.display.proofs.TextPart.{text-prefix, text-shorter, no-string, string-of-zeros, string-shown, string-lies}
 

@@ -10,7 +10,7 @@ use borrow.Author.Tests.{eq-eqb, ne-eqb, le-leb, lt-leb, leb-true}
 use lib.Dec.{eqb, leb}
 use lib.ListN.{length, getD, take, drop, length-take, drop-of-length-le}
 use lib.Seq.{drop-cons}
-use Rattle.values.specs.Registers.{allZero}
+use Rattle.registers.specs.Registers.{allZero}
 use Rattle.display.specs.Text.{untilZeroByte, hasString, stringAt, textAt}
 
 -- The text is the first registers, so many as it has.

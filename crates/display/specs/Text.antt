@@ -4,7 +4,7 @@ use mathlib.Core.List.{List, [], _∷_}
 use Prim.Native.Nat.{ℕ, _+_, _/_, _%_}
 use lib.Dec.{eqb, leb}
 use lib.ListN.{length, take, drop}
-use Rattle.values.specs.Registers.{allZero}
+use Rattle.registers.specs.Registers.{allZero}
 
 -- The registers before the first with a zero byte, and that one too if only its low byte is zero; all if none has a zero byte.
 unfoldable pub untilZeroByte : List ℕ → List ℕ

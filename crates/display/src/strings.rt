@@ -1,6 +1,6 @@
 // The text in a string's registers.
-use values::all_zero;
-use values::part;
+use registers::all_zero;
+use registers::part;
 ghost use mathlib.Core.Path.{_≡_};
 ghost use lib.ListN.{length};
 ghost use Rattle.display.specs.Text.{hasString, untilZeroByte, textAt};

@@ -6,7 +6,7 @@ use native.Mathlib.Omega.{arith}
 use borrow.Author.Tests.{eqb-true}
 use lib.Dec.{eqb, ltb}
 use lib.ListN.{length, take}
-use Rattle.values.proofs.TestOutcomes.{by-test, by-same-test}
+use Rattle.registers.proofs.TestOutcomes.{by-test, by-same-test}
 use Rattle.input.specs.Digits.{wordsOf}
 use Rattle.input.specs.Parsing.{isCatalogLine, isMapLine, Input, refused, words, withFrame, withRegisters}
 use Rattle.input.specs.Parsing.{mapFrom, catalogFrom, parsed}

@@ -10,7 +10,7 @@ use borrow.Author.Tests.{le-leb, lt-leb, leb-true}
 use lib.Dec.{leb}
 use lib.ListN.{length, getD, drop, drop-of-length-le}
 use lib.Seq.{drop-cons}
-use Rattle.values.proofs.TestOutcomes.{clash, by-test}
+use Rattle.registers.proofs.TestOutcomes.{clash, by-test}
 use Rattle.input.specs.Digits.{digitValue, isDigit, digitOr0, areDigits}
 
 module _ (b : ℕ) where

@@ -11,7 +11,7 @@ use lib.Dec.{ltb}
 use lib.ListN.{length}
 use Rattle.input.specs.Digits.{isBetween, digitValue, isDigit, areDigits, digitOr0, word, wordsOf}
 use Rattle.input.specs.Writing.{AreWords, hexDigit, hexDigits}
-use Rattle.values.proofs.TestOutcomes.{by-test}
+use Rattle.registers.proofs.TestOutcomes.{by-test}
 
 -- A byte of a range of characters, and one behind it.
 module _ (first last : Char) (b : ℕ) where

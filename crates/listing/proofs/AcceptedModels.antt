@@ -8,7 +8,7 @@ use native.Mathlib.Omega.{arith}
 use borrow.Author.Tests.{eqb-true}
 use lib.Dec.{eqb}
 use lib.ListN.{length}
-use Rattle.values.specs.Each.{Each}
+use Rattle.registers.specs.Each.{Each}
 use Rattle.catalog.specs.Definitions.{Content, Definition, definitions}
 use Rattle.catalog.specs.Soundness.{SoundPoint, SoundGroups, SoundDefinition}
 use Rattle.catalog.proofs.AcceptedSteps.{accepted-start}

@@ -9,7 +9,7 @@ use native.Mathlib.Omega.{arith}
 use borrow.Author.Tests.{ne-eqb, le-leb, lt-leb, leb-true}
 use lib.Dec.{leb, ltb}
 use lib.ListN.{length, length-map}
-use Rattle.values.proofs.TestOutcomes.{clash, by-test, both}
+use Rattle.registers.proofs.TestOutcomes.{clash, by-test, both}
 use Rattle.register_map.specs.Scan.{Model, totalSize, marked}
 use Rattle.register_map.specs.Insertion.{placed, gapsBefore}
 use Rattle.register_map.proofs.Before.{before-model}

@@ -10,7 +10,7 @@ use lib.Dec.{eqb}
 use lib.ListN.{length}
 use Rattle.catalog.specs.Frames.{Point, Head, countByPoint, fill}
 use Rattle.catalog.specs.Definitions.{Groups, noGroup, group, pointsSize}
-use Rattle.values.proofs.TestOutcomes.{clash}
+use Rattle.registers.proofs.TestOutcomes.{clash}
 use Rattle.listing.specs.Points.{Scope}
 use Rattle.listing.specs.Layout.{countOf, groupsSize, fillSize, countUnimplemented}
 use Rattle.listing.specs.Counts.{groupsPoints, fillPoints, sizeOr0}

@@ -9,8 +9,8 @@ use native.Mathlib.Decide.{decLe}
 use borrow.Author.Tests.{eq-eqb, ne-eqb}
 use lib.Dec.{eqb}
 use lib.ListN.{getD}
-use Rattle.values.specs.Each.{Each}
-use Rattle.values.proofs.Table.{no-row-outside}
+use Rattle.registers.specs.Each.{Each}
+use Rattle.point_types.proofs.Table.{no-row-outside}
 use Rattle.catalog.specs.Frames.{Point}
 use Rattle.catalog.specs.Checking.{accepted, checked}
 use Rattle.catalog.specs.Definitions.{Definition, definitions}
@@ -18,7 +18,7 @@ use Rattle.catalog.specs.Rules.{isSizeOf}
 use Rattle.catalog.specs.Soundness.{SoundPoint, SoundDefinition}
 use Rattle.catalog.proofs.GroupSizes.{type-size}
 use Rattle.catalog.proofs.AcceptedIsSound.{accepted-is-sound}
-use Rattle.values.proofs.TestOutcomes.{by-test}
+use Rattle.registers.proofs.TestOutcomes.{by-test}
 use Rattle.register_map.specs.Scan.{Model, sizeOf, Ending, marked, broken}
 use Rattle.listing.specs.Points.{ModelPoint}
 use Rattle.listing.specs.Reading.{Reading, unknown, faulty, points, reading}

@@ -9,7 +9,7 @@ use Rattle.catalog.specs.Frames.{Point, Head, Frame, modelFrame, groupFrame, po
 use Rattle.catalog.specs.Rules.{among}
 use Rattle.catalog.specs.Definitions.{Groups, group, pointFrames, groupFrames}
 use Rattle.catalog.specs.Soundness.{Distinct, numbersOf, In, first, later}
-use Rattle.values.proofs.TestOutcomes.{clash}
+use Rattle.registers.proofs.TestOutcomes.{clash}
 use Rattle.catalog.proofs.TestLaws.{neither}
 
 -- ---- Lists of numbers

@@ -1,6 +1,6 @@
 -- One of a list is one of a longer list.
 use mathlib.Core.List.{List, [], _∷_, _++_}
-use Rattle.values.specs.Each.{Each}
+use Rattle.registers.specs.Each.{Each}
 use Rattle.catalog.specs.Soundness.{In, first, later}
 use Rattle.listing.proofs.EachLaws.{each-implied}
 

@@ -13,8 +13,8 @@ use mathlib.Core.Option.{some}
 use Prim.Native.Nat.{ℕ, _+_, _≤_}
 use lib.Dec.{eqb, leb}
 use lib.ListN.{length, length-map}
-use Rattle.values.specs.Each.{Each}
-use Rattle.values.proofs.TestOutcomes.{by-test}
+use Rattle.registers.specs.Each.{Each}
+use Rattle.registers.proofs.TestOutcomes.{by-test}
 use Rattle.register_map.specs.Scan.{Model, totalSize, scan, WellFormed}
 use Rattle.register_map.specs.Insertion.{placed, lengthened, gapsBefore}
 use Rattle.register_map.proofs.PlacedModels.{placed-length}

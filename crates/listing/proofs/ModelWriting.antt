@@ -9,7 +9,7 @@ use native.Mathlib.Omega.{arith}
 use borrow.Author.Tests.{eqb-true, ltb-false}
 use lib.Dec.{ltb}
 use lib.ListN.{length, getD}
-use Rattle.values.specs.Each.{Each}
+use Rattle.registers.specs.Each.{Each}
 use Rattle.catalog.specs.Frames.{Point, sunssf, pad}
 use Rattle.catalog.specs.Definitions.{Groups, Content, pointsSize, definitions}
 use Rattle.catalog.specs.Soundness.{In, first, later, SoundPoint, SoundGroups, ScaleResolves}

@@ -7,7 +7,7 @@ use Rattle.catalog.specs.Frames.{Point, Frame, modelFrame, groupFrame, pointFra
 use Rattle.catalog.specs.Rules.{among}
 use Rattle.catalog.specs.Definitions.{Groups, noGroup, group, Definition, pointFrames, groupFrames, definitionFrames}
 use Rattle.catalog.specs.Soundness.{SoundDefinition, Distinct, numbersOf, In, first, later}
-use Rattle.values.proofs.TestOutcomes.{clash}
+use Rattle.registers.proofs.TestOutcomes.{clash}
 use Rattle.listing.specs.Tiling.{lowerPoints, definedPoints}
 use Rattle.listing.proofs.GroupNumbers.{among-later}
 

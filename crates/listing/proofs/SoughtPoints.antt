@@ -7,7 +7,7 @@ use borrow.Author.Tests.{eq-eqb, ne-eqb}
 use lib.Dec.{eqb}
 use lib.ListN.{getD}
 use lib.Seq.{sets}
-use Rattle.values.specs.Registers.{shownRaw}
+use Rattle.registers.specs.Registers.{shownRaw}
 use Rattle.catalog.specs.Frames.{Point}
 use Rattle.listing.specs.Points.{ModelPoint, Scope, registersAt, pointAt}
 use Rattle.listing.specs.Layout.{nothing}

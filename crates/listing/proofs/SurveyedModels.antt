@@ -14,7 +14,7 @@ use lib.ListN.{length}
 use Rattle.catalog.specs.Frames.{Point, Head, fill}
 use Rattle.catalog.specs.Definitions.{Groups, noGroup, group, Content, pointsSize}
 use Rattle.catalog.specs.Soundness.{In, SoundGroups}
-use Rattle.values.proofs.TestOutcomes.{by-test}
+use Rattle.registers.proofs.TestOutcomes.{by-test}
 use Rattle.listing.specs.Points.{Scope}
 use Rattle.listing.specs.Layout.{topScope, countOf, groupsSize, fillSize, countUnimplemented, fillSizeOf, fits, fillOf, pointsAt, noInstance, contentAt}
 use Rattle.listing.specs.Counts.{groupsPoints, fillPoints, sizeOr0}

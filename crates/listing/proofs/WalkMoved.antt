@@ -6,7 +6,7 @@ use native.Mathlib.Nat.{add-zero, zero-add}
 use native.Mathlib.Numerals.{add-one}
 use native.Mathlib.Omega.{arith}
 use lib.ListN.{length, length-append}
-use Rattle.values.specs.Each.{Each}
+use Rattle.registers.specs.Each.{Each}
 use Rattle.register_map.specs.Scan.{Model, sizeOf, totalSize, Ending, marked}
 use Rattle.register_map.specs.Insertion.{allModels, placed, gapsBefore}
 use Rattle.register_map.proofs.PlacedModels.{size-append, no-gaps, all-gap, all-unchanged}

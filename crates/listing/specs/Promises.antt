@@ -7,8 +7,8 @@ use Prim.Native.Nat.{ℕ, _+_, _*_, _-_, _/_, _%_, _≤_, min}
 use lib.Dec.{eqb, ltb, leb}
 use lib.ListN.{length, take, drop, getD}
 use lib.Seq.{sets}
-use Rattle.values.specs.Each.{Each}
-use Rattle.values.specs.Registers.{join, shownRaw}
+use Rattle.registers.specs.Each.{Each}
+use Rattle.registers.specs.Registers.{join, shownRaw}
 use Rattle.values.specs.Classes.{classified}
 use Rattle.catalog.specs.Frames as Frames
 use Rattle.catalog.specs.Rules.{isSizeOf}

@@ -6,7 +6,7 @@ use mathlib.Core.Option.{Option, none, some}
 use Prim.Native.Nat.{ℕ, _+_}
 use lib.Dec.{eqb, leb}
 use lib.ListN.{length}
-use Rattle.values.specs.Each.{Each}
+use Rattle.registers.specs.Each.{Each}
 use Rattle.catalog.specs.Frames.{frames}
 use Rattle.catalog.specs.Rules.{among}
 use Rattle.catalog.specs.Definitions.{modelIds}

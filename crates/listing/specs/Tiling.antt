@@ -4,7 +4,7 @@ use mathlib.Core.Bool.{true, false}
 use mathlib.Core.List.{List, [], _∷_, _++_}
 use Prim.Native.Nat.{ℕ, _+_, _≤_}
 use lib.Dec.{eqb}
-use Rattle.values.specs.Each.{Each}
+use Rattle.registers.specs.Each.{Each}
 use Rattle.catalog.specs.Frames.{Point}
 use Rattle.catalog.specs.Definitions.{Groups, noGroup, group, Definition}
 use Rattle.catalog.specs.Soundness.{In}

@@ -11,7 +11,7 @@ use borrow.Author.Tests.{eqb-true, eq-eqb, lt-ltb, le-ltb, ltb-false, not-false}
 use lib.Dec.{eqb, ltb}
 use lib.ListN.{length, drop, getD, length-drop}
 use lib.Seq.{drop-cons}
-use Rattle.values.proofs.TestOutcomes.{clash, by-test}
+use Rattle.registers.proofs.TestOutcomes.{clash, by-test}
 use Rattle.register_map.specs.Headers.{beginsWithSunS, opening, refused, headerOf, headerAt}
 
 -- 23 does not arise where the first header's id is 1.

@@ -6,7 +6,7 @@ use Prim.Native.Nat.{ℕ, zero, suc, _+_, _-_, _/_, _≤_}
 use native.Mathlib.Omega.{arith}
 use lib.ListN.{length, take, drop, take-append-drop, length-append}
 use lib.Seq.{length-take-le}
-use Rattle.values.specs.Each.{Each}
+use Rattle.registers.specs.Each.{Each}
 use Rattle.register_map.specs.Headers.{endId, Header, headerAt}
 use Rattle.register_map.specs.Scan.{Model, totalSize, marked, broken, Scan, scanFrom, scan, modelRegisters, WellFormed, BeginsWith1}
 use Rattle.register_map.proofs.HeaderCases.{HeaderCase, modelCase, endCase, refusedCase, header-case}

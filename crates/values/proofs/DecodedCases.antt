@@ -4,7 +4,7 @@ use mathlib.Core.List.{List}
 use mathlib.Core.Option.{Option, none, some}
 use Prim.Native.Nat.{ℕ}
 use lib.Ieee.{binary32, ofBits}
-use Rattle.values.specs.Rows.{TypeRow, Kind}
+use Rattle.point_types.specs.Rows.{TypeRow, Kind}
 use Rattle.values.specs.Classes.{Class, classOf, width, twosComplement}
 use Rattle.values.specs.Decoding.{patternIn, Decoded, signed, unsigned, float, unimplemented, outOfRange, refused, numberOf, valueOf, decodable, decoded}
 

@@ -7,11 +7,6 @@ pub mod NoNaN
 pub mod RefusedCodes
 pub mod UnscaledRange
 -- Laws of the definitions, and what the proofs of the functions cite
-pub mod Table
-pub mod CodeTable
-pub mod Joining
-pub mod Splitting
-pub mod RegisterParts
 pub mod TwosComplement
 pub mod MachineIntegers
 pub mod IntegerOrder
@@ -20,5 +15,3 @@ pub mod ClassCases
 pub mod DecodedCases
 pub mod UnscaledCases
 pub mod FoundRow
-pub mod ListTests
-pub mod TestOutcomes

@@ -7,10 +7,10 @@ use borrow.Author.Tests.{not-true}
 use lib.Dec.{T}
 use lib.Ieee.{Float, isNan, binary32, nanBits}
 use lib.Ieee.Bits.{nanBits-is}
-use Rattle.values.specs.Rows.{TypeRow, Kind, Listed}
+use Rattle.point_types.specs.Rows.{TypeRow, Kind, Listed}
 use Rattle.values.specs.Classes.{Class, classOf}
 use Rattle.values.specs.Decoding.{patternIn, float, decoded}
-use Rattle.values.proofs.Table.{float-row, listed}
+use Rattle.point_types.proofs.Table.{float-row, listed}
 use Rattle.values.proofs.Ranges.{in-not-nan}
 use Rattle.values.proofs.ClassCases.{row-of-decodable}
 use Rattle.values.proofs.ThreeClasses.{class-is-its-tests}

@@ -8,14 +8,14 @@ use lib.Dec.{T}
 use lib.Ieee.{binary32, ofBits, isNan}
 use lib.Ieee.Bits.{toBits-ofBits, nanBits-is}
 use lib.ListN.{length, take}
-use Rattle.values.specs.Rows.{TypeRow}
-use Rattle.values.specs.Registers.{AreRegisters, split}
+use Rattle.point_types.specs.Rows.{TypeRow}
+use Rattle.registers.specs.Registers.{AreRegisters, split}
 use Rattle.values.specs.Classes.{Class, width, classOf, PatternOf}
 use Rattle.values.specs.Decoding.{patternIn, Decoded, decodable, decoded}
 use Rattle.values.specs.Encoding.{rawNumber, encoded}
-use Rattle.values.proofs.Table.{float-row, listed}
+use Rattle.point_types.proofs.Table.{float-row, listed}
 use Rattle.values.proofs.TwosComplement.{pattern-back}
-use Rattle.values.proofs.Splitting.{join-bound, split-join}
+use Rattle.registers.proofs.Splitting.{join-bound, split-join}
 use Rattle.values.proofs.ClassCases.{row-of-decodable, decodable-up-to}
 use Rattle.values.proofs.DecodedCases.{Answered, asSigned, asUnsigned, asFloat, asUnimplemented, asOutOfRange, Cases, byRow, noRow, cases}
 use Rattle.values.proofs.FoundRow.{pattern-of, first-length}

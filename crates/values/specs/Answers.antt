@@ -1,10 +1,9 @@
--- What the code's types stand for: the answers of the public calls in document 01's terms, and the code's rows as the table's.
+-- What the code's types stand for: the answers of the public calls in document 01's terms.
 use mathlib.Core.Bool.{not}
 use mathlib.Core.Option.{Option, none, some}
 use Prim.Native.Nat.{ℕ}
-use lib.IntN.{ℤ, pos, negℤ, natAbs}
+use lib.IntN.{ℤ, natAbs}
 use lib.Signed.{nonNeg}
-use Rattle.values.specs.Rows as Rows
 use Rattle.values.specs.Classes as Classes
 use Rattle.values.specs.Decoding as Decoding
 use Rattle.values.specs.Unscaled as Unscaled
@@ -13,11 +12,6 @@ use Rattle.values.specs.declared.Class.{Class}
 use Rattle.values.specs.declared.Classified.{Classified}
 use Rattle.values.specs.declared.RegisterCount.{RegisterCount}
 use Rattle.values.specs.declared.UnscaledValue.{UnscaledValue}
-use Rattle.values.specs.declared.rows.Kind.{Kind}
-use Rattle.values.specs.declared.rows.Unimplemented.{Unimplemented}
-use Rattle.values.specs.declared.rows.Range.{Range}
-use Rattle.values.specs.declared.rows.TypeRow.{TypeRow}
-use Rattle.values.specs.declared.rows.Found.{Found}
 
 -- The answer of `decode`: a code that is not 1–18 is refusal 40.
 abbrev pub answer : Value → Decoding.Decoded
@@ -54,36 +48,3 @@ abbrev pub unscaledForm : Unscaled.Unscaled → UnscaledValue
 unscaledForm (Unscaled.number z) = bySign z
 unscaledForm Unscaled.noValue = UnscaledValue.NoValue
 unscaledForm Unscaled.notScalable = UnscaledValue.NotScalable
-
--- The code's row as a row of the table.
-abbrev pub kindMeans : Kind → Rows.Kind
-kindMeans Kind.Signed = Rows.signed
-kindMeans Kind.Unsigned = Rows.unsigned
-kindMeans Kind.Float = Rows.float
-
-abbrev pub unimplementedMeans : Unimplemented → Rows.Unimplemented
-unimplementedMeans Unimplemented.Never = Rows.never
-unimplementedMeans (Unimplemented.At p) = Rows.pattern p
-
-abbrev pub rangeMeans : Range → Rows.Range
-rangeMeans Range.Whole = Rows.whole
-rangeMeans (Range.UpTo n) = Rows.between (pos 0) (pos n)
-rangeMeans (Range.Only n) = Rows.between (pos n) (pos n)
-rangeMeans Range.ScaleFactor = Rows.between (negℤ (pos 10)) (pos 10)
-rangeMeans Range.NotNan = Rows.notNaN
-
-abbrev pub rowMeans : TypeRow → Rows.TypeRow
-rowMeans r =
-    record {
-      code = r .code;
-      fewest = r .fewest;
-      most = r .most;
-      scalable = r .scalable;
-      kind = kindMeans (r .kind);
-      unimplemented = unimplementedMeans (r .unimplemented);
-      range = rangeMeans (r .range);
-    }
-
-abbrev pub foundMeans : Found → Option Rows.TypeRow
-foundMeans (Found.Row r) = some (rowMeans r)
-foundMeans Found.Nothing = none

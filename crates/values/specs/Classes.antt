@@ -6,8 +6,8 @@ use lib.Dec.{eqb, ltb}
 use lib.IntN.{ℤ, pos, negℤ, _-ℤ_}
 use lib.Signed.{leZ}
 use lib.Ieee.{binary32, nanBits}
-use Rattle.values.specs.Registers as registers
-use Rattle.values.specs.Rows.{TypeRow, rowOf, Listed, signed, unsigned, float, Unimplemented, never, pattern, whole, between, notNaN}
+use Rattle.registers.specs.Registers as registers
+use Rattle.point_types.specs.Rows.{TypeRow, rowOf, Listed, signed, unsigned, float, Unimplemented, never, pattern, whole, between, notNaN}
 
 -- The number that a pattern of so many bits stands for in two's complement (document 000, 6.4).
 unfoldable pub twosComplement : ℕ → ℕ → ℤ

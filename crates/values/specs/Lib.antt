@@ -1,6 +1,3 @@
-pub mod Each
-pub mod Rows
-pub mod Registers
 pub mod Classes
 pub mod Decoding
 pub mod Unscaled

@@ -3,7 +3,7 @@ use mathlib.Core.Bool.{true, false}
 use mathlib.Core.Option.{none, some}
 use Prim.Native.Nat.{ℕ}
 use lib.IntN.{ℤ}
-use Rattle.values.specs.Rows.{rowOf}
+use Rattle.point_types.specs.Rows.{rowOf}
 use Rattle.values.specs.Classes.{integer, isValue, classified}
 
 -- An integer; or no value: unimplemented, out of range or too wide; or not scalable: a type without s, or an unknown one.

@@ -3,16 +3,17 @@ ghost use mathlib.Core.Path.{_≡_};
 ghost use mathlib.Core.Bool.{not};
 ghost use lib.Ieee.{binary32, nanBits};
 ghost use Rattle.values.specs.Classes.{PatternOf, ofClass, twosComplement, isUnimplemented, inRange, isScaleFactor, isValue, classOf, classified};
-ghost use Rattle.values.specs.Rows.{Listed};
-ghost use Rattle.values.specs.Answers.{classAnswer, classifiedAnswer, unimplementedMeans, rowMeans};
+ghost use Rattle.point_types.specs.Rows.{Listed};
+ghost use Rattle.point_types.specs.Answers.{unimplementedMeans, rowMeans};
+ghost use Rattle.values.specs.Answers.{classAnswer, classifiedAnswer};
 use crate::Class;
 use crate::Classified;
-use crate::registers::too_wide;
-use crate::rows::Found;
-use crate::rows::Range;
-use crate::rows::TypeRow;
-use crate::rows::Unimplemented;
-use crate::rows::row_of;
+use point_types::Found;
+use point_types::Range;
+use point_types::TypeRow;
+use point_types::Unimplemented;
+use point_types::row_of;
+use registers::too_wide;
 
 // The class of a raw number under a type code.
 pub fn classify(type_code: u16, raw: u64) -> Classified

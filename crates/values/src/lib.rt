@@ -2,30 +2,26 @@
 // integer that a scale factor multiplies.
 // Every public call takes any arguments and carries an equation with the definitions of specs/.
 mod classes;
-mod registers;
-mod rows;
 mod unscaled;
 
 use classes::class_in;
 pub use classes::classify;
 pub use classes::is_value;
 pub use classes::scale_factor_in_range;
+use point_types::Found;
+use point_types::Kind;
+use point_types::TypeRow;
+use point_types::row_of;
 use registers::all_ones;
-pub use registers::all_zero;
-pub use registers::part;
-pub use registers::raw_value;
-pub use registers::too_wide;
-use rows::Found;
-use rows::Kind;
-use rows::TypeRow;
-use rows::row_of;
+use registers::raw_value;
 pub use unscaled::unscaled_value;
 ghost use mathlib.Core.Path.{_≡_};
 ghost use Prim.Native.Nat.{_*_, _-_, _^_, _≤_, _<_};
-ghost use Rattle.values.specs.Rows.{mayScale, registersOf};
+ghost use Rattle.point_types.specs.Rows.{mayScale, registersOf};
 ghost use Rattle.values.specs.Classes.{PatternOf, twosComplement, classOf, value};
 ghost use Rattle.values.specs.Decoding.{numberOf, valueOf, decoded};
-ghost use Rattle.values.specs.Answers.{answer, countAnswer, rowMeans};
+ghost use Rattle.point_types.specs.Answers.{rowMeans};
+ghost use Rattle.values.specs.Answers.{answer, countAnswer};
 
 // A pattern of a type is a value, marks the point as unimplemented, or is out of the type's range.
 pub enum Class {

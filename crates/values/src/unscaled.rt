@@ -3,15 +3,16 @@ ghost use mathlib.Core.Path.{_≡_};
 ghost use Prim.Native.Nat.{_*_, _^_, _≤_, _<_};
 ghost use Rattle.values.specs.Classes.{PatternOf, integer, twosComplement};
 ghost use Rattle.values.specs.Unscaled.{unscaled};
-ghost use Rattle.values.specs.Answers.{rowMeans, unscaledForm, bySign};
+ghost use Rattle.point_types.specs.Answers.{rowMeans};
+ghost use Rattle.values.specs.Answers.{unscaledForm, bySign};
 use crate::UnscaledValue;
 use crate::classes::classified_in;
 use crate::classes::is_value_in;
-use crate::registers::all_ones;
-use crate::rows::Found;
-use crate::rows::Kind;
-use crate::rows::TypeRow;
-use crate::rows::row_of;
+use point_types::Found;
+use point_types::Kind;
+use point_types::TypeRow;
+use point_types::row_of;
+use registers::all_ones;
 
 // The integer that a scale factor multiplies, of a raw number under a type code.
 pub fn unscaled_value(type_code: u16, raw: u64) -> UnscaledValue

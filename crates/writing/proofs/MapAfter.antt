@@ -8,7 +8,7 @@ use native.Mathlib.Omega.{arith}
 use borrow.Author.Tests.{eq-eqb, ne-eqb}
 use lib.ListN.{length}
 use lib.Seq.{sets, length-sets}
-use Rattle.values.specs.Registers.{split}
+use Rattle.registers.specs.Registers.{split}
 use Rattle.catalog.specs.Definitions.{Content, Definition, definitions}
 use Rattle.catalog.specs.Soundness.{In}
 use Rattle.register_map.specs.Scan.{sizeOf, marked, scan}
@@ -25,7 +25,7 @@ use Rattle.writing.proofs.PointPlaces.{point-inside}
 use Rattle.writing.proofs.ModelAfter.{model-after}
 use Rattle.writing.proofs.WritingCases.{Writable, refusal-none}
 use Rattle.writing.proofs.WalkedModels.{records-anew}
-use Rattle.writing.proofs.StoredRegisters.{split-length}
+use Rattle.registers.proofs.Splitting.{split-length}
 use Rattle.writing.proofs.RecordSources.{record-source, read-with}
 use Rattle.writing.proofs.AfterCases.{point-place}
 use Rattle.writing.proofs.ModelAnew.{storedIn, scan-anew, opens-anew}

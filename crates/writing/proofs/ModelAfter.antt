@@ -8,10 +8,10 @@ use borrow.Author.Tests.{eqb-true}
 use lib.Dec.{eqb}
 use lib.ListN.{length}
 use lib.Seq.{sets, length-sets}
-use Rattle.values.specs.Each.{Each}
-use Rattle.values.specs.Registers.{split}
+use Rattle.registers.specs.Each.{Each}
+use Rattle.registers.specs.Registers.{split}
 use Rattle.values.specs.Classes.{classified}
-use Rattle.values.proofs.TestOutcomes.{both}
+use Rattle.registers.proofs.TestOutcomes.{both}
 use Rattle.catalog.specs.Frames.{Point, readOnly}
 use Rattle.catalog.specs.Rules.{isSizeOf}
 use Rattle.catalog.specs.Definitions.{Definition, pointsSize}

@@ -8,7 +8,7 @@ use borrow.Author.Tests.{eq-eqb, eqb-true}
 use lib.Dec.{eqb}
 use lib.ListN.{take, drop}
 use lib.Seq.{take-at, drop-at}
-use Rattle.values.proofs.TestOutcomes.{both, clash}
+use Rattle.registers.proofs.TestOutcomes.{both, clash}
 use Rattle.catalog.specs.Definitions.{definitions}
 use Rattle.catalog.specs.Soundness.{In}
 use Rattle.register_map.specs.Scan.{Model, scan, totalSize}

@@ -9,9 +9,9 @@ use borrow.Author.Tests.{eq-eqb, ne-eqb}
 use lib.Dec.{eqb}
 use lib.ListN.{length, getD, drop, set, length-set}
 use lib.Seq.{getD-set-same, getD-set-other, drop-cons}
-use Rattle.values.specs.Each.{Each}
-use Rattle.values.specs.Registers.{shownRaw}
-use Rattle.values.proofs.TestOutcomes.{clash}
+use Rattle.registers.specs.Each.{Each}
+use Rattle.registers.specs.Registers.{shownRaw}
+use Rattle.registers.proofs.TestOutcomes.{clash}
 use Rattle.catalog.specs.Frames.{Point, Head}
 use Rattle.catalog.specs.Rules.{among}
 use Rattle.catalog.specs.Definitions.{Groups, noGroup, group, pointsSize, pointFrames, groupFrames}

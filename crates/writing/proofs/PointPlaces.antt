@@ -7,8 +7,8 @@ use Prim.Native.Nat.{ℕ, _+_, _≤_}
 use native.Mathlib.Omega.{arith}
 use lib.Dec.{eqb}
 use lib.ListN.{length}
-use Rattle.values.specs.Each.{Each}
-use Rattle.values.proofs.TestOutcomes.{by-same-test}
+use Rattle.registers.specs.Each.{Each}
+use Rattle.registers.proofs.TestOutcomes.{by-same-test}
 use Rattle.catalog.specs.Frames.{Point, Head}
 use Rattle.catalog.specs.Rules.{among}
 use Rattle.catalog.specs.Definitions.{noGroup, Content, Definition, pointsSize, pointFrames}

@@ -5,7 +5,7 @@ use Prim.Native.Nat.{ℕ, suc, _+_, _-_, _/_, _%_, _^_, _≤_}
 use native.Mathlib.Omega.{arith}
 use lib.ListN.{set}
 use lib.Seq.{sets}
-use Rattle.values.specs.Registers.{split}
+use Rattle.registers.specs.Registers.{split}
 
 -- One register, and those behind it.
 pub next-register : (map : List ℕ) (at size k raw : ℕ) → k + 1 ≤ size

@@ -1,58 +1,17 @@
--- A raw number as registers, and registers stored in a list: what is read back of them, and what they leave as it was.
+-- Registers stored in a list: what is read back of them, and what they leave as it was.
 use mathlib.Core.Path.{_≡_, refl, sym, ap, _∙_}
-use mathlib.Core.Bool.{false}
 use mathlib.Core.List.{List, [], _∷_, _++_, append-assoc}
 use mathlib.Core.Logic.{_⊎_, inl, inr, ⊎-elim}
-use Prim.Native.Nat.{ℕ, zero, suc, _+_, _-_, _*_, _/_, _%_, _^_, _≤_, _<_}
-use native.Mathlib.Nat.{pow-suc, div-div-eq-div-mul, div-add-mod', div-eq-of-lt, div-one, add-zero, zero-add, suc-add}
+use Prim.Native.Nat.{ℕ, zero, suc, _+_, _-_, _≤_, _<_}
+use native.Mathlib.Nat.{add-zero, zero-add, suc-add}
 use native.Mathlib.Omega.{arith}
-use borrow.Author.Tests.{leb-false}
 use lib.ListN.{length, take, drop, getD, set, length-set, length-drop, take-append-drop}
 use lib.Seq.{sets, sets-eq, set-append-left, getD-set-other, length-take-le, take-at, drop-at, take-append-le, drop-append-le}
 use lib.Seq.{drop-drop, getD-take, getD-drop}
-use Rattle.values.specs.Registers.{AreRegisters, join, split, shownRaw, tooWide}
-use Rattle.values.proofs.Joining.{sixteen-each, lower-register, shown}
-use Rattle.values.proofs.Splitting.{split-join}
+use Rattle.registers.specs.Registers.{AreRegisters, split, shownRaw}
+use Rattle.registers.proofs.Splitting.{split-shown}
 use Rattle.values.proofs.RoundTrip.{first-registers}
 use Rattle.listing.proofs.EachLaws.{each-drop}
-
--- ---- A raw number as registers
-
--- There are as many registers as asked for.
-pub split-length : (n raw : ℕ) → length (split n raw) ≡ n
-unfolding split
-split-length zero raw = refl
-split-length (suc n) raw = ap suc (split-length n raw)
-
--- The registers of a raw number are its low part.
-low-part : (n raw : ℕ) → raw / 65536 ^ n * 65536 ^ n + join (split n raw) ≡ raw
-unfolding split join
-low-part zero raw = rw (div-one raw) (omega arith)
-low-part (suc n) raw =
-    let x = raw / 65536 ^ n in
-    let j = join (split n raw) in
-    let high : raw / 65536 ^ suc n ≡ x / 65536 =
-    ap (λ (p : ℕ). raw / p) (pow-suc 65536 n) ∙ sym (div-div-eq-div-mul raw (65536 ^ n) 65536) in
-    let join-step = lower-register (x / 65536) (65536 ^ n) (x % 65536) j in
-    rw (high, pow-suc 65536 n, split-length n raw, join-step, div-add-mod' x 65536) (low-part n raw)
-
--- Joining the registers of a raw number that is not too wide for them gives the number.
-pub join-split : (n raw : ℕ) → tooWide n raw ≡ false → join (split n raw) ≡ raw
-unfolding tooWide
-join-split n raw e =
-    let small : raw < 65536 ^ n = rw (sixteen-each n) (leb-false (2 ^ (16 * n)) raw e) in
-    let none : raw / 65536 ^ n ≡ 0 = div-eq-of-lt small in
-    let low : 0 * 65536 ^ n + join (split n raw) ≡ raw = rw none at (low-part n raw) in
-    omega (arith, low)
-
--- One register is the raw number.
-pub one-register : (raw : ℕ) → tooWide 1 raw ≡ false → getD (split 1 raw) 0 0 ≡ raw
-unfolding split join
-one-register raw e = let j = join-split 1 raw e in omega (arith, j)
-
--- Up to four registers are what is written for the raw value that they show.
-split-shown : (rs : List ℕ) → AreRegisters rs → length rs ≤ 4 → split (length rs) (shownRaw rs) ≡ rs
-split-shown rs a h = ap (split (length rs)) (shown rs h) ∙ split-join rs a
 
 -- ---- Parts of a list
 

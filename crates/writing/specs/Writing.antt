@@ -5,7 +5,7 @@ use mathlib.Core.Option.{Option, none, some}
 use Prim.Native.Nat.{ℕ}
 use lib.Dec.{eqb, ltb}
 use lib.Seq.{sets}
-use Rattle.values.specs.Registers.{split, tooWide}
+use Rattle.registers.specs.Registers.{split, tooWide}
 use Rattle.values.specs.Classes.{value, unimplemented, outOfRange, Classified, ofClass, unknownType, classified, isValue}
 use Rattle.values.specs.Classes as Classes
 use Rattle.catalog.specs.Frames.{readOnly}

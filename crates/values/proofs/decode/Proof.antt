@@ -4,8 +4,8 @@ use mathlib.Core.Path.{_≡_, sym, ap, _∙_}
 use mathlib.Core.Option.{some}
 use native.Mathlib.Omega.{arith}
 use borrow.Author.Needs.{needs}
-use Rattle.values.specs.Rows.{rowOf}
-use Rattle.values.specs.Answers.{foundMeans, rowMeans}
+use Rattle.point_types.specs.Rows.{rowOf}
+use Rattle.point_types.specs.Answers.{foundMeans, rowMeans}
 use Rattle.values.proofs.ClassCases as cases
 use Rattle.values.proofs.FoundRow as row
 use Rattle.values.proofs.decode.Statement.{statement}

@@ -4,9 +4,9 @@ use mathlib.Core.Path.{sym, ap, _∙_}
 use Prim.Native.Nat.{ℕ, _*_, _^_}
 use mir.Facts.{toZ-ofZ}
 use borrow.Author.Needs.{needs}
-use Rattle.values.specs.Answers.{rowMeans, kindMeans}
+use Rattle.point_types.specs.Answers.{rowMeans, kindMeans}
 use Rattle.values.specs.Decoding as decoding
-use Rattle.values.proofs.Table.{signed-width, float-row}
+use Rattle.point_types.proofs.Table.{signed-width, float-row}
 use Rattle.values.proofs.ClassCases as cases
 use Rattle.values.proofs.NoNaN.{no-nan-pattern}
 use Rattle.values.proofs.number_of.Statement.{statement}

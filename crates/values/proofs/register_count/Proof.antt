@@ -1,8 +1,8 @@
 -- `register_count` answers from the row that is found.
 use mathlib.Core.Path.{sym, ap, _∙_}
 use borrow.Author.Needs.{needs}
-use Rattle.values.specs.Rows.{registersOf}
-use Rattle.values.specs.Answers.{foundMeans}
+use Rattle.point_types.specs.Rows.{registersOf}
+use Rattle.point_types.specs.Answers.{foundMeans}
 use Rattle.values.proofs.register_count.Statement.{statement}
 use Rattle.values.proofs.register_count.Tie as tie
 

@@ -1,8 +1,8 @@
 -- `scalable` answers from the row that is found.
 use mathlib.Core.Path.{sym, ap, _∙_}
 use borrow.Author.Needs.{needs}
-use Rattle.values.specs.Rows.{mayScale}
-use Rattle.values.specs.Answers.{foundMeans}
+use Rattle.point_types.specs.Rows.{mayScale}
+use Rattle.point_types.specs.Answers.{foundMeans}
 use Rattle.values.proofs.scalable.Statement.{statement}
 use Rattle.values.proofs.scalable.Tie as tie
 

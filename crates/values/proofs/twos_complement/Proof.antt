@@ -3,7 +3,7 @@ use mathlib.Core.Path.{_≡_, _∙_}
 use Prim.Native.Nat.{_-_, _*_, _^_}
 use native.Mathlib.Omega.{arith}
 use borrow.Author.Needs.{needs}
-use Rattle.values.proofs.Joining.{four-ones}
+use Rattle.registers.proofs.Joining.{four-ones}
 use Rattle.values.proofs.MachineIntegers.{lower-pattern, upper-fits, upper-pattern}
 use Rattle.values.proofs.twos_complement.Statement.{statement}
 use Rattle.values.proofs.twos_complement.Tie as tie

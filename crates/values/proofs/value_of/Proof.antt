@@ -1,7 +1,8 @@
 -- `value_of` answers by the pattern's class.
 use mathlib.Core.Path.{sym, ap, _∙_}
 use borrow.Author.Needs.{needs}
-use Rattle.values.specs.Answers.{rowMeans, classAnswer}
+use Rattle.point_types.specs.Answers.{rowMeans}
+use Rattle.values.specs.Answers.{classAnswer}
 use Rattle.values.proofs.ClassCases as cases
 use Rattle.values.proofs.value_of.Statement.{statement}
 use Rattle.values.proofs.value_of.Tie as tie

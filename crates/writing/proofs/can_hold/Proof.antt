@@ -1,7 +1,7 @@
 -- `writing::can_hold` meets its contract: the type is asked first, then the width.
 use mathlib.Core.Path.{sym, ap, _∙_}
 use mathlib.Core.Bool.{not, _&&_}
-use Rattle.values.specs.Registers.{tooWide}
+use Rattle.registers.specs.Registers.{tooWide}
 use borrow.Author.Needs.{needs}
 use Rattle.writing.proofs.can_hold.Statement.{statement}
 use Rattle.writing.proofs.can_hold.Tie as tie

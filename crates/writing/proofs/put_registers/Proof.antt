@@ -6,7 +6,7 @@ use native.Mathlib.Omega.{arith}
 use borrow.Author.Needs.{needs}
 use lib.ListN.{length, set, length-set}
 use lib.Seq.{sets}
-use Rattle.values.specs.Registers.{split}
+use Rattle.registers.specs.Registers.{split}
 use Rattle.writing.proofs.RegisterSteps.{next-register, no-register}
 use Rattle.writing.proofs.put_registers.Statement.{statement}
 use Rattle.writing.proofs.put_registers.Tie as tie

@@ -4,10 +4,10 @@ use Prim.Native.Nat.{ℕ}
 use native.Mathlib.Omega.{arith}
 use borrow.Author.Needs.{needs}
 use borrow.Author.Tests.{eqb-true, eqb-false}
-use Rattle.values.specs.Registers.{join}
+use Rattle.registers.specs.Registers.{join}
 use Rattle.values.specs.Classes.{classified}
-use Rattle.values.proofs.Joining.{shown}
-use Rattle.values.proofs.RegisterParts.{zero-joined}
+use Rattle.registers.proofs.Joining.{shown}
+use Rattle.registers.proofs.RegisterParts.{zero-joined}
 use Rattle.listing.proofs.PointClasses.{each-register, wide-value}
 use Rattle.listing.proofs.points.class_of.Statement.{statement}
 use Rattle.listing.proofs.points.class_of.Tie as tie

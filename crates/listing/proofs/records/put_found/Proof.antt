@@ -2,7 +2,7 @@
 use mathlib.Core.Path.{sym, ap, _∙_}
 use native.Mathlib.Omega.{arith}
 use borrow.Author.Tests.{not-true, not-false}
-use Rattle.values.specs.Registers.{shownRaw}
+use Rattle.registers.specs.Registers.{shownRaw}
 use Rattle.catalog.specs.Answers.{pointForm}
 use Rattle.listing.proofs.SoughtPoints.{seen-before, seen-other, seen-elsewhere, seen-found}
 use borrow.Author.Needs.{needs}

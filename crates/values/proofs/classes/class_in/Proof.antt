@@ -1,7 +1,7 @@
 -- `class_in` tests the unimplemented pattern first, then the range, as the definition does.
 use mathlib.Core.Path.{sym, _∙_}
 use borrow.Author.Needs.{needs}
-use Rattle.values.specs.Answers.{rowMeans}
+use Rattle.point_types.specs.Answers.{rowMeans}
 use Rattle.values.proofs.ClassCases as cases
 use Rattle.values.proofs.classes.class_in.Statement.{statement}
 use Rattle.values.proofs.classes.class_in.Tie as tie

@@ -3,10 +3,10 @@ use mathlib.Core.Path.{_≡_, sym, ap, _∙_}
 use mathlib.Core.Option.{some}
 use Prim.Native.Nat.{ℕ}
 use borrow.Author.Needs.{needs}
-use Rattle.values.specs.Rows.{rowOf}
+use Rattle.point_types.specs.Rows.{rowOf}
 use Rattle.values.specs.Classes.{classified}
-use Rattle.values.specs.Answers.{foundMeans, rowMeans}
-use Rattle.values.proofs.Table.{own-code, listed}
+use Rattle.point_types.specs.Answers.{foundMeans, rowMeans}
+use Rattle.point_types.proofs.Table.{own-code, listed}
 use Rattle.values.proofs.ClassCases.{unknown}
 use Rattle.values.proofs.classes.classify.Statement.{statement}
 use Rattle.values.proofs.classes.classify.Tie as tie

@@ -1,7 +1,7 @@
 -- `in_range`: each kind of range by its law of Ranges.
 use mathlib.Core.Path.{sym, ap, _∙_}
 use borrow.Author.Needs.{needs}
-use Rattle.values.specs.Answers.{rowMeans, rangeMeans}
+use Rattle.point_types.specs.Answers.{rowMeans, rangeMeans}
 use Rattle.values.proofs.Ranges as ranges
 use Rattle.values.proofs.classes.in_range.Statement.{statement}
 use Rattle.values.proofs.classes.in_range.Tie as tie

@@ -3,7 +3,7 @@ use mathlib.Core.Path.{_≡_, _∙_}
 use Prim.Native.Nat.{_-_, _*_, _^_}
 use native.Mathlib.Omega.{arith}
 use borrow.Author.Needs.{needs}
-use Rattle.values.proofs.Joining.{four-ones}
+use Rattle.registers.proofs.Joining.{four-ones}
 use Rattle.values.proofs.UnscaledCases.{from-zero, below-zero}
 use Rattle.values.proofs.unscaled.twos_complement_by_sign.Statement.{statement}
 use Rattle.values.proofs.unscaled.twos_complement_by_sign.Tie as tie

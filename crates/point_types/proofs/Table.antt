@@ -1,0 +1,183 @@
+-- Laws of the table of type rows: look-up, and what holds of each of its rows, computed once over the whole table.
+use mathlib.Core.Path.{_≡_, refl, sym, ap, subst, _∙_}
+use mathlib.Core.Bool.{Bool, true, false, not, _&&_, _||_}
+use mathlib.Core.List.{List, [], _∷_}
+use mathlib.Core.Option.{none, some}
+use Prim.Native.Nat.{ℕ, zero, suc, _+_, _-_, _*_, _^_, _≤_, _<_}
+use native.Mathlib.Nat.{add-zero, add-suc, suc-add}
+use native.Mathlib.Omega.{arith}
+use borrow.Author.Tests.{eqb-true, le-leb, eq-eqb, ne-eqb}
+use lib.Dec.{T, eqb, leb, eqb→eq, leb→le}
+use lib.IntN.{ℤ, pos, negsuc}
+use lib.ListN.{length, getD}
+use lib.Ieee.Fits.{and-l, and-r}
+use Rattle.point_types.proofs.ListTests.{every}
+use Rattle.point_types.specs.Rows.{TypeRow, Kind, signed, unsigned, float, Unimplemented, never, pattern, Range, whole, between, notNaN, rows, rowAmong, rowOf, Listed}
+
+-- The row found is one of the list, with the code looked for.
+found-among : (test : TypeRow → Bool) (rs : List TypeRow) (c : ℕ) (r : TypeRow) → T (every test rs) → rowAmong rs c ≡ some r
+    → (c ≡ r .code) × T (test r)
+unfolding rowAmong
+found-among test [] c r t e = let z : _≡_ {A = ℕ} 0 1 = cc in absurd (omega arith)
+found-among test (x ∷ rs) c r t e =
+    go (eqb c (x .code)) refl e (λ q. found-among test rs c r (and-r (test x) (every test rs) t) q)
+  where
+    go : (b : Bool) → eqb c (x .code) ≡ b → elim b [ true ↦ some x | false ↦ rowAmong rs c ] ≡ some r
+        → (rowAmong rs c ≡ some r → (c ≡ r .code) × T (test r)) → (c ≡ r .code) × T (test r)
+    go true b q ih =
+        let s : x ≡ r = cc in
+        (eqb-true c (x .code) b ∙ ap (λ (y : TypeRow). y .code) s, subst (λ (y : TypeRow). T (test y)) s (and-l (test x) (every test rs) t))
+    go false b q ih = ih q
+
+-- A test that passes at each row of the table passes at a row that is found there.
+found : (test : TypeRow → Bool) → T (every test rows) → (c : ℕ) (r : TypeRow) → rowOf c ≡ some r → (c ≡ r .code) × T (test r)
+found test t c r e = found-among test rows c r t e
+
+-- The row that a code finds has that code, and is a row of the table.
+pub own-code : (c : ℕ) (r : TypeRow) → rowOf c ≡ some r → c ≡ r .code
+unfolding rows
+own-code c r e = found (λ x. true) tt c r e .0
+
+pub listed : (c : ℕ) (r : TypeRow) → rowOf c ≡ some r → Listed r
+listed c r e = sym (ap rowOf (own-code c r e)) ∙ e
+
+-- The rows of a list carry the codes from c on, in order.
+abbrev numbered : ℕ → List TypeRow → Bool
+numbered c [] = true
+numbered c (r ∷ rs) = eqb (r .code) c && numbered (suc c) rs
+
+-- The row with the i-th code is the i-th row.
+by-place : (c : ℕ) (rs : List TypeRow) (d : TypeRow) (i : ℕ) → T (numbered c rs) → i < length rs
+    → rowAmong rs (c + i) ≡ some (getD rs i d)
+unfolding rowAmong
+by-place c [] d i t h = absurd (omega arith)
+by-place c (r ∷ rs) d zero t h =
+    let e = eqb→eq (r .code) c (and-l (eqb (r .code) c) (numbered (suc c) rs) t) in
+    simp (rowAmong, eq-eqb (c + 0) (r .code) (add-zero c ∙ sym e))
+by-place c (r ∷ rs) d (suc i) t h =
+    let e = eqb→eq (r .code) c (and-l (eqb (r .code) c) (numbered (suc c) rs) t) in
+    let n : c + suc i ≡ r .code → ⊥ = λ q. omega (arith, e, q) in
+    simp (rowAmong, ne-eqb (c + suc i) (r .code) n)
+    (rw (add-suc c i, ← suc-add c i) (by-place (suc c) rs d i (and-r (eqb (r .code) c) (numbered (suc c) rs) t) (omega arith)))
+
+pub row-at : (d : TypeRow) (c : ℕ) → 1 ≤ c → c ≤ 20 → rowOf c ≡ some (getD rows (c - 1) d)
+unfolding rows
+row-at d c l h = let n : 1 + (c - 1) ≡ c = omega arith in sym (ap rowOf n) ∙ by-place 1 rows d (c - 1) tt (omega arith)
+
+-- No row has a code below 1 or above 20.
+none-outside : (rs : List TypeRow) (c : ℕ) → T (every (λ r. leb 1 (r .code) && leb (r .code) 20) rs) → (1 ≤ c → c ≤ 20 → ⊥)
+    → rowAmong rs c ≡ none
+unfolding rowAmong
+none-outside [] c t n = refl
+none-outside (r ∷ rs) c t n =
+    let test : TypeRow → Bool = λ x. leb 1 (x .code) && leb (x .code) 20 in
+    let here = and-l (test r) (every test rs) t in
+    let low = leb→le 1 (r .code) (and-l (leb 1 (r .code)) (leb (r .code) 20) here) in
+    let high = leb→le (r .code) 20 (and-r (leb 1 (r .code)) (leb (r .code) 20) here) in
+    simp (rowAmong, ne-eqb c (r .code) (λ q. n (rw q low) (rw q high))) (none-outside rs c (and-r (test r) (every test rs) t) n)
+
+pub no-row-outside : (c : ℕ) → (1 ≤ c → c ≤ 20 → ⊥) → rowOf c ≡ none
+unfolding rows
+no-row-outside c n = none-outside rows c tt n
+
+-- ---- What holds of each row
+
+-- Codes count from 1.
+pub from-one : (c : ℕ) (r : TypeRow) → rowOf c ≡ some r → 1 ≤ c
+unfolding rows
+from-one c r e = let f = found (λ x. leb 1 (x .code)) tt c r e in omega (arith, f .0, leb→le 1 (r .code) (f .1))
+
+-- Every type takes 1 to 64 registers.
+pub one-to-64 : (c : ℕ) (r : TypeRow) → rowOf c ≡ some r → (1 ≤ r .fewest) × (r .most ≤ 64)
+unfolding rows
+one-to-64 c r e =
+    let t = found (λ x. leb 1 (x .fewest) && leb (x .most) 64) tt c r e .1 in
+    let low = and-l (leb 1 (r .fewest)) (leb (r .most) 64) t in
+    let high = and-r (leb 1 (r .fewest)) (leb (r .most) 64) t in
+    (leb→le 1 (r .fewest) low, leb→le (r .most) 64 high)
+
+-- The codes up to 18 take at most four registers.
+abbrev fourTest : TypeRow → Bool
+fourTest r = not (leb (r .code) 18) || leb (r .most) 4
+
+pub four-registers : (c : ℕ) (r : TypeRow) → c ≤ 18 → rowOf c ≡ some r → r .most ≤ 4
+unfolding rows
+four-registers c r h e =
+    let f = found fourTest tt c r e in
+    let k : r .code ≤ 18 = omega (arith, f .0) in
+    leb→le (r .most) 4 (rw (le-leb (r .code) 18 k) at (f .1))
+
+-- A type that may carry a scale takes at most four registers.
+pub scalable-width : (r : TypeRow) → Listed r → r .scalable ≡ true → r .most ≤ 4
+unfolding rows
+scalable-width r l s =
+    let t = found (λ x. not (x .scalable) || leb (x .most) 4) tt (r .code) r l .1 in
+    leb→le (r .most) 4 (rw s at t)
+
+-- A signed type takes one to four registers; a float takes two, and no NaN is in its range.
+abbrev kindTest : Kind → ℕ → Range → Bool
+kindTest signed m r = leb 1 m && leb m 4
+kindTest unsigned m r = true
+kindTest float m whole = false
+kindTest float m (between low high) = false
+kindTest float m notNaN = eqb m 2
+
+module _ (r : TypeRow) (l : Listed r) where
+  kinds : T (kindTest (r .kind) (r .most) (r .range))
+  unfolding rows
+  kinds = found (λ x. kindTest (x .kind) (x .most) (x .range)) tt (r .code) r l .1
+
+  pub signed-width : r .kind ≡ signed → (1 ≤ r .most) × (r .most ≤ 4)
+  signed-width k =
+      let t = rw k at kinds in
+      (leb→le 1 (r .most) (and-l (leb 1 (r .most)) (leb (r .most) 4) t), leb→le (r .most) 4 (and-r (leb 1 (r .most)) (leb (r .most) 4) t))
+
+  pub float-row : r .kind ≡ float → (r .most ≡ 2) × (r .range ≡ notNaN)
+  float-row k = go (r .range) refl (rw k at kinds)
+    where
+      go : (x : Range) → r .range ≡ x → T (kindTest float (r .most) x) → (r .most ≡ 2) × (r .range ≡ notNaN)
+      go whole e t = absurd t
+      go (between low high) e t = absurd t
+      go notNaN e t = (eqb→eq (r .most) 2 t, e)
+
+-- A range that begins below 0 is a signed type's of one register, and a range that begins at 0 or above is no signed type's.
+abbrev rangeTest : Range → Kind → ℕ → Bool
+rangeTest whole k m = true
+rangeTest notNaN k m = true
+rangeTest (between (pos low) high) signed m = false
+rangeTest (between (pos low) high) unsigned m = true
+rangeTest (between (pos low) high) float m = true
+rangeTest (between (negsuc low) high) signed m = eqb m 1
+rangeTest (between (negsuc low) high) unsigned m = false
+rangeTest (between (negsuc low) high) float m = false
+
+module _ (r : TypeRow) (l : Listed r) where
+  ranges : T (rangeTest (r .range) (r .kind) (r .most))
+  unfolding rows
+  ranges = found (λ x. rangeTest (x .range) (x .kind) (x .most)) tt (r .code) r l .1
+
+  pub counts-from-zero : (low : ℕ) (high : ℤ) → r .range ≡ between (pos low) high → r .kind ≡ signed → ⊥
+  counts-from-zero low high e k = rw (e, k) at ranges
+
+  pub signed-range : (low : ℕ) (high : ℤ) → r .range ≡ between (negsuc low) high → (r .kind ≡ signed) × (r .most ≡ 1)
+  signed-range low high e = go (r .kind) refl (rw e at ranges)
+    where
+      go : (k : Kind) → r .kind ≡ k → T (rangeTest (between (negsuc low) high) k (r .most)) → (r .kind ≡ signed) × (r .most ≡ 1)
+      go signed q t = (q, eqb→eq (r .most) 1 t)
+      go unsigned q t = absurd t
+      go float q t = absurd t
+
+-- A signed type without a narrower range is unimplemented at its least pattern, and only a float's range is that of a float.
+abbrev pub edgeTest : Range → Kind → Unimplemented → ℕ → Bool
+edgeTest (between low high) k m width = true
+edgeTest whole signed never width = false
+edgeTest whole signed (pattern p) width = eqb p (2 ^ (width - 1))
+edgeTest whole unsigned m width = true
+edgeTest whole float m width = true
+edgeTest notNaN signed m width = false
+edgeTest notNaN unsigned m width = false
+edgeTest notNaN float m width = true
+
+pub edges : (r : TypeRow) → Listed r → T (edgeTest (r .range) (r .kind) (r .unimplemented) (16 * r .most))
+unfolding rows
+edges r l = found (λ x. edgeTest (x .range) (x .kind) (x .unimplemented) (16 * x .most)) tt (r .code) r l .1

@@ -1,0 +1,110 @@
+// The point types: their rows as the code holds them, in one table, proved to be that of specs/Rows.antt.
+ghost use mathlib.Core.Path.{_≡_};
+ghost use Rattle.point_types.specs.Rows.{rowOf};
+ghost use Rattle.point_types.specs.Answers.{foundMeans};
+use crate::Kind::Float;
+use crate::Kind::Signed;
+use crate::Kind::Unsigned;
+use crate::Range::NotNan;
+use crate::Range::Only;
+use crate::Range::ScaleFactor;
+use crate::Range::UpTo;
+use crate::Range::Whole;
+use crate::Unimplemented::At;
+use crate::Unimplemented::Never;
+
+// How the bits of a value are read.
+pub enum Kind {
+    Signed,
+    Unsigned,
+    Float,
+}
+
+// The pattern that says that a point is not implemented.
+pub enum Unimplemented {
+    Never,
+    At(u64),
+}
+
+// The patterns in range. ScaleFactor is -10 to 10 in one register.
+pub enum Range {
+    Whole,
+    UpTo(u64),
+    Only(u64),
+    ScaleFactor,
+    NotNan,
+}
+
+// A type row. Its code is for the proofs: they say by it that a row is one of the table.
+pub struct TypeRow {
+    pub code: u16,
+    pub fewest: u16,
+    pub most: u16,
+    pub scalable: bool,
+    pub kind: Kind,
+    pub unimplemented: Unimplemented,
+    pub range: Range,
+}
+
+// What looking a type code up finds.
+pub enum Found {
+    Row(TypeRow),
+    Nothing,
+}
+
+// A row as the table writes it, on one line: code, fewest and most registers, may it carry a scale
+// factor, kind, unimplemented pattern, range.
+struct Line(u16, u16, u16, bool, Kind, Unimplemented, Range);
+
+// How many types there are: their codes count from 1.
+const TYPES: usize = 20;
+
+// The rows in the order of their codes.
+const TABLE: [Line; TYPES] = [
+    Line(1, 1, 1, true, Signed, At(0x8000), Whole), // int16
+    Line(2, 1, 1, true, Unsigned, At(0xFFFF), Whole), // uint16
+    Line(3, 1, 1, true, Unsigned, At(0), Whole), // acc16
+    Line(4, 1, 1, false, Unsigned, At(0xFFFF), Whole), // enum16
+    Line(5, 1, 1, false, Unsigned, At(0xFFFF), UpTo(0x7FFF)), // bitfield16
+    Line(6, 1, 1, false, Unsigned, Never, Only(0x8000)), // pad
+    Line(7, 1, 1, false, Unsigned, Never, Whole), // raw16
+    Line(8, 1, 1, false, Signed, At(0x8000), ScaleFactor), // sunssf
+    Line(9, 2, 2, true, Signed, At(0x80000000), Whole), // int32
+    Line(10, 2, 2, true, Unsigned, At(0xFFFFFFFF), Whole), // uint32
+    Line(11, 2, 2, true, Unsigned, At(0), Whole), // acc32
+    Line(12, 2, 2, false, Unsigned, At(0xFFFFFFFF), Whole), // enum32
+    Line(13, 2, 2, false, Unsigned, At(0xFFFFFFFF), UpTo(0x7FFFFFFF)), // bitfield32
+    Line(14, 2, 2, false, Float, At(0x7FC00000), NotNan), // float32
+    Line(15, 2, 2, false, Unsigned, At(0), Whole), // ipaddr
+    Line(16, 4, 4, true, Signed, At(0x8000000000000000), Whole), // int64
+    Line(17, 4, 4, true, Unsigned, At(0xFFFFFFFFFFFFFFFF), Whole), // uint64
+    Line(18, 4, 4, true, Unsigned, At(0), UpTo(0x7FFFFFFFFFFFFFFF)), // acc64
+    Line(19, 1, 64, false, Unsigned, At(0), Whole), // string
+    Line(20, 8, 8, false, Unsigned, At(0), Whole), // ipv6addr
+];
+
+// The row of a type code.
+pub fn row_of(type_code: u16) -> Found
+    ensures { λ r. ⌜ foundMeans r ≡ rowOf «type_code» ⌝ }
+{
+    let code = type_code as usize;
+    if code < 1 {
+        return Found::Nothing;
+    }
+    if TYPES < code {
+        return Found::Nothing;
+    }
+    let line = TABLE[code - 1];
+    let kind = line.4;
+    let unimplemented = line.5;
+    let range = line.6;
+    Found::Row(TypeRow {
+        code: line.0,
+        fewest: line.1,
+        most: line.2,
+        scalable: line.3,
+        kind,
+        unimplemented,
+        range,
+    })
+}

@@ -1,0 +1,6 @@
+-- Laws of the definitions, and what the proofs of the functions cite
+pub mod Joining
+pub mod Splitting
+pub mod RegisterParts
+-- Laws of tests, for all crates
+pub mod TestOutcomes

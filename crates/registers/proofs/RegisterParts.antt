@@ -1,0 +1,55 @@
+-- Laws of the registers from a place on: how many a part takes of them, and whether they are all 0.
+use mathlib.Core.Path.{_≡_, refl, sym, _∙_}
+use mathlib.Core.Bool.{Bool, true, false, _&&_}
+use mathlib.Core.List.{List, [], _∷_}
+use Prim.Native.Nat.{ℕ, _+_, _-_, _*_, _^_, _≤_, _<_}
+use native.Mathlib.Nat.{mul-le-mul-right}
+use native.Mathlib.Numerals.{add-one}
+use native.Mathlib.Omega.{arith}
+use borrow.Author.Tests.{eq-eqb, ne-eqb, eqb-true, eqb-false}
+use lib.Dec.{eqb}
+use lib.ListN.{length, getD, take, drop, length-drop, drop-of-length-le}
+use lib.Seq.{drop-cons, take-all, take-nil}
+use Rattle.registers.specs.Registers.{join, allZero}
+use Rattle.registers.proofs.Joining.{positive}
+
+-- Behind the end nothing is taken.
+pub part-behind : (rs : List ℕ) (start count : ℕ) → length rs ≤ start → [] ≡ take count (drop start rs)
+part-behind rs start count h = rw (drop-of-length-le rs {i = start} h) (sym (take-nil count))
+
+-- Where no more is left than is asked for, all of it is taken.
+pub part-rest : (rs : List ℕ) (start count : ℕ) → length rs - start ≤ count
+    → take (length rs - start) (drop start rs) ≡ take count (drop start rs)
+part-rest rs start count h =
+    let rest = drop start rs in
+    let left = length-drop start rs in
+    take-all (length rs - start) rest (omega (arith, left)) ∙ sym (take-all count rest (omega (arith, left)))
+
+-- From the register at i on.
+module _ (rs : List ℕ) (i : ℕ) (h : i < length rs) where
+  pub zero-on : getD rs i 0 ≡ 0 → allZero (drop i rs) ≡ allZero (drop (i + 1) rs)
+  zero-on e = rw (drop-cons rs i 0 h, add-one i) (simp (eq-eqb _ _ e))
+
+  pub zero-not : (getD rs i 0 ≡ 0 → ⊥) → allZero (drop i rs) ≡ false
+  zero-not e = rw (drop-cons rs i 0 h) (simp (ne-eqb _ _ e))
+
+-- At the end of the registers.
+pub zero-end : (rs : List ℕ) (i : ℕ) → length rs ≤ i → allZero (drop i rs) ≡ true
+zero-end rs i h = rw (drop-of-length-le rs h)
+
+-- Registers are all 0 just where they join to 0.
+pub zero-joined : (rs : List ℕ) → allZero rs ≡ eqb (join rs) 0
+unfolding join
+zero-joined [] = refl
+zero-joined (r ∷ rs) = go (eqb r 0) refl (zero-joined rs)
+  where
+    p : ℕ
+    p = 65536 ^ length rs
+
+    go : (b : Bool) → eqb r 0 ≡ b → allZero rs ≡ eqb (join rs) 0 → (b && allZero rs) ≡ eqb (r * p + join rs) 0
+    go true e ih =
+        let same : r * p + join rs ≡ join rs = rw (eqb-true r 0 e) (omega arith) in
+        rw same ih
+    go false e ih =
+        let one : 1 ≤ r = omega (arith, eqb-false r 0 e) in
+        sym (ne-eqb (r * p + join rs) 0 (λ z. omega (arith, z, mul-le-mul-right p one, positive (length rs))))

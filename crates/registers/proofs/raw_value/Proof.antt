@@ -1,0 +1,101 @@
+-- `raw_value` joins up to four registers. The invariant: what is joined, moved up past the registers left, and what these hold
+-- make the whole; and the registers joined so far leave room in 64 bits for the next.
+use mathlib.Core.Path.{_≡_, sym, _∙_}
+use Prim.Native.Nat.{suc, _+_, _-_, _*_, _^_, _≤_, _<_}
+use native.Mathlib.Omega.{arith}
+use borrow.Author.Needs.{needs}
+use borrow.Author.Tests.{le-leb, lt-leb}
+use lib.ListN.{length, drop}
+use Rattle.registers.specs.Registers.{join, shownRaw}
+use Rattle.registers.proofs.Joining.{join-start, join-step, join-end, one-more, room, positive}
+use Rattle.registers.proofs.raw_value.Statement.{statement}
+use Rattle.registers.proofs.raw_value.Tie as tie
+
+abbrev Inv-loop : tie.InvT-loop
+Inv-loop registers raw₀ left₀ raw left =
+    (left ≤ length registers)
+    × (length registers ≤ 4)
+    × (raw < 65536 ^ (length registers - left))
+    × (raw * 65536 ^ left + join (drop (length registers - left) registers) ≡ join registers)
+
+abbrev μ-loop : tie.MeasureT-loop
+μ-loop registers raw₀ left₀ raw left = left
+
+returns : tie.Need-returns Inv-loop μ-loop
+unfolding shownRaw
+returns c = (simp (shownRaw, lt-leb _ _ (c .if1 .taken)), positive (length (c .before .before .args .registers .now)))
+
+loop-holds : tie.Need-loop-holds Inv-loop μ-loop
+loop-holds c =
+    let rs = c .before .before .args .registers .now in
+    (omega arith, omega arith, positive (length rs - length rs), join-start rs)
+
+mul-raw : tie.Need-mul-raw Inv-loop μ-loop
+mul-raw c =
+    let l = c .before .loop in
+    let rs = c .before .before .before .before .args .registers .now in
+    omega (arith, room (length rs - l .left) (l .raw) (omega arith) (l .inv .2))
+
+sub-wide : tie.Need-sub-wide Inv-loop μ-loop
+sub-wide c = search needs
+
+mul-wide : tie.Need-mul-wide Inv-loop μ-loop
+mul-wide c = search needs
+
+shared-slice-read-wide : tie.Need-shared-slice-read-wide Inv-loop μ-loop
+shared-slice-read-wide c = search needs
+
+wide-requires : tie.Need-wide-requires Inv-loop μ-loop
+wide-requires c κs = search needs
+
+add-raw : tie.Need-add-raw Inv-loop μ-loop
+add-raw c =
+    let l = c .before .before .before .loop in
+    let rs = c .before .before .before .before .before .before .args .registers .now in
+    omega (arith, c .wide .ensures .1, room (length rs - l .left) (l .raw) (omega arith) (l .inv .2))
+
+sub-left : tie.Need-sub-left Inv-loop μ-loop
+sub-left c = search needs
+
+loop-less : tie.Need-loop-less Inv-loop μ-loop
+loop-less c = search needs
+
+loop-again : tie.Need-loop-again Inv-loop μ-loop
+loop-again c =
+    let l = c .before .before .before .loop in
+    let rs = c .before .before .before .before .before .before .args .registers .now in
+    let i = length rs - l .left in
+    let e : length rs - (l .left - 1) ≡ suc i = omega arith in (
+      omega arith,
+      omega arith,
+      rw e (one-more i (l .raw) (c .wide .result) (l .inv .2) (c .wide .ensures .1)),
+      rw (c .wide .ensures .0) (sym (join-step rs (l .left) (l .raw) (omega arith) (l .inv .0)) ∙ l .inv .3),
+    )
+
+returns-2 : tie.Need-returns-2 Inv-loop μ-loop
+unfolding shownRaw
+returns-2 c =
+    let l = c .before .loop in
+    let rs = c .before .before .before .before .args .registers .now in
+    let e : l .left ≡ 0 = omega (arith, c .loop-test .left) in
+    let all : length rs - l .left ≡ length rs = omega arith in
+    (simp (shownRaw, le-leb _ _ (l .inv .1)) (sym (join-end rs (l .raw)) ∙ (rw e at (l .inv .3))), rw all at (l .inv .2))
+
+pub raw-value-spec : {M : Type 1} → statement M
+raw-value-spec =
+    tie.close
+    (tie.spec
+    Inv-loop
+    μ-loop
+    returns
+    loop-holds
+    mul-raw
+    sub-wide
+    mul-wide
+    shared-slice-read-wide
+    wide-requires
+    add-raw
+    sub-left
+    loop-less
+    loop-again
+    returns-2)
