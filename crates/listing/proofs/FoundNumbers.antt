@@ -102,7 +102,7 @@ module _ (P : ModelPoint → Type 0) (read : Model → Reading)
 abbrev pub nothingFound : List ℕ
 nothingFound = 0 ∷ 0 ∷ 0 ∷ 0 ∷ 0 ∷ 0 ∷ []
 
-module _ (catalog registers : List ℕ) (n : ℕ) (a : checked catalog ≡ accepted n) (index : ℕ) (sought : Sought) where
+module _ (catalog registers : List ℕ) (n : ℕ) (a : checked catalog ≡ accepted n) (sought : Sought) where
   -- The records of a map.
   abbrev all : Listing.Answer
   all = walked (reading (definitions catalog)) registers
@@ -112,14 +112,14 @@ module _ (catalog registers : List ℕ) (n : ℕ) (a : checked catalog ≡ accep
       walk-each (λ p. Narrow (p .definition)) (reading (definitions catalog))
       (reading-narrow (definitions catalog) (accepted-is-sound catalog n a .0 .each)) _ 0 2 _ rs headers e
 
-  pub found-narrow : NarrowFound (foundIn all index sought nothingFound)
+  pub found-narrow : NarrowFound (foundIn all sought nothingFound)
   found-narrow = go all refl
     where
       narrow : NarrowFound nothingFound
       narrow = record { typeCode = omega arith; size = omega arith; access = omega arith }
 
       it : Record → Bool
-      it = isRecord index (sought .number) (sought .path .instances)
+      it = isRecord (sought .model) (sought .number) (sought .path .instances)
 
       by-found : (rs : List Record) → Each (λ r. Narrow (r .point .definition)) rs → (o : Option Record) → firstWith it rs ≡ o
           → NarrowFound (elim o [ none ↦ nothingFound | some r ↦ foundNumbers r ])
@@ -128,7 +128,7 @@ module _ (catalog registers : List ℕ) (n : ℕ) (a : checked catalog ≡ accep
           let h = each-one (λ r. Narrow (r .point .definition)) rs each r (found-in it rs r e .0) in
           record { typeCode = h .0; size = h .1; access = h .2 }
 
-      go : (x : Listing.Answer) → all ≡ x → NarrowFound (foundIn x index sought nothingFound)
+      go : (x : Listing.Answer) → all ≡ x → NarrowFound (foundIn x sought nothingFound)
       go (Listing.refused number place headers) e = narrow
       go (listed rs headers) e = by-found rs (records-narrow rs headers e) (firstWith it rs) refl
 
@@ -149,22 +149,22 @@ module _ (found : List ℕ) where
   ]) (ne-eqb (getD found 0 0) 0 n))
 
 -- What is told by a search of all records is what finding comes to.
-module _ (catalog registers : List ℕ) (index : ℕ) (sought : Sought) where
+module _ (catalog registers : List ℕ) (sought : Sought) where
   pub found-told : (rs : List Record) (headers : ℕ) → allRecords catalog registers ≡ listed rs headers
       → walked (reading (definitions catalog)) registers ≡ listed rs headers
-      → toldBy (foundIn (walked (reading (definitions catalog)) registers) index sought nothingFound)
-      ≡ told (finding catalog registers index (sought .number) (sought .path .instances))
+      → toldBy (foundIn (walked (reading (definitions catalog)) registers) sought nothingFound)
+      ≡ told (finding catalog registers (sought .model) (sought .number) (sought .path .instances))
   unfolding finding
   found-told rs headers e w =
-      ap (λ a. toldBy (foundIn a index sought nothingFound)) w
-      ∙ go (firstWith (isRecord index (sought .number) (sought .path .instances)) rs)
+      ap (λ a. toldBy (foundIn a sought nothingFound)) w
+      ∙ go (firstWith (isRecord (sought .model) (sought .number) (sought .path .instances)) rs)
       ∙ sym (ap (λ a. told (ofAnswer a)) e)
     where
       ofAnswer : Listing.Answer → Finding
       ofAnswer a =
           elim a [
             | Listing.refused n place headers ↦ refused n place
-            | listed rs headers ↦ elim (firstWith (isRecord index (sought .number) (sought .path .instances)) rs) [
+            | listed rs headers ↦ elim (firstWith (isRecord (sought .model) (sought .number) (sought .path .instances)) rs) [
               | none ↦ nothing
               | some r ↦ found r
             ]
@@ -176,6 +176,6 @@ module _ (catalog registers : List ℕ) (index : ℕ) (sought : Sought) where
       go (some r) = refl
 
   pub refused-told : (number place headers : ℕ) → allRecords catalog registers ≡ Listing.refused number place headers
-      → refusedTold number place ≡ told (finding catalog registers index (sought .number) (sought .path .instances))
+      → refusedTold number place ≡ told (finding catalog registers (sought .model) (sought .number) (sought .path .instances))
   unfolding finding
   refused-told number place headers e = sym (rw (e, finding))

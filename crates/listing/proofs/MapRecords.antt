@@ -1,27 +1,42 @@
--- The second walk over the headers of a map: the records are written, model by model.
+-- The second walk over the headers of a map: the records of all models are written, or the point sought is looked for in its own.
 use mathlib.Core.Path.{_≡_, refl, sym, ap, subst, _∙_}
+use mathlib.Core.Bool.{Bool, true, false, not}
 use mathlib.Core.List.{List, [], _++_}
 use mathlib.Core.List as Lists
+use mathlib.Core.Option.{none}
 use Prim.Native.Nat.{ℕ, _+_, _*_, _≤_, _<_}
 use native.Mathlib.Omega.{arith}
+use borrow.Author.Tests.{eqb-true, le-leb}
 use lib.Dec.{eqb}
-use lib.ListN.{length, drop, length-append, length-map}
+use lib.ListN.{length, drop, getD, length-append, length-map}
 use lib.Seq.{sets, sets-eq, length-sets}
 use Rattle.register_map.specs.Headers.{model, endMarker, refused, headerAt}
 use Rattle.register_map.specs.Scan.{Model}
 use Rattle.register_map.proofs.HeaderCases.{model-ends}
 use Rattle.listing.specs.Points.{ModelPoint}
-use Rattle.listing.specs.Reading.{Reading, unknown, faulty, points}
+use Rattle.listing.specs.Reading.{Fault, Reading, unknown, faulty, points}
 use Rattle.listing.specs.Listing as Listing
 use Rattle.listing.specs.Listing.{Record, recordWidth, recordOf, Answer, listed, walked, entries, stored}
+use Rattle.listing.specs.Finding.{isRecord, firstWith}
 use Rattle.listing.specs.Walks.{pointsOf}
-use Rattle.listing.specs.Promises.{written, WalkFits}
+use Rattle.listing.specs.Promises.{foundWidth, capacity, written, passedOver, metBy, foundIn, MapFits, behindMap}
 use Rattle.listing.specs.declared.records.Sought.{Sought}
 use Rattle.listing.specs.declared.records.Task.{Task}
 use Rattle.listing.specs.declared.records.Visit.{Visit}
-use Rattle.listing.proofs.WrittenRecords.{sets-append, entries-length, entries-append, written-none}
+use Rattle.listing.proofs.WrittenRecords.{sets-append, entries-length, entries-append, written-none, written-length}
 use Rattle.listing.proofs.WalkSteps.{not-listed, in-front-listed}
-use Rattle.listing.proofs.MapSteps.{walkAt, modelAt, walk-starts, walk-at-end, walk-at-refused, walk-at-late, walk-at-unknown, walk-at-faulty, walk-at-points}
+use Rattle.listing.proofs.MapSteps.{walkAt, modelAt, body-length, walk-starts, walk-at-end, walk-at-refused, walk-at-late, walk-at-unknown, walk-at-faulty, walk-at-points}
+use Rattle.listing.proofs.Searches.{foundOr, searches-first, passed-over, own-records, none-later, found-listed}
+
+-- ---- The points that are met of a model
+
+-- None where it is passed over,
+pub met-none : (visit : Visit) (ps : List ModelPoint) → passedOver visit ≡ true → metBy visit ps ≡ []
+met-none visit ps e = ap {B = List ModelPoint} (λ b. elim b [ true ↦ [] | false ↦ ps ]) e
+
+-- else all.
+pub met-all : (visit : Visit) (ps : List ModelPoint) → passedOver visit ≡ false → metBy visit ps ≡ ps
+met-all visit ps e = ap {B = List ModelPoint} (λ b. elim b [ true ↦ [] | false ↦ ps ]) e
 
 -- Of no points nothing is written.
 pub nothing-written : (visit : Visit) (k : ℕ) (ps : List ModelPoint) (out : List ℕ) → ps ≡ []
@@ -29,129 +44,247 @@ pub nothing-written : (visit : Visit) (k : ℕ) (ps : List ModelPoint) (out : Li
 nothing-written visit k ps out e =
     (omega (arith, ap length e), sym (ap (λ qs. written visit k qs out) e ∙ written-none visit k out))
 
--- The walk stands at a header with so many records written: what is left has room, and writing it gives the list behind the
--- whole.
-pub record WritingMap (read : Model → Reading) (map before out : List ℕ) (at index records : ℕ) : Type 0 where
+-- ---- Header by header
+
+-- What is left leads to the list behind the whole. Records: it has room, and is written behind the records so far. Search: the
+-- point is found in it just where it is found in all, and up to its model nothing is found yet.
+abbrev pub Leads : Task → Sought → Answer → List ℕ → List ℕ → ℕ → ℕ → List Record → Type 0
+Leads Task.Records sought all before out index records left =
+    (sets out (recordWidth * records) (entries left) ≡ stored all before) × (recordWidth * (records + length left) ≤ length out)
+Leads Task.Search sought all before out index records left =
+    (foundOr out (firstWith (isRecord (sought .model) (sought .number) (sought .path .instances)) left)
+    ≡ foundIn all sought before)
+    × ((foundWidth ≤ length out) × (records ≤ 65535))
+    × (index ≤ sought .model → (getD out 0 0 ≡ 0) × (records ≡ 0))
+
+-- The walk stands at a header, with so many points met.
+pub record WalkingMap (read : Model → Reading) (map before out : List ℕ) (task : Task) (sought : Sought) (at index records : ℕ)
+    : Type 0 where
   pub left : List Record
   pub headers : ℕ
   pub rest : walkAt read map index at ≡ listed left headers
-  pub whole : sets out (recordWidth * records) (entries left) ≡ stored (walked read map) before
-  pub room : recordWidth * (records + length left) ≤ length out
+  pub leads : Leads task sought (walked read map) before out index records left
   pub sameLength : length out ≡ length before
   pub low : 2 ≤ at
   pub high : at ≤ 65538
   pub fewModels : index ≤ at
 
--- Records that have room, written from the beginning, are those in front of the rest of the list.
-starts : (read : Model → Reading) (map out : List ℕ) (a : Answer) → walkAt read map 0 2 ≡ a → a ≡ walked read map
-    → WalkFits a out → WritingMap read map out out 2 0 0
+pub walking-starts : (read : Model → Reading) (map out : List ℕ) (task : Task) (sought : Sought) → MapFits task (walked read map) out
+    → WalkingMap read map out out task sought 2 0 0
 unfolding stored
-starts read map out (Listing.refused number place headers) e all f = absurd f
-starts read map out (listed rs headers) e all f =
-    let n : 0 + length (entries rs) ≡ recordWidth * length rs = omega (arith, entries-length rs) in
-    record {
-      left = rs;
-      headers = headers;
-      rest = e;
-      whole = sets-eq (entries rs) out 0 (omega (arith, n, f))
-          ∙ ap (λ k. entries rs ++ drop k out) n
-          ∙ ap (λ a. stored a out) all;
-      room = omega (arith, f);
-      sameLength = refl;
-      low = omega arith;
-      high = omega arith;
-      fewModels = omega arith;
-    }
+walking-starts read map out task sought = go task (walked read map) refl
+  where
+    begins : (t : Task) (rs : List Record) (headers : ℕ) → walked read map ≡ listed rs headers
+        → Leads t sought (walked read map) out out 0 0 rs → WalkingMap read map out out t sought 2 0 0
+    begins t rs headers e l =
+        record {
+          left = rs;
+          headers = headers;
+          rest = walk-starts read map ∙ e;
+          leads = l;
+          sameLength = refl;
+          low = omega arith;
+          high = omega arith;
+          fewModels = omega arith;
+        }
 
-pub writing-starts : (read : Model → Reading) (map out : List ℕ) → WalkFits (walked read map) out
-    → WritingMap read map out out 2 0 0
-writing-starts read map out = starts read map out (walked read map) (walk-starts read map) refl
+    go : (t : Task) (a : Answer) → walked read map ≡ a → MapFits t a out → WalkingMap read map out out t sought 2 0 0
+    go Task.Records (Listing.refused number place headers) e f = absurd f
+    go Task.Search (Listing.refused number place headers) e f = absurd (f .0)
+    go Task.Records (listed rs headers) e f =
+        let n : 0 + length (entries rs) ≡ recordWidth * length rs = omega (arith, entries-length rs) in
+        begins Task.Records rs headers e (
+          sets-eq (entries rs) out 0 (omega (arith, n, f))
+              ∙ ap (λ k. entries rs ++ drop k out) n
+              ∙ ap (λ a. stored a out) (sym e),
+          omega (arith, f),
+        )
+    go Task.Search (listed rs headers) e f =
+        begins Task.Search rs headers e
+        (found-listed (walked read map) rs headers sought out e, (f .1, omega arith), λ l. (f .2, refl))
 
-module _ {read : Model → Reading} {map before out : List ℕ} {at index records : ℕ}
-    (here : WritingMap read map before out at index records) where
-  -- At the end marker all is written.
-  pub writing-ends : at < length map → headerAt (eqb at 2) (drop at map) ≡ endMarker → out ≡ stored (walked read map) before
-  unfolding entries
-  writing-ends inside h =
+module _ {read : Model → Reading} {map before out : List ℕ} {task : Task} {sought : Sought} {at index records : ℕ}
+    (here : WalkingMap read map before out task sought at index records) where
+  -- At the end marker all is done.
+  pub walking-ends : at < length map → headerAt (eqb at 2) (drop at map) ≡ endMarker
+      → out ≡ behindMap task sought (walked read map) before
+  unfolding entries firstWith
+  walking-ends inside h =
       let e : listed [] (index + 1) ≡ listed (here .left) (here .headers) =
       sym (walk-at-end read map index at inside h) ∙ here .rest in
-      let none : [] ≡ here .left = cc in
-      ap (λ rs. sets out (recordWidth * records) (entries rs)) none ∙ here .whole
+      let none : here .left ≡ [] = cc in
+      go task (subst (Leads task sought (walked read map) before out index records) none (here .leads))
+    where
+      go : (t : Task) → Leads t sought (walked read map) before out index records []
+          → out ≡ behindMap t sought (walked read map) before
+      go Task.Records l = l .0
+      go Task.Search l = l .0
 
   -- No header is refused.
-  pub writing-refused : {A : Type 0} {number : ℕ} → at < length map → headerAt (eqb at 2) (drop at map) ≡ refused number → A
-  writing-refused inside h = not-listed (sym (walk-at-refused read map index at inside h) ∙ here .rest)
+  pub walking-refused : {A : Type 0} {number : ℕ} → at < length map → headerAt (eqb at 2) (drop at map) ≡ refused number → A
+  walking-refused inside h = not-listed (sym (walk-at-refused read map index at inside h) ∙ here .rest)
 
   -- The registers do not end.
-  pub writing-late : {A : Type 0} → length map ≤ at → A
-  writing-late past = not-listed (sym (walk-at-late read map index at past) ∙ here .rest)
+  pub walking-late : {A : Type 0} → length map ≤ at → A
+  walking-late past = not-listed (sym (walk-at-late read map index at past) ∙ here .rest)
 
-  module _ (sought : Sought) (short : length map ≤ 65536) {id len : ℕ}
-      (h : headerAt (eqb at 2) (drop at map) ≡ model id len) where
-    -- The records of a model by its reading have room, and behind them the walk goes on.
-    abbrev pub GoesOn : Reading → Type 0
-    GoesOn r =
-        (recordWidth * (records + length (pointsOf r)) ≤ length out)
-        × WritingMap
-        read
-        map
-        before
-        (written (record { index = index; id = id; address = at; task = Task.Records; sought = sought }) records (pointsOf r) out)
-        (at + (2 + len))
-        (index + 1)
-        (records + length (pointsOf r))
+  module _ (few : (m : Model) (ps : List ModelPoint) → read m ≡ points ps → length ps ≤ length (m .body))
+      (short : length map ≤ 65536) {id len : ℕ} (h : headerAt (eqb at 2) (drop at map) ≡ model id len) where
+    abbrev own : Model
+    own = modelAt map at id len
 
-    by-reading : (r : Reading) → read (modelAt map at id len) ≡ r → GoesOn r
+    -- The model as it is visited, and its points that are met, by its reading.
+    abbrev visitBy : Task → Visit
+    visitBy t = record { index = index; id = id; address = at; task = t; sought = sought }
+
+    abbrev metIn : Task → Reading → List ModelPoint
+    metIn t r = metBy (visitBy t) (pointsOf r)
+
+    abbrev next : Answer
+    next = walkAt read map (index + 1) (at + (2 + len))
+
+    -- So many points met have room, and behind them what is left leads on.
+    abbrev Onward : Task → List ModelPoint → Type 0
+    Onward t qs =
+        (recordWidth * (records + length qs) ≤ capacity t (length out))
+        × ((ss : List Record)
+        × (next ≡ listed ss (here .headers))
+        × Leads t sought (walked read map) before (written (visitBy t) records qs out) (index + 1) (records + length qs) ss)
+
+    -- The records behind a model with points.
+    behind : (ps : List ModelPoint) → read own ≡ points ps
+        → (ss : List Record) × (next ≡ listed ss (here .headers)) × (here .left ≡ Lists.map (recordOf index at id) ps ++ ss)
+    behind ps e =
+        in-front-listed (Lists.map (recordOf index at id) ps) next (here .left) (here .headers)
+        (sym (walk-at-points read map index at id len (here .low) h e) ∙ here .rest)
+
+    -- A model without points leaves as many records.
+    same-left : read own ≡ unknown → next ≡ listed (here .left) (here .headers)
+    same-left e = sym (walk-at-unknown read map index at id len (here .low) h e) ∙ here .rest
+
+    not-faulty : {A : Type 0} {fault : Fault} → read own ≡ faulty fault → A
+    not-faulty e = not-listed (sym (walk-at-faulty read map index at id len (here .low) h e) ∙ here .rest)
+
+    -- Listing writes the records of the model behind those so far.
+    by-records : Leads Task.Records sought (walked read map) before out index records (here .left)
+        → (r : Reading) → read own ≡ r → Onward Task.Records (metIn Task.Records r)
     unfolding entries
-    by-reading unknown e =
+    by-records l unknown e =
         let none : records ≡ records + 0 = omega arith in
-        let ends = model-ends (eqb at 2) map at h in (
-          omega (arith, here .room),
-          subst (λ k. WritingMap read map before out (at + (2 + len)) (index + 1) k) none
-              (record {
-                left = here .left;
-                headers = here .headers;
-                rest = sym (walk-at-unknown read map index at id len (here .low) h e) ∙ here .rest;
-                whole = here .whole;
-                room = here .room;
-                sameLength = here .sameLength;
-                low = omega (arith, here .low);
-                high = omega (arith, ends, short);
-                fewModels = omega (arith, here .fewModels);
-              }),
-        )
-    by-reading (faulty fault) e = not-listed (sym (walk-at-faulty read map index at id len (here .low) h e) ∙ here .rest)
-    by-reading (points ps) e =
+        (omega (arith, l .1), (here .left, same-left e, subst (λ k. Leads Task.Records sought (walked read map) before out (index + 1) k (here .left)) none l))
+    by-records l (faulty fault) e = not-faulty e
+    by-records l (points ps) e =
         let f = recordOf index at id in
         let rs = Lists.map f ps in
         let i = recordWidth * records in
-        let next = walkAt read map (index + 1) (at + (2 + len)) in
-        let behind = in-front-listed rs next (here .left) (here .headers)
-        (sym (walk-at-points read map index at id len (here .low) h e) ∙ here .rest) in
-        let ss = behind .0 in
+        let b = behind ps e in
+        let ss = b .0 in
         let n : recordWidth * (records + length ps) ≡ i + length (entries rs) =
         omega (arith, entries-length rs, length-map ps f) in
-        let all : entries rs ++ entries ss ≡ entries (here .left) = sym (ap entries (behind .2) ∙ entries-append rs ss) in
+        let all : entries rs ++ entries ss ≡ entries (here .left) = sym (ap entries (b .2) ∙ entries-append rs ss) in
         let count : length (here .left) ≡ length ps + length ss =
-        ap length (behind .2) ∙ omega (arith, length-append rs ss, length-map ps f) in
-        let same = length-sets out i (entries rs) in
+        ap length (b .2) ∙ omega (arith, length-append rs ss, length-map ps f) in
+        let same = length-sets out i (entries rs) in (
+          omega (arith, l .1, count),
+          (
+            ss,
+            b .1,
+            (
+              ap (λ k. sets (sets out i (entries rs)) k (entries ss)) n
+                  ∙ sym (sets-append out i (entries rs) (entries ss))
+                  ∙ ap (sets out i) all
+                  ∙ l .0,
+              omega (arith, l .1, count, same),
+            ),
+          ),
+        )
+
+    -- A search passes over the model, or looks for the point in it.
+    by-search : Leads Task.Search sought (walked read map) before out index records (here .left)
+        → (r : Reading) → read own ≡ r → Onward Task.Search (metIn Task.Search r)
+    by-search l r e = go (eqb index (sought .model)) refl r e
+      where
+        it : Record → Bool
+        it = isRecord (sought .model) (sought .number) (sought .path .instances)
+
+        takes : capacity Task.Search (length out) ≡ recordWidth * 65536
+        takes =
+            ap {B = ℕ} (λ b. elim b [ true ↦ recordWidth * 65536 | false ↦ 0 ]) (le-leb foundWidth (length out) (l .1 .0))
+
+        go : (b : Bool) → eqb index (sought .model) ≡ b → (r : Reading) → read own ≡ r
+            → Onward Task.Search (elim (not b) [ true ↦ [] | false ↦ pointsOf r ])
+        go b q (faulty fault) e = not-faulty e
+        go false q unknown e =
+            (omega (arith, takes, l .1 .1), (here .left, same-left e, (l .0, (l .1 .0, omega (arith, l .1 .1)), λ n. (let f = l .2 (omega (arith, n)) in (f .0, omega (arith, f .1))))))
+        go false q (points ps) e =
+            let b = behind ps e in
+            let same = ap (firstWith it) (b .2)
+            ∙ passed-over (sought .model) (sought .number) (sought .path .instances) index at id q ps (b .0) in (
+              omega (arith, takes, l .1 .1),
+              (b .0, b .1, (ap (foundOr out) (sym same) ∙ l .0, (l .1 .0, omega (arith, l .1 .1)), λ n. (let f = l .2 (omega (arith, n)) in (f .0, omega (arith, f .1))))),
+            )
+        go true q unknown e =
+            (omega (arith, takes, l .1 .1), (here .left, same-left e, (l .0, (l .1 .0, omega (arith, l .1 .1)), λ n. absurd (omega (arith, n, eqb-true index (sought .model) q)))))
+        go true q (points ps) e =
+            let rs = Lists.map (recordOf index at id) ps in
+            let b = behind ps e in
+            let i = eqb-true index (sought .model) q in
+            let fresh = l .2 (omega (arith, i)) in
+            let new = written (visitBy Task.Search) records ps out in
+            let later : firstWith it (b .0) ≡ none =
+            none-later (sought .model) (sought .number) (sought .path .instances) read _ (index + 1) (at + (2 + len)) _ (b .0)
+            (here .headers)
+            (b .1)
+            (omega (arith, i)) in
+            let ends = model-ends (eqb at 2) map at h in
+            let many = few own ps e in
+            let long = body-length map at id len h in
+            let same = written-length (visitBy Task.Search) records ps out in (
+              omega (arith, takes, many, long, ends, short, fresh .1),
+              (
+                b .0,
+                b .1,
+                (
+                  ap (foundOr new) later
+                      ∙ searches-first sought rs out (l .1 .0) (fresh .0)
+                      ∙ sym (ap (foundOr out) (ap (firstWith it) (b .2)
+                      ∙ own-records (sought .model) (sought .number) (sought .path .instances) index at id q ps (b .0) later))
+                      ∙ l .0,
+                  (omega (arith, same, l .1 .0), omega (arith, many, long, ends, short, fresh .1)),
+                  λ n. absurd (omega (arith, n, eqb-true index (sought .model) q)),
+                ),
+              ),
+            )
+
+    by-task : (t : Task) → Leads t sought (walked read map) before out index records (here .left)
+        → Onward t (metIn t (read own))
+    by-task Task.Records l = by-records l (read own) refl
+    by-task Task.Search l = by-search l (read own) refl
+
+    -- The points of a model that are met have room, and behind them the walk goes on.
+    pub walking-goes-on : (recordWidth * (records + length (metIn task (read own))) ≤ capacity task (length out))
+        × WalkingMap
+        read
+        map
+        before
+        (written (visitBy task) records (metIn task (read own)) out)
+        task
+        sought
+        (at + (2 + len))
+        (index + 1)
+        (records + length (metIn task (read own)))
+    walking-goes-on =
+        let on = by-task task (here .leads) in
         let ends = model-ends (eqb at 2) map at h in (
-          omega (arith, here .room, count),
+          on .0,
           record {
-            left = ss;
+            left = on .1 .0;
             headers = here .headers;
-            rest = behind .1;
-            whole = ap (λ k. sets (sets out i (entries rs)) k (entries ss)) n
-                ∙ sym (sets-append out i (entries rs) (entries ss))
-                ∙ ap (sets out i) all
-                ∙ here .whole;
-            room = omega (arith, here .room, count, same);
-            sameLength = same ∙ here .sameLength;
+            rest = on .1 .1;
+            leads = on .1 .2;
+            sameLength = written-length (visitBy task) records (metIn task (read own)) out ∙ here .sameLength;
             low = omega (arith, here .low);
             high = omega (arith, ends, short);
             fewModels = omega (arith, here .fewModels);
           },
         )
-
-    pub writing-goes-on : GoesOn (read (modelAt map at id len))
-    writing-goes-on = by-reading (read (modelAt map at id len)) refl

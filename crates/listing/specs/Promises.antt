@@ -1,6 +1,6 @@
 -- What private functions ask for and promise each other.
 use mathlib.Core.Path.{_≡_}
-use mathlib.Core.Bool.{Bool, true, false, _&&_, _||_}
+use mathlib.Core.Bool.{Bool, true, false, not, _&&_, _||_}
 use mathlib.Core.List.{List, [], _∷_, map}
 use mathlib.Core.Option.{none, some}
 use Prim.Native.Nat.{ℕ, _+_, _*_, _-_, _/_, _%_, _≤_, min}
@@ -197,6 +197,15 @@ pub record BehindGroups (gs : Groups) (count : Frames.Head → ℕ) (at r : Prog
   pub records : r .records ≡ at .records + groupsPoints count gs
   pub offset : r .offset ≡ at .offset + groupsSize count gs
 
+-- A search passes over every model but the one that the point sought is in.
+abbrev pub passedOver : Visit → Bool
+passedOver visit =
+    elim (visit .task) [ Task.Records ↦ false | Task.Search ↦ not (eqb (visit .index) (visit .sought .model)) ]
+
+-- The points that are met of a model.
+abbrev pub metBy : Visit → List ModelPoint → List ModelPoint
+metBy visit ps = elim (passedOver visit) [ true ↦ [] | false ↦ ps ]
+
 -- The answer is no refusal, and its records have room in a list.
 abbrev pub WalkFits : Listing.Answer → List ℕ → Type 0
 WalkFits (Listing.refused number place headers) out = ⊥
@@ -207,14 +216,25 @@ abbrev pub IsListed : Listing.Answer → Type 0
 IsListed (Listing.refused number place headers) = ⊥
 IsListed (Listing.listed rs headers) = Unit {0}
 
--- A list behind a search of all records of an answer, for a point of the model with an index.
-abbrev pub foundIn : Listing.Answer → ℕ → Sought → List ℕ → List ℕ
-foundIn (Listing.refused number place headers) model sought out = out
-foundIn (Listing.listed rs headers) model sought out =
-    elim (Finding.firstWith (Finding.isRecord model (sought .number) (sought .path .instances)) rs) [
+-- A list behind a search of all records of an answer.
+abbrev pub foundIn : Listing.Answer → Sought → List ℕ → List ℕ
+foundIn (Listing.refused number place headers) sought out = out
+foundIn (Listing.listed rs headers) sought out =
+    elim (Finding.firstWith (Finding.isRecord (sought .model) (sought .number) (sought .path .instances)) rs) [
       | none ↦ out
       | some r ↦ sets out 0 (foundNumbers r)
     ]
+
+-- What walking a map asks for: it has no refusal, and its records have room in the list, or what is told of the point sought
+-- has, of which nothing is told yet.
+abbrev pub MapFits : Task → Listing.Answer → List ℕ → Type 0
+MapFits Task.Records answer out = WalkFits answer out
+MapFits Task.Search answer out = IsListed answer × (foundWidth ≤ length out) × (getD out 0 0 ≡ 0)
+
+-- The list behind it.
+abbrev pub behindMap : Task → Sought → Listing.Answer → List ℕ → List ℕ
+behindMap Task.Records sought answer out = Listing.stored answer out
+behindMap Task.Search sought answer out = foundIn answer sought out
 
 -- The type, size and access that a search wrote are 16 bits.
 pub record NarrowFound (found : List ℕ) : Type 0 where

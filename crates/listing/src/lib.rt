@@ -11,6 +11,7 @@ mod surveys;
 use catalog::Checked;
 use catalog::check;
 pub use records::InstancePath;
+use records::NOTHING;
 use records::Sought;
 use records::Task;
 use records::Visit;
@@ -39,7 +40,7 @@ ghost use Rattle.listing.specs.Reading.{reading};
 ghost use Rattle.listing.specs.Listing as Listings;
 ghost use Rattle.listing.specs.Walks.{Accepted, IsTable, pointsOf, readIn};
 ghost use Rattle.listing.specs.Answers.{answer};
-ghost use Rattle.listing.specs.Promises.{capacity, written, WalkFits, bodyAt};
+ghost use Rattle.listing.specs.Promises.{capacity, written, bodyAt, passedOver, metBy, MapFits, behindMap};
 
 // What `list` answers: the points and the headers; or the number of a refusal, its place and the headers
 // before it.
@@ -70,7 +71,7 @@ pub fn list(catalog: &[u16], map: &[u16], out: &mut [u64]) -> Listing
             if out.len() / WIDTH < points {
                 return refused(30, points, headers);
             }
-            put_map(catalog, map, &mut table, out);
+            put_map(catalog, map, &mut table, out, Task::Records, NOTHING);
             Listing::Listed { points, headers }
         }
         Listing::Refused {
@@ -159,21 +160,22 @@ fn refused(number: u16, place: usize, headers: usize) -> Listing
     }
 }
 
-// Writes the records of all known models of a map that was surveyed.
-fn put_map(catalog: &[u16], map: &[u16], table: &mut [u16], out: &mut [u64])
+// Walks the known models of a map that was surveyed: writes the records of all points, or what is told of the point
+// sought.
+fn put_map(
+    catalog: &[u16],
+    map: &[u16],
+    table: &mut [u16],
+    out: &mut [u64],
+    task: Task,
+    sought: Sought,
+)
     requires { ⌜ Accepted (now catalog) ⌝ }
     requires { ⌜ opening (now map) ≡ none ⌝ }
     requires { ⌜ IsTable (now table) ⌝ }
-    requires { ⌜ WalkFits (Listings.walked (reading (definitions (now catalog))) (now map)) (now out) ⌝ }
-    ensures { λ _. ⌜ now (out .exit) ≡ Listings.stored (Listings.walked (reading (definitions (now (catalog .entry)))) (now (map .entry))) (now (out .entry)) ⌝ }
+    requires { ⌜ MapFits task (Listings.walked (reading (definitions (now catalog))) (now map)) (now out) ⌝ }
+    ensures { λ _. ⌜ now (out .exit) ≡ behindMap task sought (Listings.walked (reading (definitions (now (catalog .entry)))) (now (map .entry))) (now (out .entry)) ⌝ }
 {
-    // Nothing: no point has the number 0.
-    let sought = Sought {
-        number: 0,
-        path: InstancePath {
-            instances: [0, 0, 0],
-        },
-    };
     let mut at = FIRST_HEADER;
     let mut index = 0usize;
     let mut records = 0usize;
@@ -185,7 +187,7 @@ fn put_map(catalog: &[u16], map: &[u16], table: &mut [u16], out: &mut [u64])
                     index,
                     id,
                     address: at,
-                    task: Task::Records,
+                    task,
                     sought,
                 };
                 records = put_known(catalog, map, table, out, visit, length as usize, records);
@@ -198,7 +200,8 @@ fn put_map(catalog: &[u16], map: &[u16], table: &mut [u16], out: &mut [u64])
     }
 }
 
-// Walks a model that the catalog knows, and passes over another; answers how many points were met then.
+// Walks a model that the catalog knows, and passes over another, or one that is not searched; answers how many points
+// were met then.
 fn put_known(
     catalog: &[u16],
     map: &[u16],
@@ -211,11 +214,14 @@ fn put_known(
     requires { ⌜ Accepted (now catalog) ⌝ }
     requires { ⌜ IsTable (now table) ⌝ }
     requires { ⌜ (visit .address + 2 + length ≤ Lists.length (now map)) × (length ≤ 65535) × (Lists.length (now map) ≤ 65536) ⌝ }
-    requires { ⌜ Listings.recordWidth * (records + Lists.length (pointsOf (readIn (now catalog) (visit .id) (bodyAt (now map) visit length)))) ≤ capacity (visit .task) (Lists.length (now out)) ⌝ }
-    ensures { λ r. ⌜ r ≡ records + Lists.length (pointsOf (readIn (now (catalog .entry)) (visit .id) (bodyAt (now (map .entry)) visit length))) ⌝ }
-    ensures { λ _. ⌜ now (out .exit) ≡ written visit records (pointsOf (readIn (now (catalog .entry)) (visit .id) (bodyAt (now (map .entry)) visit length))) (now (out .entry)) ⌝ }
+    requires { ⌜ Listings.recordWidth * (records + Lists.length (metBy visit (pointsOf (readIn (now catalog) (visit .id) (bodyAt (now map) visit length))))) ≤ capacity (visit .task) (Lists.length (now out)) ⌝ }
+    ensures { λ r. ⌜ r ≡ records + Lists.length (metBy visit (pointsOf (readIn (now (catalog .entry)) (visit .id) (bodyAt (now (map .entry)) visit length)))) ⌝ }
+    ensures { λ _. ⌜ now (out .exit) ≡ written visit records (metBy visit (pointsOf (readIn (now (catalog .entry)) (visit .id) (bodyAt (now (map .entry)) visit length)))) (now (out .entry)) ⌝ }
     ensures { λ _. ⌜ IsTable (now (table .exit)) ⌝ }
 {
+    if is_passed_over(visit) {
+        return records;
+    }
     let body = part(map, visit.address + 2, length);
     let survey = survey_model(catalog, table, visit.id, body);
     match survey {
@@ -226,5 +232,16 @@ fn put_known(
             points: _,
             fill,
         } => put_model(catalog, table, out, visit, body, first, fill, records),
+    }
+}
+
+// Is a model passed over? A search walks the points of one model.
+fn is_passed_over(visit: Visit) -> bool
+    ensures { λ r. ⌜ r ≡ passedOver visit ⌝ }
+{
+    let task = visit.task;
+    match task {
+        Task::Records => false,
+        Task::Search => visit.index != visit.sought.model,
     }
 }

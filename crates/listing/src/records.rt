@@ -33,11 +33,21 @@ pub struct InstancePath {
     pub instances: [u16; 3],
 }
 
-// A point that is searched for, by its number and its path.
+// A point that is searched for, by the index of its model, its number and its path.
 pub(crate) struct Sought {
+    pub(crate) model: usize,
     pub(crate) number: u16,
     pub(crate) path: InstancePath,
 }
+
+// What listing searches for: no point has the number 0.
+pub(crate) const NOTHING: Sought = Sought {
+    model: 0,
+    number: 0,
+    path: InstancePath {
+        instances: [0, 0, 0],
+    },
+};
 
 // What the walk writes of the points that it meets: of each its record; or of the first that is sought what is
 // told of it.

@@ -1,6 +1,6 @@
 -- `listing::put_map` meets its contract: at each header, writing the records that are left gives the list behind the whole.
 use mathlib.Core.Path.{sym, ap, subst, _∙_}
-use mathlib.Core.List.{List, [], _∷_}
+use mathlib.Core.List.{List}
 use Prim.Native.Nat.{ℕ, _+_, _-_}
 use native.Mathlib.Omega.{arith}
 use lib.Dec.{eqb}
@@ -11,28 +11,24 @@ use Rattle.register_map.proofs.HeaderLaws.{opening-none}
 use Rattle.register_map.proofs.HeaderCases.{model-ends}
 use Rattle.listing.specs.Reading.{reading}
 use Rattle.listing.specs.Walks.{IsTable}
-use Rattle.listing.specs.declared.records.Sought.{Sought}
-use Rattle.listing.proofs.MapRecords.{WritingMap, writing-starts, writing-ends, writing-refused, writing-late, writing-goes-on}
+use Rattle.listing.proofs.PointsInside.{points-few}
+use Rattle.listing.proofs.MapRecords.{WalkingMap, walking-starts, walking-ends, walking-refused, walking-late, walking-goes-on}
 use borrow.Author.Needs.{needs}
 use Rattle.listing.proofs.put_map.Statement.{statement}
 use Rattle.listing.proofs.put_map.Tie as tie
 
--- Listing searches for nothing.
-abbrev nothingSought : Sought
-nothingSought = record { number = 0; path = record { instances = 0 ∷ 0 ∷ 0 ∷ [] } }
-
 abbrev Inv-loop : tie.InvT-loop
-Inv-loop catalog map table₀ out₀ sought at₀ index₀ records₀ table out at index records =
-    WritingMap (reading (definitions catalog)) map out₀ out at index records × IsTable table
+Inv-loop catalog map table₀ out₀ task sought at₀ index₀ records₀ table out at index records =
+    WalkingMap (reading (definitions catalog)) map out₀ out task sought at index records × IsTable table
 
 abbrev μ-loop : tie.MeasureT-loop
-μ-loop catalog map table₀ out₀ sought at₀ index₀ records₀ table out at index records = length map - at
+μ-loop catalog map table₀ out₀ task sought at₀ index₀ records₀ table out at index records = length map - at
 
 loop-holds : tie.Need-loop-holds Inv-loop μ-loop
 loop-holds c =
     let s = c .before .before .before .before in
     let v = s .args in
-    (writing-starts (reading (definitions (v .catalog .now))) (v .map .now) (v .out .now) (s .pre .1 .1 .1), s .pre .1 .1 .0)
+    (walking-starts (reading (definitions (v .catalog .now))) (v .map .now) (v .out .now) (v .task) (v .sought) (s .pre .1 .1 .1), s .pre .1 .1 .0)
 
 header-at-requires : tie.Need-header-at-requires Inv-loop μ-loop
 header-at-requires c κs = search needs
@@ -51,7 +47,7 @@ put-known-requires c κs =
     let g = k .header .given in
     let h = sym (k .before .before .header-at .ensures) ∙ ap headerForm (g .1) in
     let short = opening-none (s .args .map .now) (s .pre .1 .0) .0 in
-    let next = writing-goes-on (l .inv .0) nothingSought short h in
+    let next = walking-goes-on (l .inv .0) (points-few (s .args .catalog .now) (s .pre .0)) short h in
     let ends = model-ends (eqb (l .at) 2) (s .args .map .now) (l .at) h in
     (s .pre .0, (l .inv .1, ((omega (arith, ends), omega (arith, ends, short), short), next .0)))
 
@@ -78,11 +74,11 @@ loop-again c =
     let g = k .header .given in
     let h = sym (k .before .before .header-at .ensures) ∙ ap headerForm (g .1) in
     let short = opening-none (s .args .map .now) (s .pre .1 .0) .0 in
-    let next = writing-goes-on (l .inv .0) nothingSought short h in
+    let next = walking-goes-on (l .inv .0) (points-few (s .args .catalog .now) (s .pre .0)) short h in
     let p = c .before .before .before .before .put-known in
     let read = reading (definitions (s .args .catalog .now)) in
     let Goes : List ℕ → ℕ → Type 0 =
-    λ out n. WritingMap read (s .args .map .now) (s .args .out .now) out (l .at + (2 + g .0 .1 .0)) (l .index + 1) n in
+    λ out n. WalkingMap read (s .args .map .now) (s .args .out .now) out (s .args .task) (s .args .sought) (l .at + (2 + g .0 .1 .0)) (l .index + 1) n in
     let on = subst (Goes _) (sym (p .ensures .0)) (next .1) in
     (subst (λ out. Goes out (p .result)) (sym (p .ensures .1 .0)) on, p .ensures .1 .1)
 
@@ -98,7 +94,7 @@ same-length-2 c = c .before .before .before .before .loop .inv .0 .sameLength
 returns : tie.Need-returns Inv-loop μ-loop
 returns c =
     let h = sym (c .before .before .header-at .ensures) ∙ ap headerForm (c .enum-told .given .1) in
-    writing-ends (c .before .before .before .before .loop .inv .0) (omega arith) h
+    walking-ends (c .before .before .before .before .loop .inv .0) (omega arith) h
 
 enum-told-2 : tie.Need-enum-told-2 Inv-loop μ-loop
 enum-told-2 c = search needs
@@ -112,7 +108,7 @@ same-length-4 c = c .before .before .before .before .loop .inv .0 .sameLength
 returns-2 : tie.Need-returns-2 Inv-loop μ-loop
 returns-2 c =
     let h = sym (c .before .before .header-at .ensures) ∙ ap headerForm (c .enum-told2 .given .1) in
-    writing-refused (c .before .before .before .before .loop .inv .0) (omega arith) h
+    walking-refused (c .before .before .before .before .loop .inv .0) (omega arith) h
 
 same-length-5 : tie.Need-same-length-5 Inv-loop μ-loop
 same-length-5 c = search needs
@@ -121,7 +117,7 @@ same-length-6 : tie.Need-same-length-6 Inv-loop μ-loop
 same-length-6 c = c .before .loop .inv .0 .sameLength
 
 returns-3 : tie.Need-returns-3 Inv-loop μ-loop
-returns-3 c = writing-late (c .before .loop .inv .0) (omega arith)
+returns-3 c = walking-late (c .before .loop .inv .0) (omega arith)
 
 pub put-map-spec : {M : Type 1} → statement M
 put-map-spec =

@@ -31,19 +31,19 @@ survey-plant-requires c κs = search needs
 enum-told : tie.Need-enum-told
 enum-told c = search needs
 
-slice-aggregate-search-map : tie.Need-slice-aggregate-search-map
-slice-aggregate-search-map c = search needs
+slice-aggregate-put-map : tie.Need-slice-aggregate-put-map
+slice-aggregate-put-map c = search needs
 
-slice-aggregate-search-map-2 : tie.Need-slice-aggregate-search-map-2
-slice-aggregate-search-map-2 c = search needs
+slice-aggregate-put-map-2 : tie.Need-slice-aggregate-put-map-2
+slice-aggregate-put-map-2 c = search needs
 
-search-map-requires : tie.Need-search-map-requires
-search-map-requires c κs =
+put-map-requires : tie.Need-put-map-requires
+put-map-requires c κs =
     let v = c .before .before .before .before .before .before .before .before .before .args in
     let g = c .before .before .enum-told .given in
     let s = c .before .before .before .before .before .survey-plant in
     let w = survey-walk (v .catalog .now) (v .map .now) (g .0 .0) (g .0 .1 .0) (sym (ap answer (g .1)) ∙ s .ensures .0) .1 in
-    ((w .models, w .accepted), (w .opens, (s .ensures .1, (subst IsListed (sym (w .walks)) tt, (omega arith, refl)))))
+    ((w .models, w .accepted), (w .opens, (s .ensures .1, (subst IsListed (sym (w .walks)) tt, omega arith, refl))))
 
 told-requires : tie.Need-told-requires
 told-requires c κs =
@@ -51,9 +51,9 @@ told-requires c κs =
     let g = c .before .before .before .before .before .enum-told .given in
     let s = c .before .before .before .before .before .before .before .before .survey-plant in
     let w = survey-walk (v .catalog .now) (v .map .now) (g .0 .0) (g .0 .1 .0) (sym (ap answer (g .1)) ∙ s .ensures .0) .1 in
-    let sought : Sought = record { number = v .point; path = v .path } in
-    subst NarrowFound (sym (c .before .before .search-map .ensures))
-    (found-narrow (v .catalog .now) (v .map .now) (w .models) (w .accepted) (v .model) sought)
+    let sought : Sought = record { model = v .model; number = v .point; path = v .path } in
+    subst NarrowFound (sym (c .before .before .put-map .ensures))
+    (found-narrow (v .catalog .now) (v .map .now) (w .models) (w .accepted) sought)
 
 enum-known-survey : tie.Need-enum-known-survey
 enum-known-survey c = search needs
@@ -64,10 +64,10 @@ returns c =
     let g = c .before .before .before .before .before .before .enum-told .given in
     let s = c .before .before .before .before .before .before .before .before .before .survey-plant in
     let r = survey-walk (v .catalog .now) (v .map .now) (g .0 .0) (g .0 .1 .0) (sym (ap answer (g .1)) ∙ s .ensures .0) in
-    let sought : Sought = record { number = v .point; path = v .path } in
+    let sought : Sought = record { model = v .model; number = v .point; path = v .path } in
     c .told .ensures
-    ∙ ap toldBy (c .before .before .before .search-map .ensures)
-    ∙ found-told (v .catalog .now) (v .map .now) (v .model) sought (r .0 .records) (g .0 .1 .0) (r .0 .is) (r .1 .walks)
+    ∙ ap toldBy (c .before .before .before .put-map .ensures)
+    ∙ found-told (v .catalog .now) (v .map .now) sought (r .0 .records) (g .0 .1 .0) (r .0 .is) (r .1 .walks)
 
 returns-2 : tie.Need-returns-2
 returns-2 c =
@@ -75,7 +75,7 @@ returns-2 c =
     let g = c .before .survey .given in
     let e = told-refused (allRecords (v .catalog .now) (v .map .now)) (g .0 .0) (g .0 .1 .0) (g .0 .1 .1 .0)
     (sym (ap answer (g .1)) ∙ c .before .before .before .before .survey-plant .ensures .0) in
-    refused-told (v .catalog .now) (v .map .now) (v .model) (record { number = v .point; path = v .path }) (g .0 .0) (g .0 .1 .0)
+    refused-told (v .catalog .now) (v .map .now) (record { model = v .model; number = v .point; path = v .path }) (g .0 .0) (g .0 .1 .0)
     (g .0 .1 .1 .0) e
 
 pub find-spec : {M : Type 1} → statement M
@@ -85,9 +85,9 @@ find-spec =
     slice-aggregate-survey-plant
     survey-plant-requires
     enum-told
-    slice-aggregate-search-map
-    slice-aggregate-search-map-2
-    search-map-requires
+    slice-aggregate-put-map
+    slice-aggregate-put-map-2
+    put-map-requires
     told-requires
     enum-known-survey
     returns
