@@ -1,7 +1,7 @@
 // Runs one call of the libraries for each line of standard input, and writes one answer line for
 // each, in order. A line is a command's word and its fields, with one space before each field. A line
 // of more than 524,288 bytes without its LF has no answer, nor has any behind it. Every line that
-// begins in the first 4,194,304 bytes is reached.
+// begins in the first 16,777,216 bytes is reached.
 mod checking;
 mod decimal;
 mod decode;
@@ -27,8 +27,8 @@ const CAPACITY: usize = 524288;
 
 // How often the buffer is filled, so that the program ends on an endless input. A line that one round
 // cuts ends in the next, so two rounds in a row answer more than CAPACITY bytes, and all of them more
-// than 8 * CAPACITY.
-const ROUNDS: usize = 16;
+// than 32 * CAPACITY.
+const ROUNDS: usize = 64;
 
 fn main() {
     let mut input = [0u8; CAPACITY];

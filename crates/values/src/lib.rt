@@ -1,5 +1,5 @@
-// Values of SunSpec points: how registers join, what a raw number is under its type, `decode`, and the
-// integer that a scale factor multiplies.
+// Values of SunSpec points: what a raw number is under its type, `decode`, and the integer that a scale factor
+// multiplies.
 // Every public call takes any arguments and carries an equation with the definitions of specs/.
 mod classes;
 mod unscaled;

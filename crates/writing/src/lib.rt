@@ -72,7 +72,7 @@ fn write_to(map: &mut [u16], target: Target, raw: u64) -> Written
     }
 }
 
-// 32 to 35, in order.
+// 32 to 35, in order. What 32 and 34 ask is found out first, so that only the tests below have an order.
 fn judge(target: Target, raw: u64) -> Verdict
     ensures { λ r. ⌜ refusalForm r ≡ Writings.refusal (targetForm target) raw ⌝ }
 {

@@ -11,7 +11,7 @@ abbrev Inv-loop : tie.InvT-loop
 Inv-loop input₀ kept₀ round₀ input kept round = (length input ≡ length input₀) × (kept ≤ length input)
 
 abbrev μ-loop : tie.MeasureT-loop
-μ-loop input₀ kept₀ round₀ input kept round = 16 - round
+μ-loop input₀ kept₀ round₀ input kept round = 64 - round
 
 loop-holds : tie.Need-loop-holds Inv-loop μ-loop
 loop-holds c = search needs
