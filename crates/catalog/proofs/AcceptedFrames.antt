@@ -8,12 +8,12 @@ use borrow.Author.Tests.{not-false}
 use lib.Dec.{eqb}
 use lib.ListN.{length}
 use Rattle.registers.specs.Each.{Each}
+use Rattle.registers.proofs.TestOutcomes.{clash}
 use Rattle.catalog.specs.Frames.{Frame, modelFrame, groupFrame, pointFrame, endFrame, malformed, fill}
 use Rattle.catalog.specs.State.{OpenGroup, State, opened, withPoint, withGroup, closed, next}
 use Rattle.catalog.specs.Rules.{among, noModel, inTop, afterGroup, run, inReach, lacksContent, rules}
 use Rattle.catalog.specs.Checking.{accepted, checkFrom}
 use Rattle.catalog.specs.Soundness.{SoundPoint}
-use Rattle.registers.proofs.TestOutcomes.{clash}
 use Rattle.catalog.proofs.TestLaws.{none-broken}
 use Rattle.catalog.proofs.AcceptedSteps.{accepted-step, accepted-end}
 use Rattle.catalog.proofs.SoundFrames.{sound-point, HeadUnbroken}

@@ -9,11 +9,11 @@ use native.Mathlib.Omega.{arith}
 use borrow.Author.Tests.{eqb-true, eqb-false, ltb-true, ltb-false}
 use lib.Dec.{eqb, ltb}
 use lib.ListN.{length}
+use Rattle.registers.proofs.TestOutcomes.{clash, by-test}
 use Rattle.catalog.specs.Frames.{Frame, frames}
 use Rattle.catalog.specs.State.{State, start, next}
 use Rattle.catalog.specs.Rules.{noModel, run, fault}
 use Rattle.catalog.specs.Checking.{Verdict, accepted, refused, checkFrom, checked}
-use Rattle.registers.proofs.TestOutcomes.{clash, by-test}
 
 -- A refusal accepts nothing.
 never-refused : {A : Type 0} (r i n : ℕ) → refused r i ≡ accepted n → A

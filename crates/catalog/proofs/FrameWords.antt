@@ -10,9 +10,9 @@ use lib.ListN.{length, getD, drop, replicate, length-append, length-drop}
 use lib.Seq.{drop-append-seam, drop-cons, getD-drop}
 use Rattle.registers.specs.Each.{Each}
 use Rattle.registers.specs.Registers.{allZero}
+use Rattle.registers.proofs.TestOutcomes.{by-test, both}
 use Rattle.catalog.specs.Frames.{Frame, modelFrame, groupFrame, pointFrame, endFrame, malformed, ifZero, frameOf, word, frameAt, framesFrom, frames, wordsOf, wordsOfAll}
 use Rattle.catalog.specs.Rules.{isMalformed}
-use Rattle.registers.proofs.TestOutcomes.{by-test, both}
 
 -- A word of a later frame is one of the words behind the first frame.
 word-later : (ws : List ℕ) (i k : ℕ) → word ws (suc i) k ≡ word (drop 8 ws) i k

@@ -9,6 +9,7 @@ use borrow.Author.Tests.{leb-true}
 use lib.Dec.{leb}
 use lib.ListN.{length}
 use Rattle.registers.specs.Each.{Each}
+use Rattle.registers.proofs.TestOutcomes.{clash, both}
 use Rattle.point_types.specs.Rows.{TypeRow, rowOf, registersOf}
 use Rattle.point_types.proofs.Table.{one-to-64}
 use Rattle.catalog.specs.Frames.{Point, Head}
@@ -16,7 +17,6 @@ use Rattle.catalog.specs.Rules.{isSizeOf}
 use Rattle.catalog.specs.Checking.{accepted, checked}
 use Rattle.catalog.specs.Definitions.{Groups, pointsSize, definitions}
 use Rattle.catalog.specs.Soundness.{SoundPoint, EachLowerGroup}
-use Rattle.registers.proofs.TestOutcomes.{clash, both}
 use Rattle.catalog.proofs.EveryGroup.{of-lower-groups, of-models}
 
 -- A size of a type is 1 to 64 registers.

@@ -9,12 +9,12 @@ use borrow.Author.Tests.{eqb-true, eq-eqb, ne-eqb}
 use lib.Dec.{eqb}
 use lib.ListN.{length}
 use Rattle.registers.specs.Each.{Each}
+use Rattle.registers.proofs.TestOutcomes.{clash, both}
 use Rattle.catalog.specs.Frames.{Point, Head, Frame, endFrame, fill}
 use Rattle.catalog.specs.State.{OpenGroup, opened}
 use Rattle.catalog.specs.Rules.{noModel, inTop, run, pointsOf, topPoints, noPoint}
 use Rattle.catalog.specs.Definitions.{Groups, noGroup, group, Definition, pointFrames, groupFrames, definitionFrames, catalogFrames}
 use Rattle.catalog.specs.Soundness.{SoundPoint, SoundGroups, SoundDefinition, numbersOf, idsOf}
-use Rattle.registers.proofs.TestOutcomes.{clash, both}
 use Rattle.catalog.proofs.TestLaws.{excludes}
 use Rattle.catalog.proofs.AcceptedFrames.{Standing, Numbered}
 use Rattle.catalog.proofs.SoundFrames.{sound-head}

@@ -17,7 +17,7 @@ use crate::scans::run_has;
 use crate::scans::scale_factor_in_reach;
 use crate::state::LEVELS;
 use crate::state::State;
-use values::RegisterCount;
+use point_types::RegisterCount;
 ghost use mathlib.Core.Path.{_≡_};
 ghost use mathlib.Core.Bool.{_&&_};
 ghost use Prim.Native.Nat.{_/_, _≤_, _<_};
@@ -181,7 +181,7 @@ fn is_mistyped(point: Point) -> bool
 fn is_size_of(type_code: u16, size: u16) -> bool
     ensures { λ r. ⌜ r ≡ isSizeOf «type_code» size ⌝ }
 {
-    let count = values::register_count(type_code);
+    let count = point_types::register_count(type_code);
     match count {
         RegisterCount::Between { fewest, most } => {
             if size < fewest {
@@ -202,7 +202,7 @@ fn is_misscaled(catalog: &[u16], state: State, point: Point) -> bool
     if kind == NO_SCALE {
         return point.scale != 0;
     }
-    if !values::scalable(point.type_code) {
+    if !point_types::scalable(point.type_code) {
         return true;
     }
     match kind {

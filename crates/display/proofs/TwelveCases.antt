@@ -8,8 +8,8 @@ use Prim.Native.String.{String, [] as []ˢ, _∷_ as _∷ˢ_}
 use lib.IntN.{ℤ, pos, negℤ}
 use lib.Ieee.{nanBits}
 use lib.ListN.{length}
-use Rattle.point_types.specs.Rows.{rows, rowAmong}
 use Rattle.registers.specs.Registers.{join, tooWide}
+use Rattle.point_types.specs.Rows.{rows, rowAmong}
 use Rattle.values.specs.Classes.{twosComplement, integer, inRange, classOf, classified}
 use Rattle.values.specs.Decoding.{Decoded, signed, unsigned, unimplemented, outOfRange, numberOf, valueOf, decodable, decoded}
 use Rattle.values.specs.Encoding.{twosPattern}

@@ -9,9 +9,9 @@ use native.Mathlib.Omega.{arith}
 use borrow.Author.Tests.{ltb-true, ltb-false, le-leb, lt-leb}
 use lib.Dec.{ltb}
 use lib.ListN.{length}
+use Rattle.registers.proofs.TestOutcomes.{by-test}
 use Rattle.input.specs.Digits.{isBetween, digitValue, isDigit, areDigits, digitOr0, word, wordsOf}
 use Rattle.input.specs.Writing.{AreWords, hexDigit, hexDigits}
-use Rattle.registers.proofs.TestOutcomes.{by-test}
 
 -- A byte of a range of characters, and one behind it.
 module _ (first last : Char) (b : ℕ) where

@@ -8,10 +8,10 @@ use native.Mathlib.Omega.{arith}
 use lib.Dec.{ltb}
 use lib.ListN.{length, set}
 use Rattle.registers.specs.Each.{Each}
+use Rattle.registers.proofs.TestOutcomes.{by-test}
 use Rattle.catalog.specs.Frames.{Point, Head}
 use Rattle.catalog.specs.Definitions.{Groups, noGroup, group, Definition, pointsSize}
 use Rattle.catalog.specs.Soundness.{SoundPoint, SoundGroups, SoundDefinition, In, first}
-use Rattle.registers.proofs.TestOutcomes.{by-test}
 use Rattle.catalog.proofs.GroupSizes.{point-size}
 use Rattle.listing.specs.Points.{ModelPoint, Scope, pointAt}
 use Rattle.listing.specs.Layout.{within, topScope, groupsSize, countUnimplemented, fits, countsOf, noInstance, pointsAt, instances, groupsAt, contentAt}

@@ -8,9 +8,9 @@ use native.Mathlib.Omega.{arith}
 use borrow.Author.Tests.{eqb-true}
 use lib.Dec.{eqb}
 use lib.ListN.{length}
+use Rattle.registers.proofs.TestOutcomes.{clash}
 use Rattle.catalog.specs.Frames.{Point, Head, countByPoint, fill}
 use Rattle.catalog.specs.Definitions.{Groups, noGroup, group, pointsSize}
-use Rattle.registers.proofs.TestOutcomes.{clash}
 use Rattle.listing.specs.Points.{Scope}
 use Rattle.listing.specs.Layout.{countOf, groupsSize, fillSize, countUnimplemented}
 use Rattle.listing.specs.Counts.{groupsPoints, fillPoints, sizeOr0}

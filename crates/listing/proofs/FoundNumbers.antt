@@ -10,6 +10,7 @@ use borrow.Author.Tests.{eq-eqb, ne-eqb}
 use lib.Dec.{eqb}
 use lib.ListN.{getD}
 use Rattle.registers.specs.Each.{Each}
+use Rattle.registers.proofs.TestOutcomes.{by-test}
 use Rattle.point_types.proofs.Table.{no-row-outside}
 use Rattle.catalog.specs.Frames.{Point}
 use Rattle.catalog.specs.Checking.{accepted, checked}
@@ -18,7 +19,6 @@ use Rattle.catalog.specs.Rules.{isSizeOf}
 use Rattle.catalog.specs.Soundness.{SoundPoint, SoundDefinition}
 use Rattle.catalog.proofs.GroupSizes.{type-size}
 use Rattle.catalog.proofs.AcceptedIsSound.{accepted-is-sound}
-use Rattle.registers.proofs.TestOutcomes.{by-test}
 use Rattle.register_map.specs.Scan.{Model, sizeOf, Ending, marked, broken}
 use Rattle.listing.specs.Points.{ModelPoint}
 use Rattle.listing.specs.Reading.{Reading, unknown, faulty, points, reading}

@@ -5,11 +5,11 @@ use mathlib.Core.List.{List, [], _∷_, _++_}
 use Prim.Native.Nat.{ℕ}
 use borrow.Author.Tests.{eqb-true, eq-eqb}
 use lib.Dec.{eqb}
+use Rattle.registers.proofs.TestOutcomes.{clash}
 use Rattle.catalog.specs.Frames.{Point, Head, Frame, modelFrame, groupFrame, pointFrame, endFrame, malformed}
 use Rattle.catalog.specs.Rules.{among}
 use Rattle.catalog.specs.Definitions.{Groups, group, pointFrames, groupFrames}
 use Rattle.catalog.specs.Soundness.{Distinct, numbersOf, In, first, later}
-use Rattle.registers.proofs.TestOutcomes.{clash}
 use Rattle.catalog.proofs.TestLaws.{neither}
 
 -- ---- Lists of numbers

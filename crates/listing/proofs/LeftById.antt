@@ -6,11 +6,11 @@ use Prim.Native.Nat.{ℕ}
 use borrow.Author.Tests.{eqb-true, eqb-false, eq-eqb, ne-eqb}
 use lib.Dec.{eqb}
 use Rattle.registers.specs.Each.{Each}
+use Rattle.registers.proofs.TestOutcomes.{clash}
 use Rattle.catalog.specs.Rules.{among}
 use Rattle.catalog.specs.Definitions.{Definition, definitions}
 use Rattle.catalog.specs.Soundness.{Distinct, idsOf}
 use Rattle.catalog.specs.Removal.{keptBy, keeping}
-use Rattle.registers.proofs.TestOutcomes.{clash}
 use Rattle.catalog.proofs.TestLaws.{neither}
 use Rattle.catalog.proofs.ModelIds.{ids-distinct}
 use Rattle.catalog.proofs.Removal as catalogs

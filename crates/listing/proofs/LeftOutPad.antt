@@ -9,12 +9,12 @@ use borrow.Author.Tests.{lt-ltb, le-ltb, eq-eqb, ne-eqb, eqb-true, leb-true}
 use lib.Dec.{eqb, leb}
 use lib.ListN.{length}
 use Rattle.registers.specs.Each.{Each}
+use Rattle.registers.proofs.TestOutcomes.{clash, both}
 use Rattle.point_types.specs.Rows.{rows, rowAmong, registersOf}
 use Rattle.catalog.specs.Frames.{Point, Head, frameIn, pad}
 use Rattle.catalog.specs.Rules.{isSizeOf}
 use Rattle.catalog.specs.Definitions.{Groups, noGroup, group, Content, pointsSize}
 use Rattle.catalog.specs.Soundness.{SoundPoint}
-use Rattle.registers.proofs.TestOutcomes.{clash, both}
 use Rattle.catalog.proofs.GroupSizes.{point-size}
 use Rattle.listing.specs.Layout.{fillOf, fillSize}
 use Rattle.listing.specs.Reading.{endsWithPad, allButLast, hasNoGroup, padLeftOut}

@@ -72,8 +72,8 @@ pub mod ModelWriting
 -- Whole maps
 pub mod MapSteps
 pub mod MapSurvey
-pub mod MapRecords
 pub mod Searches
+pub mod MapRecords
 pub mod FirstFound
 pub mod Readings
 pub mod ListedPoints

@@ -7,9 +7,9 @@ use native.Mathlib.Omega.{arith}
 use borrow.Author.Tests.{ltb-true, ltb-false, le-ltb}
 use lib.Dec.{ltb}
 use lib.ListN.{length}
+use Rattle.registers.proofs.TestOutcomes.{by-test}
 use Rattle.catalog.specs.Checking as Checking
 use Rattle.catalog.specs.Definitions.{definitions}
-use Rattle.registers.proofs.TestOutcomes.{by-test}
 use Rattle.register_map.specs.Headers.{opening}
 use Rattle.register_map.specs.Scan.{Model}
 use Rattle.listing.specs.Reading.{Reading, reading}

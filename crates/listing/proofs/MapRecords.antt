@@ -46,8 +46,9 @@ nothing-written visit k ps out e =
 
 -- ---- Header by header
 
--- What is left leads to the list behind the whole. Records: it has room, and is written behind the records so far. Search: the
--- point is found in it just where it is found in all, and up to its model nothing is found yet.
+-- What is left leads to the list behind the whole. Records: it has room, and is written behind the records so far. Search: a search
+-- of what is left, on the list as it is, gives the list behind the whole; up to the model sought nothing is found and no point is
+-- met, and never are more than 65,535.
 abbrev pub Leads : Task → Sought → Answer → List ℕ → List ℕ → ℕ → ℕ → List Record → Type 0
 Leads Task.Records sought all before out index records left =
     (sets out (recordWidth * records) (entries left) ≡ stored all before) × (recordWidth * (records + length left) ≤ length out)
@@ -158,7 +159,7 @@ module _ {read : Model → Reading} {map before out : List ℕ} {task : Task} {s
         in-front-listed (Lists.map (recordOf index at id) ps) next (here .left) (here .headers)
         (sym (walk-at-points read map index at id len (here .low) h e) ∙ here .rest)
 
-    -- A model without points leaves as many records.
+    -- Behind an unknown model the same records are left.
     same-left : read own ≡ unknown → next ≡ listed (here .left) (here .headers)
     same-left e = sym (walk-at-unknown read map index at id len (here .low) h e) ∙ here .rest
 

@@ -7,10 +7,10 @@ use Prim.Native.Nat.{ℕ, zero, suc, _+_, _/_, _≤_, _<_}
 use native.Mathlib.Numerals.{add-one}
 use native.Mathlib.Omega.{arith}
 use lib.ListN.{length}
+use Rattle.registers.proofs.TestOutcomes.{clash}
 use Rattle.catalog.specs.Frames.{Frame, modelFrame, groupFrame, pointFrame, endFrame, malformed, frameIn}
 use Rattle.catalog.specs.Definitions.{Content, Definition, catalogFrames, parsed, inner, definitions}
 use Rattle.catalog.proofs.FramesByIndex.{frame-beyond}
-use Rattle.registers.proofs.TestOutcomes.{clash}
 use Rattle.catalog.proofs.TreeFrames.{definition-frames}
 use Rattle.catalog.proofs.ModelFrames.{restFrames, frames-of-definitions}
 use Rattle.listing.specs.Reading.{topOf}

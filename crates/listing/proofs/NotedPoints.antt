@@ -10,10 +10,10 @@ use lib.ListN.{length, getD, drop, set, length-set}
 use lib.Seq.{getD-set-same, getD-set-other}
 use Rattle.registers.specs.Each.{Each}
 use Rattle.registers.specs.Registers.{allZero}
+use Rattle.registers.proofs.TestOutcomes.{by-test}
 use Rattle.catalog.specs.Frames.{Point, Frame, modelFrame, groupFrame, pointFrame, endFrame, malformed, frameOf, word, frameAt, framesFrom, frames}
 use Rattle.catalog.specs.Rules.{isSizeOf}
 use Rattle.catalog.specs.Definitions.{pointsSize, pointFrames, groupFrames}
-use Rattle.registers.proofs.TestOutcomes.{by-test}
 use Rattle.catalog.proofs.GroupSizes.{type-size}
 use Rattle.listing.specs.Points.{Scope}
 use Rattle.listing.specs.Layout.{withPoint, within, pointsAt}

@@ -11,14 +11,14 @@ use borrow.Author.Tests.{ne-eqb, lt-leb, leb-true}
 use lib.Dec.{leb}
 use lib.ListN.{length, getD}
 use Rattle.registers.specs.Registers.{AreRegisters, join, tooWide}
-use Rattle.point_types.specs.Rows.{TypeRow, pattern, whole, rows, rowAmong, rowOf, registersOf}
-use Rattle.values.specs.Classes.{Class, value, isUnimplemented, inRange, classOf, ofClass, classified}
 use Rattle.registers.proofs.Joining.{sixteen-each}
 use Rattle.registers.proofs.Splitting.{join-bound}
+use Rattle.registers.proofs.TestOutcomes.{clash, both}
+use Rattle.point_types.specs.Rows.{TypeRow, pattern, whole, rows, rowAmong, rowOf, registersOf}
 use Rattle.point_types.proofs.Table.{no-row-outside, four-registers}
+use Rattle.values.specs.Classes.{Class, value, isUnimplemented, inRange, classOf, ofClass, classified}
 use Rattle.values.proofs.ClassCases.{in-range, of-class}
 use Rattle.catalog.specs.Rules.{isSizeOf}
-use Rattle.registers.proofs.TestOutcomes.{clash, both}
 
 -- The row of a type and its size by it.
 pub row-of-size : (code size : ℕ) → isSizeOf code size ≡ true → (r : TypeRow) × (rowOf code ≡ some r) × (size ≤ r .most)

@@ -6,12 +6,12 @@ use native.Mathlib.Omega.{arith}
 use lib.Dec.{eqb}
 use lib.ListN.{length}
 use Rattle.registers.specs.Each.{Each}
+use Rattle.registers.proofs.TestOutcomes.{by-test}
 use Rattle.catalog.specs.Frames.{Point}
 use Rattle.catalog.specs.Checking.{accepted, checked}
 use Rattle.catalog.specs.Definitions.{Definition, definitions}
 use Rattle.catalog.specs.Soundness.{SoundDefinition}
 use Rattle.catalog.proofs.AcceptedIsSound.{accepted-is-sound}
-use Rattle.registers.proofs.TestOutcomes.{by-test}
 use Rattle.register_map.specs.Scan.{Model}
 use Rattle.listing.specs.Points.{ModelPoint}
 use Rattle.listing.specs.Reading.{Reading, points, reading}

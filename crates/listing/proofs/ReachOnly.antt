@@ -9,12 +9,12 @@ use lib.Dec.{eqb}
 use lib.ListN.{getD, set}
 use Rattle.registers.specs.Each.{Each}
 use Rattle.registers.specs.Registers.{join, shownRaw}
+use Rattle.registers.proofs.TestOutcomes.{clash}
 use Rattle.values.specs.Classes.{value, unimplemented, outOfRange, Classified, ofClass, tooWide, unknownType, classified}
 use Rattle.catalog.specs.Frames.{Point, fixedScale, scaleByPoint, sunssf}
 use Rattle.catalog.specs.Rules.{among}
 use Rattle.catalog.specs.Definitions.{Groups, noGroup, group, pointsSize, pointFrames}
 use Rattle.catalog.specs.Soundness.{In, numbersOf, SoundGroups, ScaleResolves}
-use Rattle.registers.proofs.TestOutcomes.{clash}
 use Rattle.catalog.proofs.References.{points-resolve}
 use Rattle.listing.specs.Points.{ModelPoint, Scope, statusOf, scaleOf, scaleStatus, registersAt, pointAt}
 use Rattle.listing.specs.Layout.{withPoint, within, countOf, groupsSize, pointsAt, instances, groupsAt}

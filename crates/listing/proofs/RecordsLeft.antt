@@ -5,8 +5,8 @@ use mathlib.Core.List.{List, [], _∷_, _++_, map}
 use Prim.Native.Nat.{ℕ, suc, _≤_}
 use native.Mathlib.Omega.{arith}
 use lib.ListN.{length}
-use Rattle.catalog.specs.Definitions.{Definition}
 use Rattle.registers.proofs.TestOutcomes.{by-test}
+use Rattle.catalog.specs.Definitions.{Definition}
 use Rattle.register_map.specs.Scan.{Model}
 use Rattle.listing.specs.Points.{ModelPoint}
 use Rattle.listing.specs.Listing.{Record, recordOf}

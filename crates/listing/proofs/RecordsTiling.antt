@@ -9,12 +9,12 @@ use borrow.Author.Tests.{eq-eqb, ne-eqb}
 use lib.Dec.{ltb}
 use lib.ListN.{length}
 use Rattle.registers.specs.Each.{Each}
+use Rattle.registers.proofs.TestOutcomes.{clash, by-test}
 use Rattle.catalog.specs.Frames.{Point}
 use Rattle.catalog.specs.Rules.{among}
 use Rattle.catalog.specs.Checking.{accepted, checked}
 use Rattle.catalog.specs.Definitions.{Content, Definition, definitions, pointsSize}
 use Rattle.catalog.specs.Soundness.{SoundDefinition, Distinct, idsOf, In, first, later}
-use Rattle.registers.proofs.TestOutcomes.{clash, by-test}
 use Rattle.catalog.proofs.AcceptedIsSound.{accepted-is-sound}
 use Rattle.register_map.specs.Scan.{Model, sizeOf, totalSize, scan}
 use Rattle.listing.specs.Points.{ModelPoint}

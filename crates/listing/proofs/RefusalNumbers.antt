@@ -9,11 +9,11 @@ use native.Mathlib.Omega.{arith}
 use borrow.Author.Tests.{leb-true}
 use lib.Dec.{eqb, leb, ltb}
 use lib.ListN.{length, drop}
+use Rattle.registers.proofs.TestOutcomes.{by-test, both}
 use Rattle.catalog.specs.Frames.{Frame, frames}
 use Rattle.catalog.specs.State.{State, start, next}
 use Rattle.catalog.specs.Rules.{noModel, rules, firstBroken, run, fault}
 use Rattle.catalog.specs.Checking.{Verdict, refused, checkFrom, checked}
-use Rattle.registers.proofs.TestOutcomes.{by-test, both}
 use Rattle.register_map.specs.Headers as Headers
 use Rattle.register_map.specs.Scan.{broken, scanFrom, scan}
 use Rattle.register_map.proofs.ScanSteps.{scan-model, scan-end, scan-refused}

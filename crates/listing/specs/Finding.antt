@@ -40,7 +40,7 @@ finding catalog map index number path =
       | Listing.listed rs headers ↦ elim (firstWith (isRecord index number path) rs) [ none ↦ nothing | some r ↦ found r ]
     ]
 
--- What a write asks of a record: its address, its type, size and access by the catalog, and its raw value.
+-- A point as a write asks for it: its address, its type, size and access by the catalog, and its raw value.
 pub record Target : Type 0 where
   pub address : ℕ
   pub typeCode : ℕ
@@ -48,6 +48,7 @@ pub record Target : Type 0 where
   pub access : ℕ
   pub raw : ℕ
 
+-- What a write asks of this record.
 abbrev pub targetOf : Record → Target
 targetOf r =
     record {
@@ -64,6 +65,7 @@ pub data Told : Type 0 where
   nothingTold : Told
   foundTold : Target → Told
 
+-- The refusal with its place, that there is no such point, or the point.
 abbrev pub told : Finding → Told
 told (refused n place) = refusedTold n place
 told nothing = nothingTold

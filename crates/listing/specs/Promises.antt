@@ -197,7 +197,7 @@ pub record BehindGroups (gs : Groups) (count : Frames.Head → ℕ) (at r : Prog
   pub records : r .records ≡ at .records + groupsPoints count gs
   pub offset : r .offset ≡ at .offset + groupsSize count gs
 
--- A search passes over every model but the one that the point sought is in.
+-- A search passes over every model but the one with the index sought.
 abbrev pub passedOver : Visit → Bool
 passedOver visit =
     elim (visit .task) [ Task.Records ↦ false | Task.Search ↦ not (eqb (visit .index) (visit .sought .model)) ]
@@ -225,13 +225,13 @@ foundIn (Listing.listed rs headers) sought out =
       | some r ↦ sets out 0 (foundNumbers r)
     ]
 
--- What walking a map asks for: it has no refusal, and its records have room in the list, or what is told of the point sought
--- has, of which nothing is told yet.
+-- What walking a map asks for: it has no refusal. Records: they have room in the list. Search: the list has room for what is told
+-- of a point, and nothing is told yet.
 abbrev pub MapFits : Task → Listing.Answer → List ℕ → Type 0
 MapFits Task.Records answer out = WalkFits answer out
 MapFits Task.Search answer out = IsListed answer × (foundWidth ≤ length out) × (getD out 0 0 ≡ 0)
 
--- The list behind it.
+-- The list behind the walk over a map.
 abbrev pub behindMap : Task → Sought → Listing.Answer → List ℕ → List ℕ
 behindMap Task.Records sought answer out = Listing.stored answer out
 behindMap Task.Search sought answer out = foundIn answer sought out

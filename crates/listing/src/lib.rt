@@ -11,7 +11,7 @@ mod surveys;
 use catalog::Checked;
 use catalog::check;
 pub use records::InstancePath;
-use records::NOTHING;
+use records::NO_POINT;
 use records::Sought;
 use records::Task;
 use records::Visit;
@@ -71,7 +71,7 @@ pub fn list(catalog: &[u16], map: &[u16], out: &mut [u64]) -> Listing
             if out.len() / WIDTH < points {
                 return refused(30, points, headers);
             }
-            put_map(catalog, map, &mut table, out, Task::Records, NOTHING);
+            put_map(catalog, map, &mut table, out, Task::Records, NO_POINT);
             Listing::Listed { points, headers }
         }
         Listing::Refused {

@@ -40,8 +40,8 @@ pub(crate) struct Sought {
     pub(crate) path: InstancePath,
 }
 
-// What listing searches for: no point has the number 0.
-pub(crate) const NOTHING: Sought = Sought {
+// Fills the place of a point sought where records are written: nothing looks at it there.
+pub(crate) const NO_POINT: Sought = Sought {
     model: 0,
     number: 0,
     path: InstancePath {
@@ -57,7 +57,7 @@ pub(crate) enum Task {
 }
 
 // A model that is walked: its index, its id, the address of its header, what is written of its points, and the
-// point that a search is for. (An enum that holds an array is not covered, so the task does not hold the path.)
+// point that a search is for. (An enum that holds an array is not covered, so the task does not hold the point sought.)
 pub(crate) struct Visit {
     pub(crate) index: usize,
     pub(crate) id: u16,

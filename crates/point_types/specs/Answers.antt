@@ -1,5 +1,6 @@
--- What the code's types stand for: the code's rows as the table's.
+-- What the code's types stand for: the code's rows as the table's, and the answers of the public calls.
 use mathlib.Core.Option.{Option, none, some}
+use Prim.Native.Nat.{ℕ}
 use lib.IntN.{pos, negℤ}
 use Rattle.point_types.specs.Rows as Rows
 use Rattle.point_types.specs.declared.Kind.{Kind}
@@ -7,6 +8,7 @@ use Rattle.point_types.specs.declared.Unimplemented.{Unimplemented}
 use Rattle.point_types.specs.declared.Range.{Range}
 use Rattle.point_types.specs.declared.TypeRow.{TypeRow}
 use Rattle.point_types.specs.declared.Found.{Found}
+use Rattle.point_types.specs.declared.RegisterCount.{RegisterCount}
 
 -- The parts of a row, and a row.
 abbrev pub kindMeans : Kind → Rows.Kind
@@ -40,3 +42,8 @@ rowMeans r =
 abbrev pub foundMeans : Found → Option Rows.TypeRow
 foundMeans (Found.Row r) = some (rowMeans r)
 foundMeans Found.Nothing = none
+
+-- The answer of `register_count`.
+abbrev pub countAnswer : RegisterCount → Option (ℕ × ℕ)
+countAnswer (RegisterCount.Between fewest most) = some (fewest, most)
+countAnswer RegisterCount.UnknownType = none

@@ -1,7 +1,9 @@
-// The point types: their rows as the code holds them, in one table, proved to be that of specs/Rows.antt.
+// The point types: their rows as the code holds them, in one table, proved to be that of specs/Rows.antt, and what is
+// looked up there.
+// Every public call takes any arguments and carries an equation with the definitions of specs/.
 ghost use mathlib.Core.Path.{_≡_};
-ghost use Rattle.point_types.specs.Rows.{rowOf};
-ghost use Rattle.point_types.specs.Answers.{foundMeans};
+ghost use Rattle.point_types.specs.Rows.{mayScale, registersOf, rowOf};
+ghost use Rattle.point_types.specs.Answers.{countAnswer, foundMeans};
 use crate::Kind::Float;
 use crate::Kind::Signed;
 use crate::Kind::Unsigned;
@@ -50,6 +52,12 @@ pub struct TypeRow {
 pub enum Found {
     Row(TypeRow),
     Nothing,
+}
+
+// How many registers a point of a type takes: from fewest to most.
+pub enum RegisterCount {
+    Between { fewest: u16, most: u16 },
+    UnknownType,
 }
 
 // A row as the table writes it, on one line: code, fewest and most registers, may it carry a scale
@@ -107,4 +115,29 @@ pub fn row_of(type_code: u16) -> Found
         unimplemented,
         range,
     })
+}
+
+// How many registers a point of this type takes.
+pub fn register_count(type_code: u16) -> RegisterCount
+    ensures { λ r. ⌜ countAnswer r ≡ registersOf «type_code» ⌝ }
+{
+    let found = row_of(type_code);
+    match found {
+        Found::Row(row) => RegisterCount::Between {
+            fewest: row.fewest,
+            most: row.most,
+        },
+        Found::Nothing => RegisterCount::UnknownType,
+    }
+}
+
+// May a point of this type carry a scale factor?
+pub fn scalable(type_code: u16) -> bool
+    ensures { λ r. ⌜ r ≡ mayScale «type_code» ⌝ }
+{
+    let found = row_of(type_code);
+    match found {
+        Found::Row(row) => row.scalable,
+        Found::Nothing => false,
+    }
 }

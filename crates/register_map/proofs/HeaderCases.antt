@@ -7,8 +7,8 @@ use native.Mathlib.Omega.{arith}
 use borrow.Author.Tests.{eqb-true, eqb-false, ltb-false}
 use lib.Dec.{eqb, ltb}
 use lib.ListN.{length, drop, length-drop}
-use Rattle.register_map.specs.Headers.{endId, Header, model, endMarker, refused, headerAt}
 use Rattle.registers.proofs.TestOutcomes.{by-test}
+use Rattle.register_map.specs.Headers.{endId, Header, model, endMarker, refused, headerAt}
 use Rattle.register_map.proofs.HeaderLaws.{first-id}
 
 -- A header with its registers: a model, the end marker, or a refusal.

@@ -1,8 +1,8 @@
--- Laws of the registers from a place on: how many a part takes of them, and whether they are all 0.
+-- Laws of a part of registers: the first of them are registers; how many a part takes from a place on; whether they are all 0.
 use mathlib.Core.Path.{_≡_, refl, sym, _∙_}
 use mathlib.Core.Bool.{Bool, true, false, _&&_}
 use mathlib.Core.List.{List, [], _∷_}
-use Prim.Native.Nat.{ℕ, _+_, _-_, _*_, _^_, _≤_, _<_}
+use Prim.Native.Nat.{ℕ, zero, suc, _+_, _-_, _*_, _^_, _≤_, _<_}
 use native.Mathlib.Nat.{mul-le-mul-right}
 use native.Mathlib.Numerals.{add-one}
 use native.Mathlib.Omega.{arith}
@@ -10,8 +10,14 @@ use borrow.Author.Tests.{eq-eqb, ne-eqb, eqb-true, eqb-false}
 use lib.Dec.{eqb}
 use lib.ListN.{length, getD, take, drop, length-drop, drop-of-length-le}
 use lib.Seq.{drop-cons, take-all, take-nil}
-use Rattle.registers.specs.Registers.{join, allZero}
+use Rattle.registers.specs.Registers.{AreRegisters, join, allZero}
 use Rattle.registers.proofs.Joining.{positive}
+
+-- The first of registers are registers.
+pub first-registers : (k : ℕ) (rs : List ℕ) → AreRegisters rs → AreRegisters (take k rs)
+first-registers zero rs a = tt
+first-registers (suc k) [] a = tt
+first-registers (suc k) (r ∷ rs) a = (a .0, first-registers k rs (a .1))
 
 -- Behind the end nothing is taken.
 pub part-behind : (rs : List ℕ) (start count : ℕ) → length rs ≤ start → [] ≡ take count (drop start rs)

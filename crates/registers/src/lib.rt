@@ -1,4 +1,5 @@
 // Registers and the raw number that they hold.
+// Every public call takes any arguments and carries an equation with the definitions of specs/.
 ghost use mathlib.Core.Path.{_≡_};
 ghost use Prim.Native.Nat.{_-_, _*_, _^_, _<_, min};
 ghost use lib.ListN.{length, take, drop};

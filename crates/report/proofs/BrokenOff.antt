@@ -6,11 +6,11 @@ use mathlib.Core.Logic.{_⊎_, inl, inr}
 use Prim.Native.Nat.{ℕ}
 use native.Mathlib.Omega.{arith}
 use lib.ListN.{take}
+use Rattle.listing.specs.Listing.{Record, Answer, refused, listed}
+use Rattle.listing.proofs.BehindTheEnd.{listed-behind}
 use Rattle.input.specs.Parsing as Parsing
 use Rattle.input.proofs.CutWords.{Continued, cut-words}
 use Rattle.input.proofs.Refusals.{Outcome, outcome}
-use Rattle.listing.specs.Listing.{Record, Answer, refused, listed}
-use Rattle.listing.proofs.BehindTheEnd.{listed-behind}
 use Rattle.report.specs.Program.{found, foundIn, frameRoom, registerRoom, listRoom}
 
 -- A refusal of a line: it is bad (50), or there is no room for it (52).

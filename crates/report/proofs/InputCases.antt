@@ -5,9 +5,9 @@ use Prim.Native.Nat.{ℕ, _*_}
 use native.Mathlib.Omega.{arith}
 use lib.ListN.{length, take, drop}
 use lib.Seq.{take-at, take-append-seam}
+use Rattle.listing.specs.Listing.{Answer, refused, listed, listing, stored}
 use Rattle.input.specs.Parsing as Parsing
 use Rattle.input.proofs.ToldInputs.{Words, whole-frames}
-use Rattle.listing.specs.Listing.{Answer, refused, listed, listing, stored}
 use Rattle.report.specs.Text.{refusedWord}
 use Rattle.report.specs.Program.{parsedInput, found, foundIn, printed, textOf, storedText, storedList, listRoom, frameRoom, registerRoom}
 use Rattle.report.specs.Answers.{reportOf, writtenBy}

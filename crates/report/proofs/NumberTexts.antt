@@ -10,8 +10,8 @@ use borrow.Author.Tests.{eq-eqb, ne-eqb}
 use lib.ListN.{length, take, getD}
 use lib.Seq.{length-take-le, take-suc}
 use Rattle.display.specs.Decimals.{digitsOf}
-use Rattle.input.specs.Lines.{lineFeed}
 use Rattle.listing.specs.Listing.{recordWidth}
+use Rattle.input.specs.Lines.{lineFeed}
 use Rattle.report.specs.Promises.{behindNumber, numbersText}
 
 -- The text of two lists of numbers is the text of the first, and that of the second from its index on.

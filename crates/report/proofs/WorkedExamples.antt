@@ -2,9 +2,10 @@
 use mathlib.Core.Path.{_≡_, refl}
 use mathlib.Core.List.{List, [], _∷_, map}
 use Prim.Native.Nat.{ℕ}
-use Rattle.point_types.specs.Rows.{rows, rowAmong, mayScale, registersOf}
 use Rattle.registers.specs.Registers.{join, shownRaw, tooWide}
+use Rattle.point_types.specs.Rows.{rows, rowAmong, mayScale, registersOf}
 use Rattle.values.specs.Classes.{twosComplement, integer, inRange, classOf, classified}
+use Rattle.display.specs.Decimals.{lastDigits, digitCountWithin}
 use Rattle.catalog.specs.Frames.{frameOf, framesFrom}
 use Rattle.catalog.specs.Rules.{isSizeOf}
 use Rattle.catalog.specs.Checking.{checkFrom, checked}
@@ -15,7 +16,6 @@ use Rattle.listing.specs.Points.{pointAt}
 use Rattle.listing.specs.Layout.{within, groupsSize, fillSize, countUnimplemented, fits, fillOf, pointsAt, instances, groupsAt, contentAt}
 use Rattle.listing.specs.Reading.{endsWithPad, allButLast, laidOut, readBy, topOf, reading}
 use Rattle.listing.specs.Listing.{recordNumbers, walk, recordsBy, allRecords, withRoom, listing}
-use Rattle.display.specs.Decimals.{lastDigits, digitCountWithin}
 use Rattle.input.specs.Lines.{ascii, lines}
 use Rattle.input.specs.Digits.{digitValue, isDigit, digitOr0, wordsOf}
 use Rattle.input.specs.Parsing.{mapFrom, catalogFrom}

@@ -1,8 +1,8 @@
 -- Document 01, "The program": what is printed for an input.
 use mathlib.Core.List.{List, [], _++_}
 use Prim.Native.Nat.{ℕ, _*_}
-use Rattle.input.specs.Parsing as Parsing
 use Rattle.listing.specs.Listing.{Answer, refused, listed, listing, recordWidth, stored}
+use Rattle.input.specs.Parsing as Parsing
 use Rattle.report.specs.Text.{listingText, refusedWord, refusalText}
 
 -- The program holds so many frames of a catalog, registers of a map, and records.

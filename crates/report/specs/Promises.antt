@@ -6,8 +6,8 @@ use Prim.Native.Char.{code}
 use lib.Dec.{eqb}
 use lib.ListN.{take}
 use Rattle.display.specs.Decimals.{digitsOf}
-use Rattle.input.specs.Lines.{ascii, lineFeed}
 use Rattle.listing.specs.Listing.{recordWidth}
+use Rattle.input.specs.Lines.{ascii, lineFeed}
 
 -- What stands behind the number with an index among the numbers of records: LF behind the last of a record, else a space.
 unfoldable pub behindNumber : ℕ → ℕ

@@ -4,8 +4,8 @@ use Prim.Native.Nat.{ℕ}
 use Prim.Native.Char.{code}
 use lib.ListN.{length}
 use Rattle.display.specs.Decimals.{digitsOf}
-use Rattle.input.specs.Lines.{ascii, lineFeed}
 use Rattle.listing.specs.Listing.{Record, recordNumbers}
+use Rattle.input.specs.Lines.{ascii, lineFeed}
 
 -- Numbers as a line: one space between them, and LF behind the last.
 unfoldable pub numbersLine : List ℕ → List ℕ

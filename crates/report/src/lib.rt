@@ -12,8 +12,8 @@ use text::put_refusal;
 ghost use mathlib.Core.Path.{_≡_};
 ghost use Prim.Native.Nat.{_≤_};
 ghost use lib.ListN.{length};
-ghost use Rattle.input.specs.Parsing.{storedCatalog, storedMap};
 ghost use Rattle.listing.specs.Listing as Listings;
+ghost use Rattle.input.specs.Parsing.{storedCatalog, storedMap};
 ghost use Rattle.report.specs.Program.{parsedInput, found, output, listRoom, storedText, storedList};
 ghost use Rattle.report.specs.Answers.{reportOf, writtenBy, lengthOf};
 

@@ -8,11 +8,11 @@ use native.Mathlib.Omega.{arith}
 use borrow.Author.Tests.{le-leb, lt-leb, leb-true}
 use lib.Dec.{leb}
 use lib.Ieee.{binary32, ofBits}
-use Rattle.point_types.specs.Rows.{TypeRow, Kind, rowOf}
 use Rattle.registers.specs.Registers as registers
+use Rattle.point_types.specs.Rows.{TypeRow, Kind, rowOf}
+use Rattle.point_types.proofs.Table.{from-one}
 use Rattle.values.specs.Classes.{width, twosComplement, isUnimplemented, inRange, value, unimplemented, outOfRange, classOf, classified, ofClass, tooWide, unknownType}
 use Rattle.values.specs.Decoding as decoding
-use Rattle.point_types.proofs.Table.{from-one}
 use Rattle.values.specs.Decoding.{patternIn, numberOf, valueOf, decodable, decoded, refused}
 
 module _ (row : TypeRow) (raw : ℕ) where

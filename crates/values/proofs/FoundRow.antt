@@ -6,12 +6,12 @@ use Prim.Native.Nat.{ℕ, _^_, _≤_, _<_}
 use native.Mathlib.Omega.{arith}
 use lib.ListN.{length, take}
 use lib.Seq.{length-take-le}
-use Rattle.point_types.specs.Rows.{TypeRow, rowOf}
 use Rattle.registers.specs.Registers.{shownRaw}
+use Rattle.registers.proofs.Joining.{shown, first-fit}
+use Rattle.point_types.specs.Rows.{TypeRow, rowOf}
+use Rattle.point_types.proofs.Table.{listed, four-registers}
 use Rattle.values.specs.Classes.{PatternOf}
 use Rattle.values.specs.Decoding.{valueOf, decoded}
-use Rattle.point_types.proofs.Table.{listed, four-registers}
-use Rattle.registers.proofs.Joining.{shown, first-fit}
 use Rattle.values.proofs.ClassCases.{decodes, by-row}
 
 module _ (code : ℕ) (registers : List ℕ) (row : TypeRow) (four : length registers ≡ 4) (most : code ≤ 18)

@@ -8,9 +8,9 @@ use lib.Dec.{T}
 use lib.Ieee.{Float, isNan, binary32, nanBits}
 use lib.Ieee.Bits.{nanBits-is}
 use Rattle.point_types.specs.Rows.{TypeRow, Kind, Listed}
+use Rattle.point_types.proofs.Table.{float-row, listed}
 use Rattle.values.specs.Classes.{Class, classOf}
 use Rattle.values.specs.Decoding.{patternIn, float, decoded}
-use Rattle.point_types.proofs.Table.{float-row, listed}
 use Rattle.values.proofs.Ranges.{in-not-nan}
 use Rattle.values.proofs.ClassCases.{row-of-decodable}
 use Rattle.values.proofs.ThreeClasses.{class-is-its-tests}

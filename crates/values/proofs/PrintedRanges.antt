@@ -9,24 +9,28 @@ use borrow.Author.Tests.{eqb-false}
 use lib.Dec.{T, le→leb, eqb→eq}
 use lib.IntN.{ℤ, pos, negℤ}
 use lib.ListN.{length}
+use lib.Ieee.Fits.{and-l, and-r}
 use lib.Signed.{leZ, _≤ℤ_}
 use Rattle.registers.specs.Each.{Each}
-use Rattle.point_types.specs.Rows.{TypeRow, Kind, signed, unsigned, float, Unimplemented, never, pattern, Range, whole, between, notNaN, rows, rowAmong}
 use Rattle.registers.specs.Registers.{AreRegisters}
+use Rattle.point_types.specs.Rows.{TypeRow, Kind, signed, unsigned, float, Unimplemented, never, pattern, Range, whole, between, notNaN, rows, rowAmong}
+use Rattle.point_types.proofs.ListTests.{every}
+use Rattle.point_types.proofs.Table.{signed-width, edgeTest, edges}
 use Rattle.values.specs.Classes as classes
 use Rattle.values.specs.Classes.{width, twosComplement, integer, isUnimplemented, isBetween, inRange, classOf, PatternOf}
 use Rattle.values.specs.Decoding.{Decoded, decoded, decodable}
 use Rattle.values.specs.Printed.{PrintedRange, printed, Within}
-use lib.Ieee.Fits.{and-l, and-r}
-use Rattle.point_types.proofs.ListTests.{passes, every}
 use Rattle.values.proofs.IntegerOrder.{le-le, negative-le, negative-le-negative}
 use Rattle.values.proofs.ThreeClasses.{class-is-its-tests}
 use Rattle.values.proofs.Ranges.{in-between, plain-integer, signed-integer}
 use Rattle.values.proofs.TwosComplement.{by-half}
 use Rattle.values.proofs.MachineIntegers.{halves}
-use Rattle.point_types.proofs.Table.{signed-width, edgeTest, edges}
 use Rattle.values.proofs.DecodedCases.{asSigned, asUnsigned, asFloat, asUnimplemented, asOutOfRange, Cases, byRow, noRow, cases}
 use Rattle.values.proofs.RoundTrip.{holds-pattern}
+
+-- A test that comes out true passes.
+passes : (b : Bool) → b ≡ true → T b
+passes b e = subst T (sym e) tt
 
 -- The least and the greatest integer that a row leaves a value.
 abbrev leastIn : Range → Kind → ℕ → ℤ

@@ -9,8 +9,8 @@ use lib.Dec.{leb, eqb, leb·zero}
 use lib.IntN.{ℤ, pos, negℤ}
 use lib.Ieee.{binary32, nanBits}
 use Rattle.point_types.specs.Rows.{TypeRow, Kind, signed, unsigned, float, whole, between, notNaN}
-use Rattle.values.specs.Classes.{twosComplement, integer, isBetween, isScaleFactor, inRange, PatternOf}
 use Rattle.point_types.proofs.Table.{counts-from-zero, signed-range}
+use Rattle.values.specs.Classes.{twosComplement, integer, isBetween, isScaleFactor, inRange, PatternOf}
 
 module _ (row : TypeRow) (raw : ℕ) where
   pub in-whole : row .range ≡ whole → inRange row raw ≡ true

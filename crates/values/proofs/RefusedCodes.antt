@@ -8,8 +8,8 @@ use native.Mathlib.Omega.{arith}
 use native.Mathlib.Decide.{decLe}
 use borrow.Author.Tests.{le-leb}
 use Rattle.point_types.specs.Rows.{row, rowOf, unsigned, never, whole}
-use Rattle.values.specs.Decoding.{refused, decodable, decoded}
 use Rattle.point_types.proofs.Table.{row-at, no-row-outside}
+use Rattle.values.specs.Decoding.{refused, decodable, decoded}
 use Rattle.values.proofs.ClassCases.{beyond, no-row}
 use Rattle.values.proofs.DecodedCases.{Cases, noRow, cases}
 

@@ -1,31 +1,26 @@
 -- A decoded number, written back as registers, is the registers that it came from.
 use mathlib.Core.Path.{_≡_, refl, ap, subst, _∙_}
-use mathlib.Core.List.{List, [], _∷_}
+use mathlib.Core.List.{List}
 use mathlib.Core.Bool.{not}
 use mathlib.Core.Option.{some}
-use Prim.Native.Nat.{ℕ, zero, suc, _*_, _^_, _<_}
+use Prim.Native.Nat.{ℕ, _*_, _^_, _<_}
 use lib.Dec.{T}
 use lib.Ieee.{binary32, ofBits, isNan}
 use lib.Ieee.Bits.{toBits-ofBits, nanBits-is}
 use lib.ListN.{length, take}
-use Rattle.point_types.specs.Rows.{TypeRow}
 use Rattle.registers.specs.Registers.{AreRegisters, split}
+use Rattle.registers.proofs.RegisterParts.{first-registers}
+use Rattle.registers.proofs.Splitting.{join-bound, split-join}
+use Rattle.point_types.specs.Rows.{TypeRow}
+use Rattle.point_types.proofs.Table.{float-row, listed}
 use Rattle.values.specs.Classes.{Class, width, classOf, PatternOf}
 use Rattle.values.specs.Decoding.{patternIn, Decoded, decodable, decoded}
 use Rattle.values.specs.Encoding.{rawNumber, encoded}
-use Rattle.point_types.proofs.Table.{float-row, listed}
 use Rattle.values.proofs.TwosComplement.{pattern-back}
-use Rattle.registers.proofs.Splitting.{join-bound, split-join}
 use Rattle.values.proofs.ClassCases.{row-of-decodable, decodable-up-to}
 use Rattle.values.proofs.DecodedCases.{Answered, asSigned, asUnsigned, asFloat, asUnimplemented, asOutOfRange, Cases, byRow, noRow, cases}
 use Rattle.values.proofs.FoundRow.{pattern-of, first-length}
 use Rattle.values.proofs.NoNaN.{no-nan-pattern}
-
--- The first of registers are registers.
-pub first-registers : (k : ℕ) (rs : List ℕ) → AreRegisters rs → AreRegisters (take k rs)
-first-registers zero rs a = tt
-first-registers (suc k) [] a = tt
-first-registers (suc k) (r ∷ rs) a = (a .0, first-registers k rs (a .1))
 
 -- The raw number of a value's answer is the pattern.
 raw-back : (row : TypeRow) (raw : ℕ) (d : Decoded) → PatternOf row raw → Answered row raw d → classOf row raw ≡ Class.value

@@ -10,12 +10,12 @@ use lib.Dec.{lt→ltb, ltb→lt}
 use lib.IntN.{ℤ, pos, negsuc, negℤ, _+ℤ_, _-ℤ_, -ℤ-+ℤ-cancel, +ℤ-negℤ-cancel}
 use lib.ListN.{length}
 use lib.Signed.{_≤ℤ_, _<ℤ_}
-use Rattle.point_types.specs.Rows.{TypeRow, Kind}
 use Rattle.registers.specs.Registers.{AreRegisters}
+use Rattle.point_types.specs.Rows.{TypeRow, Kind}
+use Rattle.point_types.proofs.Table.{listed, signed-width}
 use Rattle.values.specs.Classes.{width, twosComplement}
 use Rattle.values.specs.Decoding.{patternIn, signed, decodable, decoded}
 use Rattle.values.proofs.IntegerOrder.{negative-le, negative-le-negative, negative-below}
-use Rattle.point_types.proofs.Table.{listed, signed-width}
 use Rattle.values.proofs.ClassCases.{row-of-decodable}
 use Rattle.values.proofs.TwosComplement.{by-half, less}
 use Rattle.values.proofs.MachineIntegers.{halves}

@@ -6,8 +6,8 @@ use mathlib.Core.Bool.{Bool, true, false}
 use mathlib.Core.Option.{some}
 use Prim.Native.Nat.{ℕ, _^_, _≤_, _<_}
 use borrow.Author.Tests.{le-leb, lt-leb}
-use Rattle.point_types.specs.Rows.{TypeRow, rowOf}
 use Rattle.registers.specs.Registers as registers
+use Rattle.point_types.specs.Rows.{TypeRow, rowOf}
 use Rattle.values.specs.Classes.{width, isUnimplemented, inRange, Class, value, unimplemented, outOfRange, classOf, classified, ofClass, tooWide}
 use Rattle.values.proofs.ClassCases as cases
 

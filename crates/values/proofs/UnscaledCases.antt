@@ -8,8 +8,8 @@ use borrow.Author.Tests.{leb-false}
 use lib.IntN.{ℤ, natAbs}
 use lib.Pow.{pow-pos}
 use lib.Signed.{nonNeg}
-use Rattle.point_types.specs.Rows.{TypeRow, rowOf}
 use Rattle.registers.specs.Registers.{tooWide}
+use Rattle.point_types.specs.Rows.{TypeRow, rowOf}
 use Rattle.values.specs.Classes.{width, twosComplement, integer, isValue, classified}
 use Rattle.values.specs.Unscaled.{Unscaled, number, noValue, notScalable, unscaled}
 use Rattle.values.specs.Answers.{bySign, unscaledForm}

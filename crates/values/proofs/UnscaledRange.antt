@@ -7,9 +7,9 @@ use native.Mathlib.Omega.{arith}
 use lib.IntN.{ℤ, pos, negsuc}
 use lib.Pow.{pow-mono}
 use Rattle.point_types.specs.Rows.{TypeRow, Kind, signed, unsigned, float, rowOf, Listed}
+use Rattle.point_types.proofs.Table.{scalable-width, signed-width, listed}
 use Rattle.values.specs.Classes.{width, twosComplement, integer, isValue, classified}
 use Rattle.values.specs.Unscaled.{Unscaled, number, noValue, notScalable, unscaled}
-use Rattle.point_types.proofs.Table.{scalable-width, signed-width, listed}
 use Rattle.values.proofs.UnscaledCases.{value-fits}
 use Rattle.values.proofs.TwosComplement.{by-half}
 use Rattle.values.proofs.MachineIntegers.{halves}

@@ -1,7 +1,5 @@
 -- What the code's types stand for: the answers of the public calls in document 01's terms.
 use mathlib.Core.Bool.{not}
-use mathlib.Core.Option.{Option, none, some}
-use Prim.Native.Nat.{ℕ}
 use lib.IntN.{ℤ, natAbs}
 use lib.Signed.{nonNeg}
 use Rattle.values.specs.Classes as Classes
@@ -10,7 +8,6 @@ use Rattle.values.specs.Unscaled as Unscaled
 use Rattle.values.specs.declared.Value.{Value}
 use Rattle.values.specs.declared.Class.{Class}
 use Rattle.values.specs.declared.Classified.{Classified}
-use Rattle.values.specs.declared.RegisterCount.{RegisterCount}
 use Rattle.values.specs.declared.UnscaledValue.{UnscaledValue}
 
 -- The answer of `decode`: a code that is not 1–18 is refusal 40.
@@ -33,11 +30,6 @@ abbrev pub classifiedAnswer : Classified → Classes.Classified
 classifiedAnswer (Classified.Of c) = Classes.ofClass (classAnswer c)
 classifiedAnswer Classified.TooWide = Classes.tooWide
 classifiedAnswer Classified.UnknownType = Classes.unknownType
-
--- The answer of `register_count`.
-abbrev pub countAnswer : RegisterCount → Option (ℕ × ℕ)
-countAnswer (RegisterCount.Between fewest most) = some (fewest, most)
-countAnswer RegisterCount.UnknownType = none
 
 -- An integer by its sign and magnitude.
 abbrev pub bySign : ℤ → UnscaledValue

@@ -7,8 +7,8 @@ use lib.Dec.{leb}
 use lib.IntN.{ℤ}
 use lib.Ieee.{Float, binary32, ofBits}
 use lib.ListN.{take}
-use Rattle.point_types.specs.Rows.{TypeRow, Kind, rowOf}
 use Rattle.registers.specs.Registers.{join}
+use Rattle.point_types.specs.Rows.{TypeRow, Kind, rowOf}
 use Rattle.values.specs.Classes.{Class, width, twosComplement, classOf}
 
 -- The answers, with their data; a refusal by its number.

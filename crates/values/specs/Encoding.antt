@@ -4,8 +4,8 @@ use mathlib.Core.Option.{Option, none, some}
 use Prim.Native.Nat.{ℕ, suc, _-_, _^_}
 use lib.IntN.{ℤ, pos, negsuc}
 use lib.Ieee.{binary32, toBits}
-use Rattle.point_types.specs.Rows.{TypeRow}
 use Rattle.registers.specs.Registers.{split}
+use Rattle.point_types.specs.Rows.{TypeRow}
 use Rattle.values.specs.Classes.{width}
 use Rattle.values.specs.Decoding.{Decoded, signed, unsigned, float, unimplemented, outOfRange, refused}
 

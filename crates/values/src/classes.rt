@@ -2,9 +2,9 @@
 ghost use mathlib.Core.Path.{_≡_};
 ghost use mathlib.Core.Bool.{not};
 ghost use lib.Ieee.{binary32, nanBits};
-ghost use Rattle.values.specs.Classes.{PatternOf, ofClass, twosComplement, isUnimplemented, inRange, isScaleFactor, isValue, classOf, classified};
 ghost use Rattle.point_types.specs.Rows.{Listed};
 ghost use Rattle.point_types.specs.Answers.{unimplementedMeans, rowMeans};
+ghost use Rattle.values.specs.Classes.{PatternOf, ofClass, twosComplement, isUnimplemented, inRange, isScaleFactor, isValue, classOf, classified};
 ghost use Rattle.values.specs.Answers.{classAnswer, classifiedAnswer};
 use crate::Class;
 use crate::Classified;

@@ -17,11 +17,10 @@ use registers::raw_value;
 pub use unscaled::unscaled_value;
 ghost use mathlib.Core.Path.{_≡_};
 ghost use Prim.Native.Nat.{_*_, _-_, _^_, _≤_, _<_};
-ghost use Rattle.point_types.specs.Rows.{mayScale, registersOf};
+ghost use Rattle.point_types.specs.Answers.{rowMeans};
 ghost use Rattle.values.specs.Classes.{PatternOf, twosComplement, classOf, value};
 ghost use Rattle.values.specs.Decoding.{numberOf, valueOf, decoded};
-ghost use Rattle.point_types.specs.Answers.{rowMeans};
-ghost use Rattle.values.specs.Answers.{answer, countAnswer};
+ghost use Rattle.values.specs.Answers.{answer};
 
 // A pattern of a type is a value, marks the point as unimplemented, or is out of the type's range.
 pub enum Class {
@@ -35,12 +34,6 @@ pub enum Class {
 pub enum Classified {
     Of(Class),
     TooWide,
-    UnknownType,
-}
-
-// How many registers a point of a type takes: from fewest to most.
-pub enum RegisterCount {
-    Between { fewest: u16, most: u16 },
     UnknownType,
 }
 
@@ -61,31 +54,6 @@ pub enum UnscaledValue {
     Of { negative: bool, magnitude: u64 },
     NoValue,
     NotScalable,
-}
-
-// How many registers a point of this type takes.
-pub fn register_count(type_code: u16) -> RegisterCount
-    ensures { λ r. ⌜ countAnswer r ≡ registersOf «type_code» ⌝ }
-{
-    let found = row_of(type_code);
-    match found {
-        Found::Row(row) => RegisterCount::Between {
-            fewest: row.fewest,
-            most: row.most,
-        },
-        Found::Nothing => RegisterCount::UnknownType,
-    }
-}
-
-// May a point of this type carry a scale factor?
-pub fn scalable(type_code: u16) -> bool
-    ensures { λ r. ⌜ r ≡ mayScale «type_code» ⌝ }
-{
-    let found = row_of(type_code);
-    match found {
-        Found::Row(row) => row.scalable,
-        Found::Nothing => false,
-    }
 }
 
 // The value in the first registers, as many as the type takes.

@@ -1,9 +1,9 @@
 // The integer of a raw number before it is scaled.
 ghost use mathlib.Core.Path.{_≡_};
 ghost use Prim.Native.Nat.{_*_, _^_, _≤_, _<_};
+ghost use Rattle.point_types.specs.Answers.{rowMeans};
 ghost use Rattle.values.specs.Classes.{PatternOf, integer, twosComplement};
 ghost use Rattle.values.specs.Unscaled.{unscaled};
-ghost use Rattle.point_types.specs.Answers.{rowMeans};
 ghost use Rattle.values.specs.Answers.{unscaledForm, bySign};
 use crate::UnscaledValue;
 use crate::classes::classified_in;

@@ -11,8 +11,8 @@ use Rattle.listing.specs.Listing.{Record, allRecords}
 use Rattle.listing.specs.Listing as Listing
 use Rattle.listing.specs.Finding.{isRecord, firstWith, finding, Target, targetOf}
 use Rattle.listing.specs.Finding as Finding
-use Rattle.writing.specs.Writing.{refusal, rewritten, Answer, refused, written, writingTo, writing, refusedTold, writtenTold, told, mapBehind}
 use Rattle.listing.proofs.FirstFound.{found-in}
+use Rattle.writing.specs.Writing.{refusal, rewritten, Answer, refused, written, writingTo, writing, refusedTold, writtenTold, told, mapBehind}
 use Rattle.writing.proofs.RawValues.{record-inside}
 
 -- ---- Writing to a point

@@ -21,9 +21,9 @@ use Rattle.listing.specs.Tiling.{lowerPoints}
 use Rattle.listing.proofs.GroupNumbers.{point-among}
 use Rattle.listing.proofs.InLaws.{in-front, in-behind, in-either}
 use Rattle.listing.proofs.IntoGroups.{SoundBelow, below, beside}
+use Rattle.listing.proofs.EachLaws.{each-parts}
 use Rattle.writing.specs.AfterWriting.{agreeTo, pathOf, PointAfter, Pairwise}
 use Rattle.writing.proofs.Places.{Place}
-use Rattle.listing.proofs.EachLaws.{each-parts}
 use Rattle.writing.proofs.PairwiseLaws.{pairwise-append, pairwise-instances}
 use Rattle.writing.proofs.Depths.{levels, agree-behind, Deep, own-depth, inside-deep, behind-deep}
 use Rattle.writing.proofs.OnePointAfter as one

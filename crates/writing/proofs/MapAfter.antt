@@ -9,6 +9,7 @@ use borrow.Author.Tests.{eq-eqb, ne-eqb}
 use lib.ListN.{length}
 use lib.Seq.{sets, length-sets}
 use Rattle.registers.specs.Registers.{split}
+use Rattle.registers.proofs.Splitting.{split-length}
 use Rattle.catalog.specs.Definitions.{Content, Definition, definitions}
 use Rattle.catalog.specs.Soundness.{In}
 use Rattle.register_map.specs.Scan.{sizeOf, marked, scan}
@@ -18,14 +19,13 @@ use Rattle.listing.specs.Listing.{Record, recordOf, listed, walk, allRecords}
 use Rattle.listing.specs.Finding.{isRecord, firstWith, targetOf}
 use Rattle.listing.proofs.ListingCases.{records-walk, walk-records}
 use Rattle.listing.proofs.WalksBehind.{headers-walked}
+use Rattle.listing.proofs.FirstFound.{found-in}
 use Rattle.writing.specs.Writing.{refusal, rewritten}
 use Rattle.writing.specs.AfterWriting.{PointAfter, PointBecomes, RecordAfter, Pairwise}
-use Rattle.listing.proofs.FirstFound.{found-in}
 use Rattle.writing.proofs.PointPlaces.{point-inside}
 use Rattle.writing.proofs.ModelAfter.{model-after}
 use Rattle.writing.proofs.WritingCases.{Writable, refusal-none}
 use Rattle.writing.proofs.WalkedModels.{records-anew}
-use Rattle.registers.proofs.Splitting.{split-length}
 use Rattle.writing.proofs.RecordSources.{record-source, read-with}
 use Rattle.writing.proofs.AfterCases.{point-place}
 use Rattle.writing.proofs.ModelAnew.{storedIn, scan-anew, opens-anew}

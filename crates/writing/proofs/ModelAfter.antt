@@ -10,8 +10,8 @@ use lib.ListN.{length}
 use lib.Seq.{sets, length-sets}
 use Rattle.registers.specs.Each.{Each}
 use Rattle.registers.specs.Registers.{split}
-use Rattle.values.specs.Classes.{classified}
 use Rattle.registers.proofs.TestOutcomes.{both}
+use Rattle.values.specs.Classes.{classified}
 use Rattle.catalog.specs.Frames.{Point, readOnly}
 use Rattle.catalog.specs.Rules.{isSizeOf}
 use Rattle.catalog.specs.Definitions.{Definition, pointsSize}
@@ -27,14 +27,14 @@ use Rattle.listing.proofs.OnePoint.{one-point}
 use Rattle.listing.proofs.LeftOutPad.{each-but-last, left-out}
 use Rattle.listing.proofs.IntoGroups.{definition-below}
 use Rattle.listing.proofs.ModelWriting.{Full, resolves-left}
+use Rattle.listing.proofs.ListedPoints.{all-sized}
+use Rattle.listing.proofs.Readings.{pointsLeft, read-left, read-full, by-reading}
 use Rattle.writing.specs.Writing.{isUnimplemented, canHold}
 use Rattle.writing.specs.AfterWriting.{depthIn, agreeTo, pathOf, PointAfter, Pairwise}
 use Rattle.writing.proofs.PairwiseLaws.{pairwise-append}
 use Rattle.writing.proofs.Places.{Place}
 use Rattle.writing.proofs.PointPlaces.{in-but-last, point-defined, point-inside, point-places}
 use Rattle.writing.proofs.Depths.{levels, absent-depth}
-use Rattle.listing.proofs.ListedPoints.{all-sized}
-use Rattle.listing.proofs.Readings.{pointsLeft, read-left, read-full, by-reading}
 use Rattle.writing.proofs.OnePointAfter as one
 use Rattle.writing.proofs.OnePointAfter.{fails, Write}
 use Rattle.writing.proofs.GroupsAfter as after

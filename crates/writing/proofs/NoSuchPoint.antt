@@ -12,9 +12,9 @@ use Rattle.listing.specs.Finding as Finding
 use Rattle.listing.proofs.WalkSteps.{not-listed}
 use Rattle.listing.proofs.WalksBehind.{listed-walks}
 use Rattle.listing.proofs.ListingCases.{walk-records}
+use Rattle.listing.proofs.FirstFound.{not-none, none-found}
 use Rattle.writing.specs.Writing.{Answer, refused, writing}
 use Rattle.writing.specs.AfterWriting.{pathOf}
-use Rattle.listing.proofs.FirstFound.{not-none, none-found}
 use Rattle.writing.proofs.WritingCases.{Case, listingRefused, noPoint, pointRefused, pointWritten, writing-case}
 use Rattle.writing.proofs.WritingCases.{finding-found, records-number, refusal-number}
 use Rattle.writing.proofs.OneRecord.{own-found}

@@ -9,11 +9,12 @@ use borrow.Author.Tests.{eqb-true, eqb-false, eq-eqb, not-true}
 use lib.Dec.{eqb}
 use lib.ListN.{length, take, drop, getD, length-take}
 use lib.Seq.{sets}
-use Rattle.point_types.specs.Rows.{mayScale}
 use Rattle.registers.specs.Registers.{join, split, shownRaw, tooWide}
-use Rattle.values.specs.Classes.{value, ofClass, classified, isValue}
 use Rattle.registers.proofs.TestOutcomes.{both}
 use Rattle.registers.proofs.Joining.{shown}
+use Rattle.registers.proofs.Splitting.{split-length, join-split, one-register}
+use Rattle.point_types.specs.Rows.{mayScale}
+use Rattle.values.specs.Classes.{value, ofClass, classified, isValue}
 use Rattle.catalog.specs.Frames.{Point, scaleByPoint, sunssf}
 use Rattle.catalog.specs.Rules.{isSizeOf}
 use Rattle.catalog.specs.Definitions.{Content}
@@ -23,7 +24,6 @@ use Rattle.listing.proofs.ReachOnly.{same-status, same-scale, shownAs, shown-sa
 use Rattle.writing.specs.Writing.{isUnimplemented, canHold}
 use Rattle.writing.specs.AfterWriting.{depthIn, agreeTo, pathOf, Holds, rescaled, PointAfter}
 use Rattle.writing.proofs.Places.{Place}
-use Rattle.registers.proofs.Splitting.{split-length, join-split, one-register}
 use Rattle.writing.proofs.StoredRegisters.{stored-outside, run-stored, first-stored, part-stays}
 use Rattle.writing.proofs.Depths.{levels, agree-itself}
 use Rattle.writing.proofs.ValueStatus as status
@@ -253,6 +253,9 @@ module _ (top : Content) (w : ModelPoint) (raw : ℕ) (body : List ℕ) where
               level3 = refl;
               level4 = refl;
               holds = shown (registersAt new a p) few ∙ ap join (holding here) ∙ join-split (w .definition .size) raw narrow;
+              register = r′;
+              status = now;
+              scale = refl;
               implemented = grade .implemented;
               mandatory = grade .mandatory;
               inRange = grade .inRange;

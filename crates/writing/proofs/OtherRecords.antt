@@ -16,9 +16,9 @@ use Rattle.register_map.specs.Scan.{totalSize, scan}
 use Rattle.listing.specs.Reading.{topOf}
 use Rattle.listing.specs.Listing.{Record, listed, allRecords, listing}
 use Rattle.listing.specs.Finding.{isRecord, firstWith}
+use Rattle.listing.proofs.FirstFound.{found-in}
 use Rattle.writing.specs.Writing.{written, writing}
 use Rattle.writing.specs.AfterWriting.{isScaleFactorOf, Holds, rescaled, RecordAfter, Pairwise}
-use Rattle.listing.proofs.FirstFound.{found-in}
 use Rattle.writing.proofs.PairwiseLaws.{pairwise-at, pairwise-implied}
 use Rattle.writing.proofs.AfterCases.{after-elsewhere, after-here, after-scaled, after-unscaled}
 use Rattle.writing.proofs.RecordSources.{record-source}

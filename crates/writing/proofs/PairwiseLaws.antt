@@ -11,9 +11,9 @@ use Rattle.catalog.specs.Soundness.{In, first, later}
 use Rattle.listing.specs.Points.{ModelPoint}
 use Rattle.listing.specs.Layout.{instances}
 use Rattle.listing.specs.Finding.{firstWith}
-use Rattle.writing.specs.AfterWriting.{Pairwise}
 use Rattle.listing.proofs.EachLaws.{each-parts}
 use Rattle.listing.proofs.FirstFound.{not-none, found-here, found-behind}
+use Rattle.writing.specs.AfterWriting.{Pairwise}
 
 module _ {A : Type 0} (R : A → A → Type 0) where
   -- Pairs behind pairs.

@@ -24,11 +24,11 @@ use Rattle.listing.proofs.LeftOutPad.{each-but-last}
 use Rattle.listing.proofs.GroupNumbers.{point-among, Apart, apart}
 use Rattle.listing.proofs.OnePoint.{one-point}
 use Rattle.listing.proofs.BodyTiling.{read-tiled}
+use Rattle.listing.proofs.Readings.{pointsLeft, by-reading}
 use Rattle.writing.specs.AfterWriting.{depthIn, agreeTo, pathOf}
 use Rattle.writing.proofs.Places.{Place}
 use Rattle.writing.proofs.PointAddresses.{offsetIn, addressIn, agree-address, Reads, Own, each-own, Lower, each-lower}
 use Rattle.writing.proofs.PointAddresses.{lower-among}
-use Rattle.listing.proofs.Readings.{pointsLeft, by-reading}
 
 -- ---- One point behind the other
 

@@ -8,6 +8,7 @@ use native.Mathlib.Omega.{arith}
 use lib.ListN.{length, getD}
 use lib.Seq.{length-sets}
 use Rattle.registers.specs.Registers.{split}
+use Rattle.registers.proofs.Splitting.{split-length}
 use Rattle.catalog.specs.Definitions.{definitions}
 use Rattle.listing.specs.Listing.{Record, listed, allRecords, withRoom, listing}
 use Rattle.listing.specs.Finding.{isRecord, firstWith, targetOf}
@@ -17,7 +18,6 @@ use Rattle.writing.specs.Writing.{refusal, rewritten, written, writing}
 use Rattle.writing.specs.AfterWriting.{RecordAfter, Pairwise}
 use Rattle.writing.proofs.WritingCases.{accepted-write}
 use Rattle.writing.proofs.PairwiseLaws.{pairwise-length, pairwise-found}
-use Rattle.registers.proofs.Splitting.{split-length}
 use Rattle.writing.proofs.StoredRegisters.{stored-outside}
 use Rattle.writing.proofs.AfterCases.{same-record, after-written}
 use Rattle.writing.proofs.MapAfter.{map-after}

@@ -9,9 +9,9 @@ use Rattle.listing.specs.Listing.{Record, listed, allRecords, listing}
 use Rattle.listing.specs.Finding.{isRecord, firstWith, targetOf}
 use Rattle.listing.proofs.ListingCases.{walk-records}
 use Rattle.listing.proofs.WalksBehind.{listed-walks}
+use Rattle.listing.proofs.FirstFound.{found-in}
 use Rattle.writing.specs.Writing.{rewritten, written, writing}
 use Rattle.writing.specs.AfterWriting.{pathOf}
-use Rattle.listing.proofs.FirstFound.{found-in}
 use Rattle.writing.proofs.StoredRegisters.{shown-stored}
 use Rattle.writing.proofs.WritingCases.{accepted-write, refusal-none}
 use Rattle.writing.proofs.OneRecord.{own-found}

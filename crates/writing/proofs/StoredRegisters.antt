@@ -10,7 +10,7 @@ use lib.Seq.{sets, sets-eq, set-append-left, getD-set-other, length-take-le, tak
 use lib.Seq.{drop-drop, getD-take, getD-drop}
 use Rattle.registers.specs.Registers.{AreRegisters, split, shownRaw}
 use Rattle.registers.proofs.Splitting.{split-shown}
-use Rattle.values.proofs.RoundTrip.{first-registers}
+use Rattle.registers.proofs.RegisterParts.{first-registers}
 use Rattle.listing.proofs.EachLaws.{each-drop}
 
 -- ---- Parts of a list

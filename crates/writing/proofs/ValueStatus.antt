@@ -4,10 +4,10 @@ use mathlib.Core.Bool.{Bool, true, false, not, _&&_}
 use Prim.Native.Nat.{ℕ, _≤_}
 use native.Mathlib.Omega.{arith}
 use lib.Dec.{eqb}
-use Rattle.point_types.specs.Rows.{rows, rowAmong, mayScale, registersOf}
-use Rattle.values.specs.Classes.{value, unimplemented, outOfRange, Classified, ofClass, tooWide, unknownType, classified, isValue}
 use Rattle.registers.proofs.TestOutcomes.{clash}
+use Rattle.point_types.specs.Rows.{rows, rowAmong, mayScale, registersOf}
 use Rattle.point_types.proofs.Table.{listed, scalable-width}
+use Rattle.values.specs.Classes.{value, unimplemented, outOfRange, Classified, ofClass, tooWide, unknownType, classified, isValue}
 use Rattle.catalog.specs.Frames.{Point, scaleByPoint, sunssf}
 use Rattle.catalog.specs.Rules.{isSizeOf}
 use Rattle.listing.specs.Points.{statusOf, scaleStatus}

@@ -5,8 +5,8 @@ use mathlib.Core.List.{List, [], _∷_, _++_, map}
 use mathlib.Core.Option.{Option, none, some}
 use Prim.Native.Nat.{ℕ}
 use lib.ListN.{take}
-use Rattle.point_types.specs.Rows.{rows, rowAmong, mayScale, registersOf}
 use Rattle.registers.specs.Registers.{join, split, shownRaw, tooWide}
+use Rattle.point_types.specs.Rows.{rows, rowAmong, mayScale, registersOf}
 use Rattle.values.specs.Classes.{twosComplement, integer, inRange, classOf, classified}
 use Rattle.catalog.specs.Frames.{frameOf, framesFrom}
 use Rattle.catalog.specs.Rules.{isSizeOf}

@@ -7,8 +7,8 @@ use Prim.Native.Nat.{ℕ, _≤_}
 use native.Mathlib.Omega.{arith}
 use borrow.Author.Tests.{eqb-false, ltb-false}
 use lib.Dec.{eqb, ltb}
-use Rattle.values.specs.Classes.{classified}
 use Rattle.registers.proofs.TestOutcomes.{by-test}
+use Rattle.values.specs.Classes.{classified}
 use Rattle.catalog.specs.Frames.{readOnly}
 use Rattle.listing.specs.Listing.{Record, allRecords, withRoom, listing}
 use Rattle.listing.specs.Listing as Listing

@@ -5,7 +5,7 @@ use mathlib.Core.List.{List, [], _∷_}
 use mathlib.Core.Option.{Option, none, some}
 use Prim.Native.Nat.{ℕ, zero, suc}
 use lib.Dec.{eqb}
-use Rattle.values.specs.Classes.{classified}
+use Rattle.values.specs.Classes.{value, ofClass, classified}
 use Rattle.catalog.specs.Frames.{scaleByPoint}
 use Rattle.catalog.specs.Rules.{among}
 use Rattle.catalog.specs.Definitions.{Groups, noGroup, group, Content, Definition, pointFrames, groupFrames}
@@ -29,7 +29,7 @@ depthIn number (group h ps inside behind) =
       ]
     ]
 
--- Do two paths agree in their first so many numbers?
+-- Do two paths agree in their first so many numbers, as far as both go? (A path has three.)
 abbrev pub agreeTo : ℕ → List ℕ → List ℕ → Bool
 agreeTo zero xs ys = true
 agreeTo (suc n) [] ys = true
@@ -50,8 +50,8 @@ isScaleFactorOf top w p =
 
 -- ---- What becomes of a point
 
--- The point written: it holds the raw value, it is neither unimplemented nor out of range, and if it was not out of range before,
--- its status and scale stay.
+-- The point written: it holds the raw value, and has the status and the scale of a value by the register of its scale point, if it
+-- has one. So it is neither unimplemented nor out of range; and if it was not out of range before, its status and scale stay.
 pub record Holds (raw : ℕ) (p q : ModelPoint) : Type 0 where
   pub offset : q .offset ≡ p .offset
   pub definition : q .definition ≡ p .definition
@@ -59,6 +59,9 @@ pub record Holds (raw : ℕ) (p q : ModelPoint) : Type 0 where
   pub level3 : q .level3 ≡ p .level3
   pub level4 : q .level4 ≡ p .level4
   pub holds : q .raw ≡ raw
+  pub register : ℕ
+  pub status : q .status ≡ statusOf (p .definition) (ofClass value) register
+  pub scale : q .scale ≡ scaleOf (p .definition) (q .status) register
   pub implemented : q .status ≡ 1 → ⊥
   pub mandatory : q .status ≡ 2 → ⊥
   pub inRange : q .status ≡ 5 → ⊥

@@ -39,7 +39,8 @@ refusal t raw =
       ]
     ]
 
--- The map with a raw value in the registers of a point, the highest first. Only these change.
+-- The map with a raw value in the registers of a point, the highest first. Only these change. (They lie in the map:
+-- `proofs/RawValues.antt`.)
 unfoldable pub rewritten : Target → ℕ → List ℕ → List ℕ
 rewritten t raw map = sets map (t .address) (split (t .size) raw)
 
@@ -72,6 +73,7 @@ pub data Told : Type 0 where
   refusedTold : ℕ → ℕ → Told
   writtenTold : Told
 
+-- The refusal with its place, or that the point is written.
 abbrev pub told : Answer → Told
 told (refused n place) = refusedTold n place
 told (written new) = writtenTold

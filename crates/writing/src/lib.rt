@@ -33,7 +33,8 @@ enum Verdict {
 }
 
 // Writes a raw value to the point with a number at a path, in the model with an index. All refusals are decided
-// before anything is written. The time is that of listing's survey, and then grows with the points of that model.
+// before anything is written. The time is that of listing's survey, of a second walk over the headers, and of one over
+// the points of that model.
 pub fn write(
     catalog: &[u16],
     map: &mut [u16],
@@ -72,7 +73,7 @@ fn write_to(map: &mut [u16], target: Target, raw: u64) -> Written
     }
 }
 
-// 32 to 35, in order. What 32 and 34 ask is found out first, so that only the tests below have an order.
+// 32 to 35, in order. What 32 and 34 ask is at hand before the first test, so that the order is that of the tests alone.
 fn judge(target: Target, raw: u64) -> Verdict
     ensures { λ r. ⌜ refusalForm r ≡ Writings.refusal (targetForm target) raw ⌝ }
 {

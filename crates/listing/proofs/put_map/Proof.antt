@@ -1,4 +1,5 @@
--- `listing::put_map` meets its contract: at each header, writing the records that are left gives the list behind the whole.
+-- `listing::put_map` meets its contract: at each header, what is left leads to the list behind the whole, with all records or with
+-- the point sought.
 use mathlib.Core.Path.{sym, ap, subst, _∙_}
 use mathlib.Core.List.{List}
 use Prim.Native.Nat.{ℕ, _+_, _-_}

@@ -3,10 +3,10 @@ use mathlib.Core.Path.{_≡_, sym, ap, _∙_}
 use native.Mathlib.Omega.{arith}
 use borrow.Author.Needs.{needs}
 use lib.ListN.{length}
+use Rattle.listing.specs.Listing.{Answer, listing, stored}
 use Rattle.input.specs.Parsing as Parsing
 use Rattle.input.specs.Answers.{answer}
 use Rattle.input.proofs.ToldInputs.{told-refused, told-words}
-use Rattle.listing.specs.Listing.{Answer, listing, stored}
 use Rattle.report.specs.Program.{parsedInput, found, listRoom, storedText, storedList}
 use Rattle.report.specs.Answers.{reportOf}
 use Rattle.report.proofs.ReportCases.{refusal-made}

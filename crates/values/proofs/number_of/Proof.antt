@@ -5,8 +5,8 @@ use Prim.Native.Nat.{ℕ, _*_, _^_}
 use mir.Facts.{toZ-ofZ}
 use borrow.Author.Needs.{needs}
 use Rattle.point_types.specs.Answers.{rowMeans, kindMeans}
-use Rattle.values.specs.Decoding as decoding
 use Rattle.point_types.proofs.Table.{signed-width, float-row}
+use Rattle.values.specs.Decoding as decoding
 use Rattle.values.proofs.ClassCases as cases
 use Rattle.values.proofs.NoNaN.{no-nan-pattern}
 use Rattle.values.proofs.number_of.Statement.{statement}

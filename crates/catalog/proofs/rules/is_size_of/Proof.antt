@@ -1,7 +1,7 @@
 -- `catalog::rules::is_size_of` meets its contract: the registers of the type are the table's.
 use mathlib.Core.Path.{sym, ap, _∙_}
 use borrow.Author.Tests.{lt-leb, le-leb}
-use Rattle.values.specs.Answers.{countAnswer}
+use Rattle.point_types.specs.Answers.{countAnswer}
 use Rattle.catalog.specs.Rules.{isSizeOf}
 use borrow.Author.Needs.{needs}
 use Rattle.catalog.proofs.rules.is_size_of.Statement.{statement}

@@ -5,9 +5,9 @@ use native.Mathlib.Omega.{arith}
 use borrow.Author.Needs.{needs}
 use borrow.Author.Tests.{eqb-true, eqb-false}
 use Rattle.registers.specs.Registers.{join}
-use Rattle.values.specs.Classes.{classified}
 use Rattle.registers.proofs.Joining.{shown}
 use Rattle.registers.proofs.RegisterParts.{zero-joined}
+use Rattle.values.specs.Classes.{classified}
 use Rattle.listing.proofs.PointClasses.{each-register, wide-value}
 use Rattle.listing.proofs.points.class_of.Statement.{statement}
 use Rattle.listing.proofs.points.class_of.Tie as tie

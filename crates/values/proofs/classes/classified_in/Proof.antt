@@ -3,8 +3,8 @@ use mathlib.Core.Path.{sym, ap, _∙_}
 use borrow.Author.Needs.{needs}
 use borrow.Author.Tests.{leb-false}
 use Rattle.registers.specs.Registers.{tooWide}
-use Rattle.values.specs.Classes.{ofClass}
 use Rattle.point_types.specs.Answers.{rowMeans}
+use Rattle.values.specs.Classes.{ofClass}
 use Rattle.values.proofs.ClassCases as cases
 use Rattle.values.proofs.classes.classified_in.Statement.{statement}
 use Rattle.values.proofs.classes.classified_in.Tie as tie

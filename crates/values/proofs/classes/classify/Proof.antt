@@ -4,9 +4,9 @@ use mathlib.Core.Option.{some}
 use Prim.Native.Nat.{ℕ}
 use borrow.Author.Needs.{needs}
 use Rattle.point_types.specs.Rows.{rowOf}
-use Rattle.values.specs.Classes.{classified}
 use Rattle.point_types.specs.Answers.{foundMeans, rowMeans}
 use Rattle.point_types.proofs.Table.{own-code, listed}
+use Rattle.values.specs.Classes.{classified}
 use Rattle.values.proofs.ClassCases.{unknown}
 use Rattle.values.proofs.classes.classify.Statement.{statement}
 use Rattle.values.proofs.classes.classify.Tie as tie

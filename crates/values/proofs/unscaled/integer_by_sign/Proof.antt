@@ -2,8 +2,8 @@
 use mathlib.Core.Path.{sym, ap, _∙_}
 use borrow.Author.Needs.{needs}
 use Rattle.point_types.specs.Answers.{rowMeans, kindMeans}
-use Rattle.values.specs.Answers.{bySign}
 use Rattle.point_types.proofs.Table.{signed-width}
+use Rattle.values.specs.Answers.{bySign}
 use Rattle.values.proofs.Ranges.{signed-integer, unsigned-integer, float-integer}
 use Rattle.values.proofs.unscaled.integer_by_sign.Statement.{statement}
 use Rattle.values.proofs.unscaled.integer_by_sign.Tie as tie

@@ -5,10 +5,10 @@ use Prim.Native.Nat.{ℕ}
 use borrow.Author.Needs.{needs}
 use borrow.Author.Tests.{not-true, not-false}
 use Rattle.point_types.specs.Rows.{rowOf}
-use Rattle.values.specs.Classes.{isValue, classified}
 use Rattle.point_types.specs.Answers.{foundMeans, rowMeans}
-use Rattle.values.specs.Answers.{unscaledForm}
 use Rattle.point_types.proofs.Table.{own-code, listed}
+use Rattle.values.specs.Classes.{isValue, classified}
+use Rattle.values.specs.Answers.{unscaledForm}
 use Rattle.values.proofs.UnscaledCases.{unknown, not-scalable, no-value, a-number, value-fits}
 use Rattle.values.proofs.unscaled.unscaled_value.Statement.{statement}
 use Rattle.values.proofs.unscaled.unscaled_value.Tie as tie

@@ -1,10 +1,10 @@
 -- `register_count` answers from the row that is found.
 use mathlib.Core.Path.{sym, ap, _∙_}
 use borrow.Author.Needs.{needs}
 use Rattle.point_types.specs.Rows.{registersOf}
 use Rattle.point_types.specs.Answers.{foundMeans}
-use Rattle.values.proofs.register_count.Statement.{statement}
-use Rattle.values.proofs.register_count.Tie as tie
+use Rattle.point_types.proofs.register_count.Statement.{statement}
+use Rattle.point_types.proofs.register_count.Tie as tie
 
 row-of-requires : tie.Need-row-of-requires
 row-of-requires c κs = search needs
