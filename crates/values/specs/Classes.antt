@@ -83,3 +83,11 @@ isValue (ofClass unimplemented) = false
 isValue (ofClass outOfRange) = false
 isValue tooWide = false
 isValue unknownType = false
+
+-- Is it found to be unimplemented?
+abbrev pub isUnimplementedClass : Classified → Bool
+isUnimplementedClass (ofClass unimplemented) = true
+isUnimplementedClass (ofClass value) = false
+isUnimplementedClass (ofClass outOfRange) = false
+isUnimplementedClass tooWide = false
+isUnimplementedClass unknownType = false

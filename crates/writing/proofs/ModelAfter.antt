@@ -11,7 +11,7 @@ use lib.Seq.{sets, length-sets}
 use Rattle.registers.specs.Each.{Each}
 use Rattle.registers.specs.Registers.{split}
 use Rattle.registers.proofs.TestOutcomes.{both}
-use Rattle.values.specs.Classes.{classified}
+use Rattle.values.specs.Classes.{classified, isUnimplementedClass}
 use Rattle.catalog.specs.Frames.{Point, readOnly}
 use Rattle.catalog.specs.Rules.{isSizeOf}
 use Rattle.catalog.specs.Definitions.{Definition, pointsSize}
@@ -29,7 +29,7 @@ use Rattle.listing.proofs.IntoGroups.{definition-below}
 use Rattle.listing.proofs.ModelWriting.{Full, resolves-left}
 use Rattle.listing.proofs.ListedPoints.{all-sized}
 use Rattle.listing.proofs.Readings.{pointsLeft, read-left, read-full, by-reading}
-use Rattle.writing.specs.Writing.{isUnimplemented, canHold}
+use Rattle.writing.specs.Writing.{canHold}
 use Rattle.writing.specs.AfterWriting.{depthIn, agreeTo, pathOf, PointAfter, Pairwise}
 use Rattle.writing.proofs.PairwiseLaws.{pairwise-append}
 use Rattle.writing.proofs.Places.{Place}
@@ -46,7 +46,7 @@ module _ (d : Definition) (sound : SoundDefinition d) (body : List ℕ) (ps : Li
     (read : readBy (d .id) (d .top) body ≡ points ps)
     (w : ModelPoint) (there : In w ps) (raw : ℕ)
     (writable : w .definition .access ≡ readOnly → ⊥) (small : w .definition .size ≤ 4)
-    (implemented : isUnimplemented (classified (w .definition .typeCode) (w .raw)) ≡ false)
+    (implemented : isUnimplementedClass (classified (w .definition .typeCode) (w .raw)) ≡ false)
     (holds : canHold (w .definition .typeCode) (w .definition .size) raw ≡ true) where
   -- The body behind the write.
   abbrev new : List ℕ

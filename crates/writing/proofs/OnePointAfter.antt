@@ -14,14 +14,14 @@ use Rattle.registers.proofs.TestOutcomes.{both}
 use Rattle.registers.proofs.Joining.{shown}
 use Rattle.registers.proofs.Splitting.{split-length, join-split, one-register}
 use Rattle.point_types.specs.Rows.{mayScale}
-use Rattle.values.specs.Classes.{value, ofClass, classified, isValue}
+use Rattle.values.specs.Classes.{value, ofClass, classified, isValue, isUnimplementedClass}
 use Rattle.catalog.specs.Frames.{Point, scaleByPoint, sunssf}
 use Rattle.catalog.specs.Rules.{isSizeOf}
 use Rattle.catalog.specs.Definitions.{Content}
 use Rattle.catalog.specs.Soundness.{In, SoundPoint, ScaleResolves}
 use Rattle.listing.specs.Points.{ModelPoint, Scope, statusOf, scaleOf, registersAt, pointAt}
 use Rattle.listing.proofs.ReachOnly.{same-status, same-scale, shownAs, shown-same}
-use Rattle.writing.specs.Writing.{isUnimplemented, canHold}
+use Rattle.writing.specs.Writing.{canHold}
 use Rattle.writing.specs.AfterWriting.{depthIn, agreeTo, pathOf, Holds, rescaled, PointAfter}
 use Rattle.writing.proofs.Places.{Place}
 use Rattle.writing.proofs.StoredRegisters.{stored-outside, run-stored, first-stored, part-stays}
@@ -40,7 +40,7 @@ pub record Write (defined : List Point) (w : ModelPoint) (raw : ℕ) (body : Lis
   pub sized : isSizeOf (w .definition .typeCode) (w .definition .size) ≡ true
   pub small : w .definition .size ≤ 4
   pub inside : w .offset + w .definition .size ≤ length body
-  pub implemented : isUnimplemented (classified (w .definition .typeCode) (w .raw)) ≡ false
+  pub implemented : isUnimplementedClass (classified (w .definition .typeCode) (w .raw)) ≡ false
   pub holds : canHold (w .definition .typeCode) (w .definition .size) raw ≡ true
 
 module _ (top : Content) (w : ModelPoint) (raw : ℕ) (body : List ℕ) where
@@ -214,15 +214,15 @@ module _ (top : Content) (w : ModelPoint) (raw : ℕ) (body : List ℕ) where
             sym may ∙ ap mayScale code ∙ status.scale-factor-unscaled))
 
         -- What it held was implemented,
-        was-implemented : a ≡ w .offset → isUnimplemented (classified (p .typeCode) (join (registersAt body a p))) ≡ false
+        was-implemented : a ≡ w .offset → isUnimplementedClass (classified (p .typeCode) (join (registersAt body a p))) ≡ false
         unfolding pointAt
         was-implemented here =
             let point = same-point here in
             let shownOld : shownRaw (registersAt body a p) ≡ w .raw = ap (λ (x : ModelPoint). x .raw) (place .same here) in
             let size = ap (λ (x : Point). x .size) point in
             let few : length (registersAt body a p) ≤ 4 = omega (arith, length-take (p .size) (drop a body), size, x .small) in
-            ap (λ (x : Point). isUnimplemented (classified (x .typeCode) (join (registersAt body a p)))) point
-            ∙ ap (λ (x : ℕ). isUnimplemented (classified (w .definition .typeCode) x))
+            ap (λ (x : Point). isUnimplementedClass (classified (x .typeCode) (join (registersAt body a p)))) point
+            ∙ ap (λ (x : ℕ). isUnimplementedClass (classified (w .definition .typeCode) x))
             (sym (shown (registersAt body a p) few) ∙ shownOld)
             ∙ x .implemented
 

@@ -4,10 +4,10 @@ use mathlib.Core.Bool.{Bool, true, false}
 use mathlib.Core.Option.{Option, none, some}
 use Prim.Native.Nat.{ℕ}
 use lib.Dec.{eqb, ltb}
-use Rattle.values.specs.Classes.{classified}
+use Rattle.values.specs.Classes.{classified, isUnimplementedClass}
 use Rattle.catalog.specs.Frames.{readOnly}
 use Rattle.listing.specs.Finding.{Target}
-use Rattle.writing.specs.Writing.{isUnimplemented, canHold, refusal}
+use Rattle.writing.specs.Writing.{canHold, refusal}
 
 -- By what the tests of 32, 33, 34 and 35 come out as.
 abbrev byTests : Bool → Bool → Bool → Bool → Option ℕ
@@ -28,7 +28,7 @@ module _ (t : Target) (raw : ℕ) where
   wide = ltb 4 (t .size)
 
   abbrev missing : Bool
-  missing = isUnimplemented (classified (t .typeCode) (t .raw))
+  missing = isUnimplementedClass (classified (t .typeCode) (t .raw))
 
   abbrev held : Bool
   held = canHold (t .typeCode) (t .size) raw

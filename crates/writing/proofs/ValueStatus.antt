@@ -7,13 +7,12 @@ use lib.Dec.{eqb}
 use Rattle.registers.proofs.TestOutcomes.{clash}
 use Rattle.point_types.specs.Rows.{rows, rowAmong, mayScale, registersOf}
 use Rattle.point_types.proofs.Table.{listed, scalable-width}
-use Rattle.values.specs.Classes.{value, unimplemented, outOfRange, Classified, ofClass, tooWide, unknownType, classified, isValue}
+use Rattle.values.specs.Classes.{value, unimplemented, outOfRange, Classified, ofClass, tooWide, unknownType, classified, isValue, isUnimplementedClass}
 use Rattle.catalog.specs.Frames.{Point, scaleByPoint, sunssf}
 use Rattle.catalog.specs.Rules.{isSizeOf}
 use Rattle.listing.specs.Points.{statusOf, scaleStatus}
 use Rattle.listing.proofs.LeftOutPad.{one-register-size}
 use Rattle.listing.proofs.PointClasses.{row-of-size}
-use Rattle.writing.specs.Writing.{isUnimplemented}
 
 -- ---- Classes
 
@@ -26,7 +25,7 @@ value-class tooWide e = clash (sym e)
 value-class unknownType e = clash (sym e)
 
 -- What is implemented, and not out of range by its status, was a value.
-pub was-value : (p : Point) (c : Classified) (register : ℕ) → isUnimplemented c ≡ false → (statusOf p c register ≡ 5 → ⊥)
+pub was-value : (p : Point) (c : Classified) (register : ℕ) → isUnimplementedClass c ≡ false → (statusOf p c register ≡ 5 → ⊥)
     → c ≡ ofClass value
 was-value p (ofClass value) register e f = refl
 was-value p (ofClass unimplemented) register e f = clash e

@@ -8,7 +8,7 @@ use native.Mathlib.Omega.{arith}
 use borrow.Author.Tests.{eqb-false, ltb-false}
 use lib.Dec.{eqb, ltb}
 use Rattle.registers.proofs.TestOutcomes.{by-test}
-use Rattle.values.specs.Classes.{classified}
+use Rattle.values.specs.Classes.{classified, isUnimplementedClass}
 use Rattle.catalog.specs.Frames.{readOnly}
 use Rattle.listing.specs.Listing.{Record, allRecords, withRoom, listing}
 use Rattle.listing.specs.Listing as Listing
@@ -20,7 +20,7 @@ use Rattle.listing.proofs.WalksBehind.{walk-number}
 use Rattle.listing.proofs.ListingCases as listings
 use Rattle.listing.proofs.ListingCases.{catalogRefused, openingRefused, walkRefused, noRoom, allListed, listing-case}
 use Rattle.listing.proofs.ListingCases.{listing-records, walk-records}
-use Rattle.writing.specs.Writing.{isUnimplemented, canHold, refusal, rewritten, Answer, refused, written, writing}
+use Rattle.writing.specs.Writing.{canHold, refusal, rewritten, Answer, refused, written, writing}
 
 -- An answer by what decides it.
 pub data Case (catalog map : List ℕ) (index number : ℕ) (path : List ℕ) (raw : ℕ) : Answer → Type 0 where
@@ -125,7 +125,7 @@ module _ (catalog map : List ℕ) where
 pub record Writable (t : Target) (raw : ℕ) : Type 0 where
   pub access : t .access ≡ readOnly → ⊥
   pub small : t .size ≤ 4
-  pub implemented : isUnimplemented (classified (t .typeCode) (t .raw)) ≡ false
+  pub implemented : isUnimplementedClass (classified (t .typeCode) (t .raw)) ≡ false
   pub holds : canHold (t .typeCode) (t .size) raw ≡ true
 
 module _ (t : Target) (raw : ℕ) where
@@ -140,7 +140,7 @@ module _ (t : Target) (raw : ℕ) where
   outcome =
       by-test Outcome (eqb (t .access) readOnly) (λ _. (omega arith, omega arith)) (λ a.
       by-test Outcome (ltb 4 (t .size)) (λ _. (omega arith, omega arith)) (λ s.
-      by-test Outcome (isUnimplemented (classified (t .typeCode) (t .raw))) (λ _. (omega arith, omega arith)) (λ g.
+      by-test Outcome (isUnimplementedClass (classified (t .typeCode) (t .raw))) (λ _. (omega arith, omega arith)) (λ g.
       by-test Outcome (canHold (t .typeCode) (t .size) raw) (λ h. record {
         access = eqb-false (t .access) readOnly a;
         small = ltb-false 4 (t .size) s;

@@ -6,19 +6,10 @@ use Prim.Native.Nat.{ℕ}
 use lib.Dec.{eqb, ltb}
 use lib.Seq.{sets}
 use Rattle.registers.specs.Registers.{split, tooWide}
-use Rattle.values.specs.Classes.{value, unimplemented, outOfRange, Classified, ofClass, unknownType, classified, isValue}
-use Rattle.values.specs.Classes as Classes
+use Rattle.values.specs.Classes.{classified, isValue, isUnimplementedClass}
 use Rattle.catalog.specs.Frames.{readOnly}
 use Rattle.listing.specs.Finding as Finding
 use Rattle.listing.specs.Finding.{finding, Target, targetOf}
-
--- Is a raw number unimplemented, by its class?
-abbrev pub isUnimplemented : Classified → Bool
-isUnimplemented (ofClass unimplemented) = true
-isUnimplemented (ofClass value) = false
-isUnimplemented (ofClass outOfRange) = false
-isUnimplemented Classes.tooWide = false
-isUnimplemented unknownType = false
 
 -- Can a point of a type and a size hold a raw value? It is a value of the type, and not too wide for the registers.
 abbrev pub canHold : ℕ → ℕ → ℕ → Bool
@@ -32,7 +23,7 @@ refusal t raw =
       | true ↦ some 32
       | false ↦ elim (ltb 4 (t .size)) [
         | true ↦ some 33
-        | false ↦ elim (isUnimplemented (classified (t .typeCode) (t .raw))) [
+        | false ↦ elim (isUnimplementedClass (classified (t .typeCode) (t .raw))) [
           | true ↦ some 34
           | false ↦ elim (canHold (t .typeCode) (t .size) raw) [ true ↦ none | false ↦ some 35 ]
         ]

@@ -14,7 +14,7 @@ ghost use Prim.Native.Nat.{_+_, _/_, _%_, _^_, _≤_};
 ghost use lib.ListN.{length};
 ghost use lib.Seq.{sets};
 ghost use Rattle.registers.specs.Registers.{split};
-ghost use Rattle.values.specs.Classes.{classified};
+ghost use Rattle.values.specs.Classes.{classified, isUnimplementedClass};
 ghost use Rattle.listing.specs.Answers.{targetForm};
 ghost use Rattle.writing.specs.Writing as Writings;
 ghost use Rattle.writing.specs.Answers.{answer};
@@ -96,7 +96,7 @@ fn judge(target: Target, raw: u64) -> Verdict
 
 // Is a raw number the unimplemented pattern of a type?
 fn is_unimplemented(type_code: u16, raw: u64) -> bool
-    ensures { λ r. ⌜ r ≡ Writings.isUnimplemented (classified «type_code» raw) ⌝ }
+    ensures { λ r. ⌜ r ≡ isUnimplementedClass (classified «type_code» raw) ⌝ }
 {
     let class = classify(type_code, raw);
     match class {
