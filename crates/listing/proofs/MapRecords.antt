@@ -70,6 +70,14 @@ pub record WalkingMap (read : Model → Reading) (map before out : List ℕ) (ta
   pub high : at ≤ 65538
   pub fewModels : index ≤ at
 
+-- At an address that is the same.
+pub walking-at : {read : Model → Reading} {map before out : List ℕ} {task : Task} {sought : Sought} {at here index records : ℕ}
+    → here ≡ at
+    → WalkingMap read map before out task sought at index records
+    → WalkingMap read map before out task sought here index records
+walking-at {read} {map} {before} {out} {task} {sought} {at} {here} {index} {records} e w =
+    subst (λ a. WalkingMap read map before out task sought a index records) (sym e) w
+
 pub walking-starts : (read : Model → Reading) (map out : List ℕ) (task : Task) (sought : Sought) → MapFits task (walked read map) out
     → WalkingMap read map out out task sought 2 0 0
 unfolding stored

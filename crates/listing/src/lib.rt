@@ -132,7 +132,7 @@ fn survey_map(catalog: &[u16], map: &[u16], table: &mut [u16]) -> Listing
                     }
                     Survey::Points { points: more, .. } => points += more,
                 }
-                at += 2 + length as usize;
+                at = behind_model(at, length);
                 headers += 1;
             }
             Header::End => {
@@ -147,6 +147,14 @@ fn survey_map(catalog: &[u16], map: &[u16], table: &mut [u16]) -> Listing
         }
     }
     refused(22, at, headers)
+}
+
+// The address of the header behind a model, whose own header is two registers.
+fn behind_model(at: usize, length: u16) -> usize
+    requires { ⌜ at ≤ 65538 ⌝ }
+    ensures { λ r. ⌜ r ≡ at + (2 + length) ⌝ }
+{
+    at + 2 + length as usize
 }
 
 // A refusal.
@@ -191,7 +199,7 @@ fn put_map(
                     sought,
                 };
                 records = put_known(catalog, map, table, out, visit, length as usize, records);
-                at += 2 + length as usize;
+                at = behind_model(at, length);
                 index += 1;
             }
             Header::End => return,

@@ -13,7 +13,7 @@ use Rattle.register_map.proofs.HeaderCases.{model-ends}
 use Rattle.listing.specs.Reading.{reading}
 use Rattle.listing.specs.Walks.{IsTable}
 use Rattle.listing.proofs.PointsInside.{points-few}
-use Rattle.listing.proofs.MapRecords.{WalkingMap, walking-starts, walking-ends, walking-refused, walking-late, walking-goes-on}
+use Rattle.listing.proofs.MapRecords.{WalkingMap, walking-starts, walking-ends, walking-refused, walking-late, walking-goes-on, walking-at}
 use borrow.Author.Needs.{needs}
 use Rattle.listing.proofs.put_map.Statement.{statement}
 use Rattle.listing.proofs.put_map.Tie as tie
@@ -52,14 +52,8 @@ put-known-requires c κs =
     let ends = model-ends (eqb (l .at) 2) (s .args .map .now) (l .at) h in
     (s .pre .0, (l .inv .1, ((omega (arith, ends), omega (arith, ends, short), short), next .0)))
 
-cast-at : tie.Need-cast-at Inv-loop μ-loop
-cast-at c = search needs
-
-add-at : tie.Need-add-at Inv-loop μ-loop
-add-at c = search needs
-
-add-at-2 : tie.Need-add-at-2 Inv-loop μ-loop
-add-at-2 c = search needs
+behind-model-requires : tie.Need-behind-model-requires Inv-loop μ-loop
+behind-model-requires c κs = search needs
 
 add-index : tie.Need-add-index Inv-loop μ-loop
 add-index c = search needs
@@ -69,18 +63,18 @@ loop-less c = search needs
 
 loop-again : tie.Need-loop-again Inv-loop μ-loop
 loop-again c =
-    let k = c .before .before .before .before .before .before .before .before in
+    let k = c .before .before .before .before .before .before .before .before .before in
     let s = k .before .before .before .before .before .before .before .before .before in
     let l = k .before .before .before .before .loop in
     let g = k .header .given in
     let h = sym (k .before .before .header-at .ensures) ∙ ap headerForm (g .1) in
     let short = opening-none (s .args .map .now) (s .pre .1 .0) .0 in
     let next = walking-goes-on (l .inv .0) (points-few (s .args .catalog .now) (s .pre .0)) short h in
-    let p = c .before .before .before .before .put-known in
+    let p = c .before .before .before .before .before .put-known in
     let read = reading (definitions (s .args .catalog .now)) in
     let Goes : List ℕ → ℕ → Type 0 =
-    λ out n. WalkingMap read (s .args .map .now) (s .args .out .now) out (s .args .task) (s .args .sought) (l .at + (2 + g .0 .1 .0)) (l .index + 1) n in
-    let on = subst (Goes _) (sym (p .ensures .0)) (next .1) in
+    λ out n. WalkingMap read (s .args .map .now) (s .args .out .now) out (s .args .task) (s .args .sought) (c .behind-model .result) (l .index + 1) n in
+    let on = subst (Goes _) (sym (p .ensures .0)) (walking-at (c .behind-model .ensures) (next .1)) in
     (subst (λ out. Goes out (p .result)) (sym (p .ensures .1 .0)) on, p .ensures .1 .1)
 
 enum-told : tie.Need-enum-told Inv-loop μ-loop
@@ -131,9 +125,7 @@ put-map-spec =
     enum-known-header
     cast-put-known
     put-known-requires
-    cast-at
-    add-at
-    add-at-2
+    behind-model-requires
     add-index
     loop-less
     loop-again

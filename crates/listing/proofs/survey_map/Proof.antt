@@ -104,14 +104,8 @@ add-points c =
     let more = more-fit (l .inv .0) short h (points-few (s .args .catalog .now) (s .pre .0)) e in
     record { fits = omega (arith, more) }
 
-cast-at : tie.Need-cast-at Inv-loop μ-loop
-cast-at c = search needs
-
-add-at : tie.Need-add-at Inv-loop μ-loop
-add-at c = search needs
-
-add-at-2 : tie.Need-add-at-2 Inv-loop μ-loop
-add-at-2 c = search needs
+behind-model-requires : tie.Need-behind-model-requires Inv-loop μ-loop
+behind-model-requires c κs = search needs
 
 add-headers : tie.Need-add-headers Inv-loop μ-loop
 add-headers c = search needs
@@ -121,7 +115,7 @@ loop-less c = search needs
 
 loop-again : tie.Need-loop-again Inv-loop μ-loop
 loop-again c =
-    let m = c .before .before .before in
+    let m = c .before .before .before .before in
     let k = m .before .before .before .before in
     let s = k .before .before .before .before .before .before .before .before in
     let l = k .before .before .before .before .loop in
@@ -133,12 +127,13 @@ loop-again c =
     ∙ ap (λ body. surveyed (read (record { id = g .0 .0; body = body }))) (m .before .part .ensures) in
     let few = points-few (s .args .catalog .now) (s .pre .0) in
     let Goes : ℕ → Type 0 = λ n. Surveying read (s .args .map .now) (l .at + (2 + g .0 .1 .0)) (l .headers + 1) n in
-    let next : Goes (c .match2 .points) =
+    let next : Goes (c .before .match2 .points) =
     ⊎-elim
     (λ w. subst Goes (sym (w .2)) (survey-unknown (l .inv .0) short h (sym (ap surveyForm (w .1 .given .1)) ∙ seen)))
     (λ w. subst Goes (sym (w .3)) (survey-points (l .inv .0) short h few (sym (ap surveyForm (w .1 .given .1)) ∙ seen)))
-    (c .match2 .came) in
-    (next, m .survey-model .ensures .1 .1)
+    (c .before .match2 .came) in
+    let Reached : ℕ → Type 0 = λ at. Surveying read (s .args .map .now) at (l .headers + 1) (c .before .match2 .points) in
+    (subst Reached (sym (c .behind-model .ensures)) next, m .survey-model .ensures .1 .1)
 
 enum-told-2 : tie.Need-enum-told-2 Inv-loop μ-loop
 enum-told-2 c = search needs
@@ -201,9 +196,7 @@ survey-map-spec =
     returns
     enum-known-survey-2
     add-points
-    cast-at
-    add-at
-    add-at-2
+    behind-model-requires
     add-headers
     loop-less
     loop-again
