@@ -220,20 +220,30 @@ module _ {read : Model → Reading} {map before out : List ℕ} {task : Task} {s
         takes =
             ap {B = ℕ} (λ b. elim b [ true ↦ recordWidth * 65536 | false ↦ 0 ]) (le-leb foundWidth (length out) (l .1 .0))
 
+        -- In front of the model sought nothing is found yet, and it is not in front of itself.
+        still : index + 1 ≤ sought .model → (getD out 0 0 ≡ 0) × (records + 0 ≡ 0)
+        still n = let f = l .2 (omega (arith, n)) in (f .0, omega (arith, f .1))
+
+        not-before : {A : Type 0} → eqb index (sought .model) ≡ true → index + 1 ≤ sought .model → A
+        not-before q n = absurd (omega (arith, n, eqb-true index (sought .model) q))
+
+        -- No point is met.
+        none-met : (ss : List Record) → next ≡ listed ss (here .headers) → firstWith it (here .left) ≡ firstWith it ss
+            → (index + 1 ≤ sought .model → (getD out 0 0 ≡ 0) × (records + 0 ≡ 0)) → Onward Task.Search []
+        none-met ss e same f =
+            (omega (arith, takes, l .1 .1), (ss, e, (ap (foundOr out) (sym same) ∙ l .0, (l .1 .0, omega (arith, l .1 .1)), f)))
+
         go : (b : Bool) → eqb index (sought .model) ≡ b → (r : Reading) → read own ≡ r
             → Onward Task.Search (elim (not b) [ true ↦ [] | false ↦ pointsOf r ])
         go b q (faulty fault) e = not-faulty e
-        go false q unknown e =
-            (omega (arith, takes, l .1 .1), (here .left, same-left e, (l .0, (l .1 .0, omega (arith, l .1 .1)), λ n. (let f = l .2 (omega (arith, n)) in (f .0, omega (arith, f .1))))))
+        go false q unknown e = none-met (here .left) (same-left e) refl still
+        go true q unknown e = none-met (here .left) (same-left e) refl (not-before q)
         go false q (points ps) e =
             let b = behind ps e in
-            let same = ap (firstWith it) (b .2)
-            ∙ passed-over (sought .model) (sought .number) (sought .path .instances) index at id q ps (b .0) in (
-              omega (arith, takes, l .1 .1),
-              (b .0, b .1, (ap (foundOr out) (sym same) ∙ l .0, (l .1 .0, omega (arith, l .1 .1)), λ n. (let f = l .2 (omega (arith, n)) in (f .0, omega (arith, f .1))))),
-            )
-        go true q unknown e =
-            (omega (arith, takes, l .1 .1), (here .left, same-left e, (l .0, (l .1 .0, omega (arith, l .1 .1)), λ n. absurd (omega (arith, n, eqb-true index (sought .model) q)))))
+            none-met (b .0) (b .1)
+            (ap (firstWith it) (b .2)
+            ∙ passed-over (sought .model) (sought .number) (sought .path .instances) index at id q ps (b .0))
+            still
         go true q (points ps) e =
             let rs = Lists.map (recordOf index at id) ps in
             let b = behind ps e in
@@ -260,7 +270,7 @@ module _ {read : Model → Reading} {map before out : List ℕ} {task : Task} {s
                       ∙ own-records (sought .model) (sought .number) (sought .path .instances) index at id q ps (b .0) later))
                       ∙ l .0,
                   (omega (arith, same, l .1 .0), omega (arith, many, long, ends, short, fresh .1)),
-                  λ n. absurd (omega (arith, n, eqb-true index (sought .model) q)),
+                  not-before q,
                 ),
               ),
             )
