@@ -180,7 +180,8 @@ module _ {read : Model → Reading} {map before out : List ℕ} {task : Task} {s
     unfolding entries
     by-records l unknown e =
         let none : records ≡ records + 0 = omega arith in
-        (omega (arith, l .1), (here .left, same-left e, subst (λ k. Leads Task.Records sought (walked read map) before out (index + 1) k (here .left)) none l))
+        let Led : ℕ → Type 0 = λ k. Leads Task.Records sought (walked read map) before out (index + 1) k (here .left) in
+        (omega (arith, l .1), (here .left, same-left e, subst Led none l))
     by-records l (faulty fault) e = not-faulty e
     by-records l (points ps) e =
         let f = recordOf index at id in

@@ -84,7 +84,8 @@ isValue (ofClass outOfRange) = false
 isValue tooWide = false
 isValue unknownType = false
 
--- Is it found to be unimplemented?
+-- Is a raw number unimplemented (document 01, "Writing", 34)? Not where it is a value, out of range or too wide, or the type is
+-- unknown.
 abbrev pub isUnimplementedClass : Classified → Bool
 isUnimplementedClass (ofClass unimplemented) = true
 isUnimplementedClass (ofClass value) = false

@@ -50,8 +50,9 @@ isScaleFactorOf top w p =
 
 -- ---- What becomes of a point
 
--- The point written: it holds the raw value, and has the status and the scale of a value by the register of its scale point, if it
--- has one. So it is neither unimplemented nor out of range; and if it was not out of range before, its status and scale stay.
+-- The point written: it holds the raw value, and has a status and a scale of a value: those by some register of a scale point, which
+-- counts only if it has one. So it is neither unimplemented nor out of range; and if it was not out of range before, its status and
+-- scale stay.
 pub record Holds (raw : ℕ) (p q : ModelPoint) : Type 0 where
   pub offset : q .offset ≡ p .offset
   pub definition : q .definition ≡ p .definition
