@@ -15,9 +15,12 @@ use Rattle.catalog.specs.Checking.{accepted, refused, checkFrom, framesC
 use Rattle.catalog.specs.IdSets.{idsBehind, IdFits}
 use Rattle.catalog.specs.Scans.{framesOnward}
 use Rattle.catalog.specs.Tracking.{Tracks, Room, codeRules, stateBehind}
+use Rattle.catalog.specs.Marks.{Keeps, Indexed, NumbersBehind, ScalesBehind, CountsBehind, BlankAtModel}
 use Rattle.catalog.specs.declared.state.State.{State}
 use Rattle.catalog.proofs.WordScans.{frames-more, frames-none}
 use Rattle.catalog.proofs.CheckSteps as steps
+use Rattle.catalog.proofs.FreshNumbers.{Fresh, fresh-next}
+use Rattle.catalog.proofs.MarkedFrames as marked
 use Rattle.catalog.proofs.TrackedRules.{same-fault, none-open}
 use Rattle.catalog.proofs.TrackedState.{tracks-next, has-room}
 
@@ -53,6 +56,33 @@ module _ (ws used : List ℕ) (i : ℕ) (c : State) (d : Decides ws used i c)
   refused-here r n =
       let broken = sym (n ∙ fault-here) in
       sym (steps.is-refused (d .state) i f (framesOnward ws (i + 1)) (framesOnward ws i) frames-here r broken) ∙ d .rest
+
+-- Before frame i, with all that the code keeps of the frames so far.
+pub record Stands (ws used numbers scales : List ℕ) (u i : ℕ) (c : State) : Type 0 where
+  pub decides : Decides ws used i c
+  pub fresh : Fresh (decides .state)
+  pub indexed : Indexed ws numbers scales u i c
+
+module _ (ws used numbers scales : List ℕ) (u i : ℕ) (c : State) (d : Stands ws used numbers scales u i c)
+    (f : Frame) (fits : IdFits f) (h : i < length ws / 8) (e : f ≡ frameAt ws i)
+    (n : none ≡ firstBroken (codeRules ws used i c f)) where
+  pub blank-here : BlankAtModel scales f
+  blank-here = marked.blank-here ws used numbers scales u i c (d .decides .state) (d .decides .tracks) (d .indexed) f (sym n)
+
+  pub stands-on : (numbers' scales' scales'' : List ℕ) (u' : ℕ) → NumbersBehind ws i c numbers numbers' f → Keeps scales scales'
+      → CountsBehind ws i u u' f → ScalesBehind ws i c scales' scales'' f
+      → Stands ws (idsBehind used f) numbers' scales'' u' (i + 1) (stateBehind c i f)
+  unfolding goes-on
+  stands-on numbers' scales' scales'' u' m k q r =
+      let s = d .decides .state in
+      let here = frames-here ws used i c (d .decides) f fits h e in
+      let unbroken = sym (n ∙ fault-here ws used i c (d .decides) f fits h e) in
+      record {
+        decides = goes-on ws used i c (d .decides) f fits h e n;
+        fresh = fresh-next s f (run (framesOnward ws i)) unbroken (d .fresh);
+        indexed = marked.indexed-next ws used numbers scales numbers' scales' scales'' u u' i c s (d .decides .tracks) (d .fresh)
+            (d .indexed) f fits (sym e) here h (sym n) m k q r;
+      }
 
 -- At the end.
 module _ (ws used : List ℕ) (i : ℕ) (c : State) (d : Decides ws used i c) (h : length ws / 8 ≤ i) where

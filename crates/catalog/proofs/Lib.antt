@@ -26,6 +26,10 @@ pub mod FramesByIndex
 pub mod WordScans
 pub mod KindCases
 pub mod IdSetLaws
+pub mod MarkLaws
+pub mod MarkedRules
+pub mod FreshNumbers
+pub mod MarkedFrames
 pub mod OpenGroups
 pub mod TrackedRules
 pub mod TrackedState

@@ -15,7 +15,7 @@ use Rattle.catalog.specs.Tracking.{Opens}
 
 module _ (ws firsts : List ℕ) where
   -- All runs together are the points of the groups.
-  runs-points : (b : Bool) (ls : List OpenGroup) → Opens ws firsts b [] ls → runsOf ws firsts (length ls) ≡ pointsOf ls
+  pub runs-points : (b : Bool) (ls : List OpenGroup) → Opens ws firsts b [] ls → runsOf ws firsts (length ls) ≡ pointsOf ls
   unfolding runsOf
   runs-points b [] o = refl
   runs-points b (l ∷ ls) o = rw (o .0, append-nil (l .points), runs-points true ls (o .2))

@@ -63,11 +63,11 @@ module _ (ws : List ℕ) (first n i : ℕ) (e : first + n ≡ i) where
   nothing-added h = let g = rw (← e) at h in simp (numbersBefore, g)
 
 -- The words of a frame that is not malformed.
-abbrev eightWords : List ℕ → ℕ → List ℕ
+abbrev pub eightWords : List ℕ → ℕ → List ℕ
 eightWords ws i =
     word ws i 0 ∷ word ws i 1 ∷ word ws i 2 ∷ word ws i 3 ∷ word ws i 4 ∷ word ws i 5 ∷ word ws i 6 ∷ word ws i 7 ∷ []
 
-words-here : (ws : List ℕ) (i : ℕ) (f : Frame) → frameAt ws i ≡ f → isMalformed f ≡ false → wordsOf f ≡ eightWords ws i
+pub words-here : (ws : List ℕ) (i : ℕ) (f : Frame) → frameAt ws i ≡ f → isMalformed f ≡ false → wordsOf f ≡ eightWords ws i
 words-here ws i f e =
     let w = word ws i in
     let back = eight-back (w 0) (w 1) (w 2) (w 3) (w 4) (w 5) (w 6) (w 7) in
@@ -75,7 +75,7 @@ words-here ws i f e =
 
 -- The numbers so far, behind a frame of this kind and with this number.
 module _ (ws used : List ℕ) (i : ℕ) (c : State) (s : check.State) (t : Tracks ws used i c s) where
-  numbers-kept : 1 ≤ c .depth → (k : ℕ) → word ws i 0 ≡ k → leb 2 k && leb k 3 ≡ false
+  pub numbers-kept : 1 ≤ c .depth → (k : ℕ) → word ws i 0 ≡ k → leb 2 k && leb k 3 ≡ false
       → s .numbers ≡ numbersBefore ws (getD (c .firsts) 0 0) (i + 1 - getD (c .firsts) 0 0)
   numbers-kept d k e h =
       let p = t .within .passed 0 in
@@ -83,7 +83,7 @@ module _ (ws used : List ℕ) (i : ℕ) (c : State) (s : check.State) (t : Track
       let m : i + 1 - f ≡ suc (i - f) = omega arith in
       rw (m, nothing-added ws f (i - f) i (omega arith) (rw e h)) (t .numbers d)
 
-  number-more : 1 ≤ c .depth → (k n : ℕ) → word ws i 0 ≡ k → leb 2 k && leb k 3 ≡ true → word ws i 1 ≡ n
+  pub number-more : 1 ≤ c .depth → (k n : ℕ) → word ws i 0 ≡ k → leb 2 k && leb k 3 ≡ true → word ws i 1 ≡ n
       → n ∷ s .numbers ≡ numbersBefore ws (getD (c .firsts) 0 0) (i + 1 - getD (c .firsts) 0 0)
   number-more d k n e h q =
       let p = t .within .passed 0 in

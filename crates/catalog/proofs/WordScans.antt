@@ -45,24 +45,22 @@ module _ (ws : List ℕ) (first number : ℕ) where
       go w ns true = refl
       go w ns false = refl
 
-  module _ (n m j : ℕ) (e : n ≡ m + 1) (q : j ≡ first + m) where
-    pub number-here : hasNumber ws number j ≡ true → among number (numbersBefore ws first n) ≡ true
-    number-here h = rw (e, add-one m, number-more m, ← q, h)
-
-    pub number-not-here : hasNumber ws number j ≡ false
-        → among number (numbersBefore ws first n) ≡ among number (numbersBefore ws first m)
-    number-not-here h = rw (e, add-one m, number-more m, ← q, h)
+  pub number-next : (n m j : ℕ) → n ≡ m + 1 → j ≡ first + m
+      → among number (numbersBefore ws first n) ≡ among number (numbersBefore ws first m) || hasNumber ws number j
+  number-next n m j e q =
+      rw (e, add-one m, number-more m, ← q) (exchanged (hasNumber ws number j) (among number (numbersBefore ws first m)))
+    where
+      exchanged : (a b : Bool) → a || b ≡ b || a
+      exchanged true true = refl
+      exchanged true false = refl
+      exchanged false true = refl
+      exchanged false false = refl
 
   pub number-nowhere : (n : ℕ) → n ≤ 0 → among number (numbersBefore ws first n) ≡ false
   unfolding numbersBefore
   number-nowhere n h = let e : n ≡ 0 = omega arith in rw e
 
 -- ---- Runs of points
-
--- A point of another number is not the one that is looked for.
-pub other-number : (x : Sought) (n : ℕ) (p : Point) → (p .number ≡ n → ⊥) → isSought x n p ≡ false
-other-number Sought.ScaleFactor n p h = rw (ne-eqb (p .number) n h)
-other-number Sought.CountPoint n p h = rw (ne-eqb (p .number) n h)
 
 -- The frames from frame j on: that one and those behind it, or none.
 pub frames-more : (ws : List ℕ) (j : ℕ) → j < length ws / 8 → framesOnward ws j ≡ frameAt ws j ∷ framesOnward ws (j + 1)
@@ -86,7 +84,7 @@ module _ (ws : List ℕ) (j k : ℕ) (h : j < length ws / 8) (q : k ≡ word ws 
 -- ---- The runs of the open groups
 
 -- A point stands among these where it stands in one of the two parts.
-has-either : (such : Point → Bool) (ps qs : List Point) → hasPoint such (ps ++ qs) ≡ hasPoint such ps || hasPoint such qs
+pub has-either : (such : Point → Bool) (ps qs : List Point) → hasPoint such (ps ++ qs) ≡ hasPoint such ps || hasPoint such qs
 has-either such [] qs = refl
 has-either such (p ∷ ps) qs = go (such p) (has-either such ps qs)
   where
@@ -97,18 +95,7 @@ has-either such (p ∷ ps) qs = go (such p) (has-either such ps qs)
 
 module _ (ws firsts : List ℕ) (n k m : ℕ) (e : k ≡ m + 1) where
   -- One group more.
-  reach-more : hasScaleFactor n (runsOf ws firsts k)
+  pub reach-more : hasScaleFactor n (runsOf ws firsts k)
       ≡ hasScaleFactor n (run (framesOnward ws (getD firsts m 0))) || hasScaleFactor n (runsOf ws firsts m)
   unfolding runsOf
   reach-more = rw (e, add-one m) (has-either (isScaleFactorPoint n) (run (framesOnward ws (getD firsts m 0))) (runsOf ws firsts m))
-
-  pub reach-here : hasScaleFactor n (run (framesOnward ws (getD firsts m 0))) ≡ true → hasScaleFactor n (runsOf ws firsts k) ≡ true
-  reach-here h = rw (reach-more, h)
-
-  pub reach-not-here : hasScaleFactor n (run (framesOnward ws (getD firsts m 0))) ≡ false
-      → hasScaleFactor n (runsOf ws firsts k) ≡ hasScaleFactor n (runsOf ws firsts m)
-  reach-not-here h = rw (reach-more, h)
-
-pub reach-nowhere : (ws firsts : List ℕ) (n k : ℕ) → k ≤ 0 → hasScaleFactor n (runsOf ws firsts k) ≡ false
-unfolding runsOf
-reach-nowhere ws firsts n k h = let e : k ≡ 0 = omega arith in rw e

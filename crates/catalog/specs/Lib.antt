@@ -9,3 +9,4 @@ pub mod Answers
 pub mod IdSets
 pub mod Scans
 pub mod Tracking
+pub mod Marks

@@ -4,7 +4,7 @@ use mathlib.Core.List.{List, [], _∷_, _++_}
 use Prim.Native.Nat.{ℕ, zero, suc, _+_, _-_, _/_}
 use lib.Dec.{eqb, leb}
 use lib.ListN.{length, getD}
-use Rattle.catalog.specs.Frames.{Point, Head, Frame, word, framesFrom}
+use Rattle.catalog.specs.Frames.{Point, Head, Frame, word, framesFrom, uint16, sunssf, readOnly}
 use Rattle.catalog.specs.Rules.{run, isScaleFactorPoint, isCountPoint}
 use Rattle.catalog.specs.declared.scans.Sought.{Sought}
 
@@ -52,7 +52,12 @@ pointWords ws j =
       access = word ws j 7;
     }
 
--- Is a point the one that is looked for?
+-- Is a point of the sort that is looked for?
+abbrev pub isOfSort : Sought → Point → Bool
+isOfSort Sought.ScaleFactor p = eqb (p .typeCode) sunssf
+isOfSort Sought.CountPoint p = eqb (p .typeCode) uint16 && eqb (p .access) readOnly
+
+-- Is it, with this number?
 abbrev pub isSought : Sought → ℕ → Point → Bool
 isSought Sought.ScaleFactor n p = isScaleFactorPoint n p
 isSought Sought.CountPoint n p = isCountPoint n p

@@ -23,6 +23,9 @@ use idset::SET_WORDS;
 use idset::put_frame_in;
 use rules::Fault;
 use rules::fault_at;
+use scans::mark_number;
+use scans::mark_scales;
+use scans::uncounted_behind;
 use state::State;
 use state::behind;
 ghost use mathlib.Core.Path.{_≡_};
@@ -60,8 +63,8 @@ pub fn check(catalog: &[u16]) -> Checked
     check_frames(catalog)
 }
 
-// Checks the frames in order: the first fault decides, and at the end no model may be open. A point
-// or group frame reads at most the frames of its model so far and the points of its open groups.
+// Checks the frames in order: the first fault decides, and at the end no model may be open. The work is linear in the
+// frames: each is read once itself, and a few times more with its model, its run of points and its group's end.
 fn check_frames(catalog: &[u16]) -> Checked
     requires { ⌜ length (now catalog) / 8 ≤ 4096 ⌝ }
     ensures { λ r. ⌜ answer r ≡ framesChecked (now (catalog .entry)) ⌝ }
@@ -75,13 +78,19 @@ fn check_frames(catalog: &[u16]) -> Checked
         has_fill: false,
     };
     let mut ids = [0u64; SET_WORDS];
+    let mut numbers = [0u64; SET_WORDS];
+    let mut scales = [0u64; SET_WORDS];
+    let mut uncounted = 0;
     let mut i = 0;
     while i < frames {
         let frame = frame_at(catalog, i);
-        let fault = fault_at(catalog, &ids, i, state, frame);
+        let fault = fault_at(catalog, &ids, &numbers, &scales, i, uncounted, state, frame);
         match fault {
             Fault::Nothing => {
                 put_frame_in(&mut ids, frame);
+                mark_number(catalog, &mut numbers, i, state, frame);
+                uncounted = uncounted_behind(catalog, &mut scales, i, uncounted, frame);
+                mark_scales(catalog, &mut scales, i, state, frame);
                 state = behind(state, i, frame);
             }
             Fault::Rule(number) => {

@@ -11,23 +11,20 @@ use crate::frames::Point;
 use crate::frames::SCALE_BY_POINT;
 use crate::frames::word_of;
 use crate::idset::is_in;
-use crate::scans::Sought;
-use crate::scans::number_used;
-use crate::scans::run_has;
-use crate::scans::scale_factor_in_reach;
 use crate::state::LEVELS;
 use crate::state::State;
 use point_types::RegisterCount;
 ghost use mathlib.Core.Path.{_≡_};
-ghost use mathlib.Core.Bool.{_&&_};
-ghost use Prim.Native.Nat.{_/_, _≤_, _<_};
+ghost use mathlib.Core.Bool.{_&&_, _||_};
+ghost use Prim.Native.Nat.{_/_, _<_};
 ghost use lib.Dec.{eqb};
 ghost use lib.ListN.{length};
-ghost use Rattle.catalog.specs.Frames.{pointFrame};
-ghost use Rattle.catalog.specs.Rules.{isSizeOf, isMistyped, oneHolds, scaleFaults, countFaults, firstBroken};
-ghost use Rattle.catalog.specs.Scans.{runsOf};
+ghost use Rattle.catalog.specs.Frames.{pointFrame, frameAt};
+ghost use Rattle.catalog.specs.Rules.{isSizeOf, isMistyped, firstBroken};
+ghost use Rattle.catalog.specs.IdSets.{inSet};
+ghost use Rattle.catalog.specs.Marks.{Indexed, IsGroupFault, IsPointFault, IsMisscaled, IsMiscounted};
 ghost use Rattle.catalog.specs.Answers.{frameForm, headForm, pointForm, faultForm};
-ghost use Rattle.catalog.specs.Tracking.{Within, codeRules, modelRules, groupRules, pointRules, endRules, runIn, wrongNumber};
+ghost use Rattle.catalog.specs.Tracking.{Within, codeRules, modelRules, endRules};
 
 // The number of the first rule that a frame breaks, if it breaks one.
 pub(crate) enum Fault {
@@ -35,16 +32,28 @@ pub(crate) enum Fault {
     Rule(u16),
 }
 
-// The fault of frame i, which is `frame`, behind models with these ids.
-pub(crate) fn fault_at(catalog: &[u16], ids: &[u64], i: usize, state: State, frame: Frame) -> Fault
+// The fault of frame i, which is `frame`, behind models with these ids. `numbers` are those used in the open model,
+// `scales` the scale factors in reach, `uncounted` the first group whose count no point gives.
+pub(crate) fn fault_at(
+    catalog: &[u16],
+    ids: &[u64],
+    numbers: &[u64],
+    scales: &[u64],
+    i: usize,
+    uncounted: usize,
+    state: State,
+    frame: Frame,
+) -> Fault
     requires { ⌜ (i < length (now catalog) / 8) × (length (now ids) ≡ 1024) ⌝ }
     requires { ⌜ Within i state ⌝ }
+    requires { ⌜ Indexed (now catalog) (now numbers) (now scales) uncounted i state ⌝ }
+    requires { ⌜ frameForm frame ≡ frameAt (now catalog) i ⌝ }
     ensures { λ r. ⌜ faultForm r ≡ firstBroken (codeRules (now (catalog .entry)) (now (ids .entry)) i state (frameForm frame)) ⌝ }
 {
     match frame {
         Frame::Model(id) => model_fault(ids, state, id),
-        Frame::Group(head) => group_fault(catalog, i, state, head),
-        Frame::Point(point) => point_fault(catalog, i, state, point),
+        Frame::Group(head) => group_fault(numbers, i, uncounted, state, head),
+        Frame::Point(point) => point_fault(numbers, scales, state, point),
         Frame::End => end_fault(catalog, i, state),
         Frame::Malformed => Fault::Rule(3),
     }
@@ -71,10 +80,9 @@ fn model_fault(ids: &[u64], state: State, id: u16) -> Fault
 }
 
 // The rules of a group frame.
-fn group_fault(catalog: &[u16], i: usize, state: State, head: Head) -> Fault
-    requires { ⌜ i < length (now catalog) / 8 ⌝ }
-    requires { ⌜ Within i state ⌝ }
-    ensures { λ r. ⌜ faultForm r ≡ firstBroken (groupRules (now (catalog .entry)) i state (headForm head)) ⌝ }
+fn group_fault(numbers: &[u64], i: usize, uncounted: usize, state: State, head: Head) -> Fault
+    requires { ⌜ length (now numbers) ≡ 1024 ⌝ }
+    ensures { λ r. ⌜ IsGroupFault (now (numbers .entry)) uncounted i state (headForm head) (faultForm r) ⌝ }
 {
     if state.depth == 0 {
         return Fault::Rule(4);
@@ -85,23 +93,22 @@ fn group_fault(catalog: &[u16], i: usize, state: State, head: Head) -> Fault
     if LEVELS <= state.depth {
         return Fault::Rule(5);
     }
-    if is_misnumbered(catalog, i, state, head.number) {
+    if is_misnumbered(numbers, head.number) {
         return Fault::Rule(6);
     }
     if 1 < head.group_type {
         return Fault::Rule(7);
     }
-    if is_miscounted(catalog, state, head) {
+    if is_miscounted(state, head, i != uncounted) {
         return Fault::Rule(9);
     }
     Fault::Nothing
 }
 
 // The rules of a point frame.
-fn point_fault(catalog: &[u16], i: usize, state: State, point: Point) -> Fault
-    requires { ⌜ i < length (now catalog) / 8 ⌝ }
-    requires { ⌜ Within i state ⌝ }
-    ensures { λ r. ⌜ faultForm r ≡ firstBroken (pointRules (now (catalog .entry)) i state (pointForm point)) ⌝ }
+fn point_fault(numbers: &[u64], scales: &[u64], state: State, point: Point) -> Fault
+    requires { ⌜ (length (now numbers) ≡ 1024) × (length (now scales) ≡ 1024) ⌝ }
+    ensures { λ r. ⌜ IsPointFault (now (numbers .entry)) (now (scales .entry)) state (pointForm point) (faultForm r) ⌝ }
 {
     if state.depth == 0 {
         return Fault::Rule(4);
@@ -109,13 +116,13 @@ fn point_fault(catalog: &[u16], i: usize, state: State, point: Point) -> Fault
     if state.has_group {
         return Fault::Rule(4);
     }
-    if is_misnumbered(catalog, i, state, point.number) {
+    if is_misnumbered(numbers, point.number) {
         return Fault::Rule(6);
     }
     if is_mistyped(point) {
         return Fault::Rule(7);
     }
-    if is_misscaled(catalog, state, point) {
+    if is_misscaled(scales, point) {
         return Fault::Rule(8);
     }
     Fault::Nothing
@@ -152,16 +159,15 @@ fn is_after_fill(state: State) -> bool
     state.has_fill
 }
 
-// Is the number of a point or group 0, or used in this model? Reads the frames of the model so far at most once.
-fn is_misnumbered(catalog: &[u16], i: usize, state: State, number: u16) -> bool
-    requires { ⌜ i < length (now catalog) / 8 ⌝ }
-    requires { ⌜ Within i state ⌝ }
-    ensures { λ r. ⌜ r ≡ wrongNumber (now (catalog .entry)) i state number ⌝ }
+// Is the number of a point or group 0, or used in this model?
+fn is_misnumbered(numbers: &[u64], number: u16) -> bool
+    requires { ⌜ length (now numbers) ≡ 1024 ⌝ }
+    ensures { λ r. ⌜ r ≡ eqb number 0 || inSet (now (numbers .entry)) number ⌝ }
 {
     if number == 0 {
         return true;
     }
-    number_used(catalog, state.firsts[0], i, number)
+    is_in(numbers, number)
 }
 
 // Is the type unknown, the size wrong, or mandatory or access not 0 or 1?
@@ -193,10 +199,10 @@ fn is_size_of(type_code: u16, size: u16) -> bool
     }
 }
 
-// Is the scale factor of a point wrong? One given by a point reads the points of the open groups.
-fn is_misscaled(catalog: &[u16], state: State, point: Point) -> bool
-    requires { ⌜ state .depth ≤ 4 ⌝ }
-    ensures { λ r. ⌜ r ≡ oneHolds (scaleFaults (runsOf (now (catalog .entry)) (state .firsts) (state .depth)) (pointForm point)) ⌝ }
+// Is the scale factor of a point wrong? One given by a point must be in reach.
+fn is_misscaled(scales: &[u64], point: Point) -> bool
+    requires { ⌜ length (now scales) ≡ 1024 ⌝ }
+    ensures { λ r. ⌜ IsMisscaled (now (scales .entry)) (pointForm point) r ⌝ }
 {
     let kind = point.scale_kind;
     if kind == NO_SCALE {
@@ -207,19 +213,19 @@ fn is_misscaled(catalog: &[u16], state: State, point: Point) -> bool
     }
     match kind {
         FIXED_SCALE => !values::scale_factor_in_range(point.scale),
-        SCALE_BY_POINT => !scale_factor_in_reach(catalog, state, point.scale),
+        SCALE_BY_POINT => !is_in(scales, point.scale),
         _ => true,
     }
 }
 
-// Is the count of a group wrong? One given by a point reads the points of the top group.
-fn is_miscounted(catalog: &[u16], state: State, head: Head) -> bool
-    ensures { λ r. ⌜ r ≡ oneHolds (countFaults (runIn (now (catalog .entry)) state 0) (eqb (state .depth) 1) (headForm head)) ⌝ }
+// Is the count of a group wrong? `counted` is whether a point of the top group gives it, if one is to.
+fn is_miscounted(state: State, head: Head, counted: bool) -> bool
+    ensures { λ r. ⌜ IsMiscounted (eqb (state .depth) 1) counted (headForm head) r ⌝ }
 {
     let kind = head.count_kind;
     match kind {
         CONSTANT_COUNT => head.count == 0,
-        COUNT_BY_POINT => !run_has(catalog, state.firsts[0], Sought::CountPoint, head.count),
+        COUNT_BY_POINT => !counted,
         FILL => {
             if state.depth != 1 {
                 return true;

@@ -1,4 +1,3 @@
 -- Laws of the table, and what the proof of `row_of` cites
 pub mod Table
-pub mod CodeTable
 pub mod ListTests

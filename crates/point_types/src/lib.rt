@@ -2,8 +2,9 @@
 // looked up there.
 // Every public call takes any arguments and carries an equation with the definitions of specs/.
 ghost use mathlib.Core.Path.{_≡_};
-ghost use Rattle.point_types.specs.Rows.{mayScale, registersOf, rowOf};
-ghost use Rattle.point_types.specs.Answers.{countAnswer, foundMeans};
+ghost use mathlib.Core.Option.{some};
+ghost use Rattle.point_types.specs.Rows.{row, mayScale, registersOf, rowOf};
+ghost use Rattle.point_types.specs.Answers.{countAnswer, foundMeans, kindMeans, unimplementedMeans, rangeMeans};
 use crate::Kind::Float;
 use crate::Kind::Signed;
 use crate::Kind::Unsigned;
@@ -60,57 +61,53 @@ pub enum RegisterCount {
     UnknownType,
 }
 
-// A row as the table writes it, on one line: code, fewest and most registers, may it carry a scale
-// factor, kind, unimplemented pattern, range.
-struct Line(u16, u16, u16, bool, Kind, Unimplemented, Range);
-
-// How many types there are: their codes count from 1.
-const TYPES: usize = 20;
-
-// The rows in the order of their codes.
-const TABLE: [Line; TYPES] = [
-    Line(1, 1, 1, true, Signed, At(0x8000), Whole), // int16
-    Line(2, 1, 1, true, Unsigned, At(0xFFFF), Whole), // uint16
-    Line(3, 1, 1, true, Unsigned, At(0), Whole), // acc16
-    Line(4, 1, 1, false, Unsigned, At(0xFFFF), Whole), // enum16
-    Line(5, 1, 1, false, Unsigned, At(0xFFFF), UpTo(0x7FFF)), // bitfield16
-    Line(6, 1, 1, false, Unsigned, Never, Only(0x8000)), // pad
-    Line(7, 1, 1, false, Unsigned, Never, Whole), // raw16
-    Line(8, 1, 1, false, Signed, At(0x8000), ScaleFactor), // sunssf
-    Line(9, 2, 2, true, Signed, At(0x80000000), Whole), // int32
-    Line(10, 2, 2, true, Unsigned, At(0xFFFFFFFF), Whole), // uint32
-    Line(11, 2, 2, true, Unsigned, At(0), Whole), // acc32
-    Line(12, 2, 2, false, Unsigned, At(0xFFFFFFFF), Whole), // enum32
-    Line(13, 2, 2, false, Unsigned, At(0xFFFFFFFF), UpTo(0x7FFFFFFF)), // bitfield32
-    Line(14, 2, 2, false, Float, At(0x7FC00000), NotNan), // float32
-    Line(15, 2, 2, false, Unsigned, At(0), Whole), // ipaddr
-    Line(16, 4, 4, true, Signed, At(0x8000000000000000), Whole), // int64
-    Line(17, 4, 4, true, Unsigned, At(0xFFFFFFFFFFFFFFFF), Whole), // uint64
-    Line(18, 4, 4, true, Unsigned, At(0), UpTo(0x7FFFFFFFFFFFFFFF)), // acc64
-    Line(19, 1, 64, false, Unsigned, At(0), Whole), // string
-    Line(20, 8, 8, false, Unsigned, At(0), Whole), // ipv6addr
-];
-
 // The row of a type code.
 pub fn row_of(type_code: u16) -> Found
     ensures { λ r. ⌜ foundMeans r ≡ rowOf «type_code» ⌝ }
 {
-    let code = type_code as usize;
-    if code < 1 {
-        return Found::Nothing;
+    match type_code {
+        1 => row_found(1, 1, 1, true, Signed, At(0x8000), Whole), // int16
+        2 => row_found(2, 1, 1, true, Unsigned, At(0xFFFF), Whole), // uint16
+        3 => row_found(3, 1, 1, true, Unsigned, At(0), Whole), // acc16
+        4 => row_found(4, 1, 1, false, Unsigned, At(0xFFFF), Whole), // enum16
+        5 => row_found(5, 1, 1, false, Unsigned, At(0xFFFF), UpTo(0x7FFF)), // bitfield16
+        6 => row_found(6, 1, 1, false, Unsigned, Never, Only(0x8000)), // pad
+        7 => row_found(7, 1, 1, false, Unsigned, Never, Whole), // raw16
+        8 => row_found(8, 1, 1, false, Signed, At(0x8000), ScaleFactor), // sunssf
+        9 => row_found(9, 2, 2, true, Signed, At(0x80000000), Whole), // int32
+        10 => row_found(10, 2, 2, true, Unsigned, At(0xFFFFFFFF), Whole), // uint32
+        11 => row_found(11, 2, 2, true, Unsigned, At(0), Whole), // acc32
+        12 => row_found(12, 2, 2, false, Unsigned, At(0xFFFFFFFF), Whole), // enum32
+        13 => row_found(13, 2, 2, false, Unsigned, At(0xFFFFFFFF), UpTo(0x7FFFFFFF)), // bitfield32
+        14 => row_found(14, 2, 2, false, Float, At(0x7FC00000), NotNan), // float32
+        15 => row_found(15, 2, 2, false, Unsigned, At(0), Whole), // ipaddr
+        16 => row_found(16, 4, 4, true, Signed, At(0x8000000000000000), Whole), // int64
+        17 => row_found(17, 4, 4, true, Unsigned, At(0xFFFFFFFFFFFFFFFF), Whole), // uint64
+        18 => row_found(18, 4, 4, true, Unsigned, At(0), UpTo(0x7FFFFFFFFFFFFFFF)), // acc64
+        19 => row_found(19, 1, 64, false, Unsigned, At(0), Whole), // string
+        20 => row_found(20, 8, 8, false, Unsigned, At(0), Whole), // ipv6addr
+        _ => Found::Nothing,
     }
-    if TYPES < code {
-        return Found::Nothing;
-    }
-    let line = TABLE[code - 1];
-    let kind = line.4;
-    let unimplemented = line.5;
-    let range = line.6;
+}
+
+// A row as the table writes it, on one line: code, fewest and most registers, may it carry a scale
+// factor, kind, unimplemented pattern, range.
+fn row_found(
+    code: u16,
+    fewest: u16,
+    most: u16,
+    scalable: bool,
+    kind: Kind,
+    unimplemented: Unimplemented,
+    range: Range,
+) -> Found
+    ensures { λ r. ⌜ foundMeans r ≡ some (row code fewest most scalable (kindMeans kind) (unimplementedMeans unimplemented) (rangeMeans range)) ⌝ }
+{
     Found::Row(TypeRow {
-        code: line.0,
-        fewest: line.1,
-        most: line.2,
-        scalable: line.3,
+        code,
+        fewest,
+        most,
+        scalable,
         kind,
         unimplemented,
         range,

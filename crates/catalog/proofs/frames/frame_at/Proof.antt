@@ -61,7 +61,7 @@ returns-5 c =
     let a = c .before .before .before .before .before .before .args in
     let kind = kinds.kind-2 (a .catalog .now) (a .i) _ (c .before .before .before .before .word-of .ensures) (c .before .before .before .match .keys2) in
     let zero = c .before .before .zero-from2 in
-    (rw (kind, ← zero .ensures, not-false (zero .result) (c .before .if2 .left)) (ap groupFrame (c .head-at .ensures)), tt)
+    (rw (kind, ← zero .ensures, not-false (zero .result) (c .before .if2 .left)) (ap groupFrame (c .head-at .ensures)), search needs)
 
 returns-6 : tie.Need-returns-6
 returns-6 c =

@@ -3,62 +3,51 @@ use mathlib.Core.Path.{sym, ap, _∙_}
 use mathlib.Core.Bool.{not}
 use borrow.Author.Tests.{not-true, not-false}
 use Rattle.catalog.specs.Answers.{pointForm}
-use Rattle.catalog.specs.Scans.{runsOf}
 use Rattle.catalog.proofs.KindCases as kinds
 use borrow.Author.Needs.{needs}
 use Rattle.catalog.proofs.rules.is_misscaled.Statement.{statement}
 use Rattle.catalog.proofs.rules.is_misscaled.Tie as tie
 
 returns : tie.Need-returns
-returns c =
-    let a = c .before .before .before .args in
-    let reach = runsOf (a .catalog .now) (a .state .firsts) (a .state .depth) in
-    let point = pointForm (a .point) in
-    sym (kinds.no-scale reach point (c .before .if1 .taken))
+returns c = λ reach e. sym (kinds.no-scale reach (pointForm (c .before .before .before .args .point)) (c .before .if1 .taken))
 
 scalable-requires : tie.Need-scalable-requires
 scalable-requires c κs = search needs
 
 returns-2 : tie.Need-returns-2
 returns-2 c =
-    let a = c .before .before .before .before .args in
-    let reach = runsOf (a .catalog .now) (a .state .firsts) (a .state .depth) in
-    let point = pointForm (a .point) in
+    λ reach e.
     let may = c .before .scalable in
     let may-not = sym (may .ensures) ∙ not-true (may .result) (c .if2 .taken) in
-    sym (kinds.not-scalable reach point (c .before .before .if1 .left) may-not)
+    sym (kinds.not-scalable reach (pointForm (c .before .before .before .before .args .point)) (c .before .before .if1 .left) may-not)
 
 scale-factor-in-range-requires : tie.Need-scale-factor-in-range-requires
 scale-factor-in-range-requires c κs = search needs
 
-scale-factor-in-reach-requires : tie.Need-scale-factor-in-reach-requires
-scale-factor-in-reach-requires c κs = search needs
+is-in-requires : tie.Need-is-in-requires
+is-in-requires c κs = search needs
 
 returns-3 : tie.Need-returns-3
 returns-3 c =
-    let a = c .before .before .before .before .before .before .args in
-    let reach = runsOf (a .catalog .now) (a .state .firsts) (a .state .depth) in
-    let point = pointForm (a .point) in
+    λ reach e.
     let may = c .before .before .before .scalable in
     let may-scale = sym (may .ensures) ∙ not-false (may .result) (c .before .before .if2 .left) in
-    ap not (c .scale-factor-in-range .ensures) ∙ sym (kinds.fixed-scale reach point (c .before .match .keys1) may-scale)
+    ap not (c .scale-factor-in-range .ensures)
+    ∙ sym (kinds.fixed-scale reach (pointForm (c .before .before .before .before .before .before .args .point)) (c .before .match .keys1) may-scale)
 
 returns-4 : tie.Need-returns-4
 returns-4 c =
-    let a = c .before .before .before .before .before .before .args in
-    let reach = runsOf (a .catalog .now) (a .state .firsts) (a .state .depth) in
-    let point = pointForm (a .point) in
+    λ reach e.
     let may = c .before .before .before .scalable in
     let may-scale = sym (may .ensures) ∙ not-false (may .result) (c .before .before .if2 .left) in
-    ap not (c .scale-factor-in-reach .ensures) ∙ sym (kinds.scale-by-point reach point (c .before .match .keys2) may-scale)
+    ap not (c .is-in .ensures ∙ e)
+    ∙ sym (kinds.scale-by-point reach (pointForm (c .before .before .before .before .before .before .args .point)) (c .before .match .keys2) may-scale)
 
 returns-5 : tie.Need-returns-5
 returns-5 c =
-    let a = c .before .before .before .before .before .args in
-    let reach = runsOf (a .catalog .now) (a .state .firsts) (a .state .depth) in
-    let point = pointForm (a .point) in
+    λ reach e.
     let n = c .match .rest in
-    sym (kinds.scale-kind-over reach point (c .before .before .before .if1 .left) (n .0 .1) (n .1))
+    sym (kinds.scale-kind-over reach (pointForm (c .before .before .before .before .before .args .point)) (c .before .before .before .if1 .left) (n .0 .1) (n .1))
 
 pub is-misscaled-spec : {M : Type 1} → statement M
 is-misscaled-spec =
@@ -68,7 +57,7 @@ is-misscaled-spec =
     scalable-requires
     returns-2
     scale-factor-in-range-requires
-    scale-factor-in-reach-requires
+    is-in-requires
     returns-3
     returns-4
     returns-5)
