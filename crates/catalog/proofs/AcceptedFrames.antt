@@ -7,14 +7,15 @@ use Prim.Native.Nat.{ℕ, suc}
 use borrow.Author.Tests.{not-false}
 use lib.Dec.{eqb}
 use lib.ListN.{length}
-use Rattle.registers.specs.Each.{Each}
-use Rattle.registers.proofs.TestOutcomes.{clash}
+use Rattle.lists.specs.Each.{Each}
+use Rattle.lists.specs.Members.{among}
+use Rattle.lists.proofs.TestOutcomes.{clash}
+use Rattle.lists.proofs.TestLaws.{none-broken}
 use Rattle.catalog.specs.Frames.{Frame, modelFrame, groupFrame, pointFrame, endFrame, malformed, fill}
 use Rattle.catalog.specs.State.{OpenGroup, State, opened, withPoint, withGroup, closed, next}
-use Rattle.catalog.specs.Rules.{among, noModel, inTop, afterGroup, run, inReach, lacksContent, rules}
+use Rattle.catalog.specs.Rules.{noModel, inTop, afterGroup, run, inReach, lacksContent, rules}
 use Rattle.catalog.specs.Checking.{accepted, checkFrom}
 use Rattle.catalog.specs.Soundness.{SoundPoint}
-use Rattle.catalog.proofs.TestLaws.{none-broken}
 use Rattle.catalog.proofs.AcceptedSteps.{accepted-step, accepted-end}
 use Rattle.catalog.proofs.SoundFrames.{sound-point, HeadUnbroken}
 

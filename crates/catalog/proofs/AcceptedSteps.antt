@@ -9,7 +9,7 @@ use native.Mathlib.Omega.{arith}
 use borrow.Author.Tests.{eqb-true, eqb-false, ltb-true, ltb-false}
 use lib.Dec.{eqb, ltb}
 use lib.ListN.{length}
-use Rattle.registers.proofs.TestOutcomes.{clash, by-test}
+use Rattle.lists.proofs.TestOutcomes.{impossible, clash, by-test}
 use Rattle.catalog.specs.Frames.{Frame, frames}
 use Rattle.catalog.specs.State.{State, start, next}
 use Rattle.catalog.specs.Rules.{noModel, run, fault}
@@ -17,7 +17,7 @@ use Rattle.catalog.specs.Checking.{Verdict, accepted, refused, checkFrom
 
 -- A refusal accepts nothing.
 never-refused : {A : Type 0} (r i n : ℕ) → refused r i ≡ accepted n → A
-never-refused r i n e = let z : _≡_ {A = ℕ} 0 1 = cc in absurd (omega arith)
+never-refused r i n e = impossible (cc)
 
 -- A catalog is accepted: it has whole frames, at most 4,096 of them, and they are accepted.
 pub accepted-start : (ws : List ℕ) (n : ℕ) → (checked ws ≡ accepted n)

@@ -8,9 +8,10 @@ use native.Mathlib.Omega.{arith}
 use borrow.Author.Tests.{eq-eqb, ne-eqb}
 use lib.Dec.{eqb}
 use lib.ListN.{length}
+use Rattle.lists.specs.Tests.{firstBroken}
 use Rattle.catalog.specs.Frames.{Frame, frameAt}
 use Rattle.catalog.specs.State as check
-use Rattle.catalog.specs.Rules.{run, noModel, firstBroken, fault}
+use Rattle.catalog.specs.Rules.{run, noModel, fault}
 use Rattle.catalog.specs.Checking.{accepted, refused, checkFrom, framesChecked}
 use Rattle.catalog.specs.IdSets.{idsBehind, IdFits}
 use Rattle.catalog.specs.Scans.{framesOnward}

@@ -8,9 +8,9 @@ use borrow.Author.Tests.{eqb-true}
 use lib.Dec.{eqb}
 use lib.ListN.{length, getD, drop, replicate, length-append, length-drop}
 use lib.Seq.{drop-append-seam, drop-cons, getD-drop}
-use Rattle.registers.specs.Each.{Each}
+use Rattle.lists.specs.Each.{Each}
+use Rattle.lists.proofs.TestOutcomes.{by-test, both}
 use Rattle.registers.specs.Registers.{allZero}
-use Rattle.registers.proofs.TestOutcomes.{by-test, both}
 use Rattle.catalog.specs.Frames.{Frame, modelFrame, groupFrame, pointFrame, endFrame, malformed, ifZero, frameOf, word, frameAt, framesFrom, frames, wordsOf, wordsOfAll}
 use Rattle.catalog.specs.Rules.{isMalformed}
 

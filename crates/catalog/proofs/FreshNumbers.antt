@@ -4,14 +4,14 @@ use mathlib.Core.Bool.{Bool, true, false, _||_}
 use mathlib.Core.List.{List, [], _∷_, _++_}
 use mathlib.Core.Option.{none}
 use Prim.Native.Nat.{ℕ}
-use native.Mathlib.Omega.{arith}
 use borrow.Author.Tests.{eqb-true, eq-eqb}
 use lib.Dec.{eqb}
-use Rattle.registers.proofs.TestOutcomes.{clash, both}
+use Rattle.lists.specs.Members.{among}
+use Rattle.lists.proofs.TestOutcomes.{clash, both}
+use Rattle.lists.proofs.TestLaws.{none-broken, neither}
 use Rattle.catalog.specs.Frames.{Point, Frame, modelFrame, groupFrame, pointFrame, endFrame, malformed}
 use Rattle.catalog.specs.State.{OpenGroup, State, start, next, withPoint}
-use Rattle.catalog.specs.Rules.{among, hasScaleFactor, isScaleFactorPoint, pointsOf, rules, fault}
-use Rattle.catalog.proofs.TestLaws.{none-broken, neither}
+use Rattle.catalog.specs.Rules.{hasScaleFactor, isScaleFactorPoint, pointsOf, rules, fault}
 use Rattle.catalog.proofs.WordScans.{has-either}
 
 -- No scale factor of a group has the number of one of the groups around it.

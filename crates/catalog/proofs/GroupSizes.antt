@@ -8,8 +8,8 @@ use native.Mathlib.Omega.{arith}
 use borrow.Author.Tests.{leb-true}
 use lib.Dec.{leb}
 use lib.ListN.{length}
-use Rattle.registers.specs.Each.{Each}
-use Rattle.registers.proofs.TestOutcomes.{clash, both}
+use Rattle.lists.specs.Each.{Each}
+use Rattle.lists.proofs.TestOutcomes.{clash, both}
 use Rattle.point_types.specs.Rows.{TypeRow, rowOf, registersOf}
 use Rattle.point_types.proofs.Table.{one-to-64}
 use Rattle.catalog.specs.Frames.{Point, Head}

@@ -6,10 +6,11 @@ use Prim.Native.Nat.{ℕ}
 use native.Mathlib.Omega.{arith}
 use borrow.Author.Tests.{ne-eqb, lt-ltb}
 use lib.Dec.{eqb, ltb}
+use Rattle.lists.specs.Tests.{oneHolds}
 use Rattle.point_types.specs.Rows.{mayScale}
 use Rattle.values.specs.Classes.{twosComplement, isScaleFactor}
 use Rattle.catalog.specs.Frames.{Point, Head, noScale, fixedScale, scaleByPoint, constantCount, countByPoint, fill}
-use Rattle.catalog.specs.Rules.{oneHolds, scaleFaults, countFaults, hasScaleFactor, hasCountPoint}
+use Rattle.catalog.specs.Rules.{scaleFaults, countFaults, hasScaleFactor, hasCountPoint}
 
 -- A test or nothing.
 or-nothing : (b : Bool) → b || false ≡ b

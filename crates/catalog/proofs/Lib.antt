@@ -10,7 +10,6 @@ pub mod Removal
 pub mod DefinitionsBack
 pub mod ClauseByClause
 -- Laws of the definitions
-pub mod TestLaws
 pub mod FrameWords
 pub mod TreeFrames
 pub mod NewNumbers

@@ -1,7 +1,7 @@
 -- What the code keeps of the frames goes on standing for what a search would find, from the start and from frame to frame.
 use mathlib.Core.Path.{_≡_, refl, sym, ap, subst, _∙_}
-use mathlib.Core.Bool.{Bool, true, false, not, _&&_, _||_}
-use mathlib.Core.List.{List, [], _∷_, _++_, append-nil}
+use mathlib.Core.Bool.{Bool, true, false, _&&_, _||_}
+use mathlib.Core.List.{List, [], _∷_, append-nil}
 use mathlib.Core.Option.{none}
 use Prim.Native.Nat.{ℕ, zero, suc, _+_, _-_, _/_, _≤_, _<_}
 use native.Mathlib.Numerals.{add-one}
@@ -10,24 +10,26 @@ use borrow.Author.Tests.{eqb-true, eqb-false, leb-false, not-false}
 use lib.Dec.{eqb, leb}
 use lib.ListN.{length, getD, set, replicate, length-replicate}
 use lib.Seq.{getD-set-same, getD-set-other}
-use Rattle.registers.proofs.TestOutcomes.{clash}
-use Rattle.catalog.specs.Frames.{Point, Head, Frame, modelFrame, groupFrame, pointFrame, endFrame, malformed, word, frameAt, wordsOf}
+use Rattle.lists.specs.Members.{among}
+use Rattle.lists.specs.Tests.{firstBroken}
+use Rattle.lists.proofs.TestOutcomes.{impossible}
+use Rattle.lists.proofs.TestLaws.{none-broken, none-of, neither}
+use Rattle.catalog.specs.Frames.{Point, Head, Frame, modelFrame, groupFrame, pointFrame, endFrame, malformed, word, frameAt}
 use Rattle.catalog.specs.State as check
 use Rattle.catalog.specs.State.{OpenGroup}
-use Rattle.catalog.specs.Rules.{among, run, hasPoint, hasScaleFactor, isScaleFactorPoint, pointsOf, isMalformed, countFaults, firstBroken}
+use Rattle.catalog.specs.Rules.{run, hasScaleFactor, isScaleFactorPoint, pointsOf, countFaults}
 use Rattle.catalog.specs.IdSets.{inSet, IdFits}
-use Rattle.catalog.specs.Scans.{framesOnward, isSought, numbersBefore, runsOf}
+use Rattle.catalog.specs.Scans.{framesOnward, numbersBefore, runsOf}
 use Rattle.catalog.specs.Tracking.{Tracks, Opens, modelRules, groupRules, pointRules, endRules, codeRules, runIn, stateBehind}
-use Rattle.catalog.specs.Marks.{Marks, Keeps, Blank, Counted, Indexed, inRun, stops, firstStop, NumbersBehind, ScalesBehind, CountsBehind, BlankAtModel}
+use Rattle.catalog.specs.Marks.{Marks, Keeps, Blank, Counted, Indexed, inRun, stops, NumbersBehind, ScalesBehind, CountsBehind, BlankAtModel}
 use Rattle.catalog.specs.declared.scans.Sought.{Sought}
 use Rattle.catalog.specs.declared.state.State.{State}
 use Rattle.catalog.proofs.FreshNumbers.{Fresh, Apart}
 use Rattle.catalog.proofs.IdSetLaws.{none-in}
 use Rattle.catalog.proofs.MarkLaws.{stop-later}
 use Rattle.catalog.proofs.OpenGroups.{runs-points}
-use Rattle.catalog.proofs.TestLaws.{none-broken, none-of, neither}
 use Rattle.catalog.proofs.TrackedRules.{no-point-ahead}
-use Rattle.catalog.proofs.TrackedState.{words-here, eightWords, numbers-kept, number-more}
+use Rattle.catalog.proofs.TrackedState.{words-here, numbers-kept, number-more}
 use Rattle.catalog.proofs.WordScans.{has-either, reach-more}
 
 -- Before the first frame.
@@ -237,4 +239,4 @@ indexed-next ws used numbers scales numbers' scales' scales'' u u' i c s t y x (
 indexed-next ws used numbers scales numbers' scales' scales'' u u' i c s t y x endFrame z e a b n m k q r =
     rw q (behind-end ws used numbers scales' u i c s t (kept ws numbers scales scales' u i c x k) y e (ap run a) n b numbers' scales'' m r)
 indexed-next ws used numbers scales numbers' scales' scales'' u u' i c s t y x malformed z e a b n m k q r =
-    let w : _≡_ {A = ℕ} 0 1 = cc in absurd (omega arith)
+    impossible (cc)

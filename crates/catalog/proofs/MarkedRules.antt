@@ -2,17 +2,18 @@
 use mathlib.Core.Path.{_≡_, refl, sym, ap, _∙_}
 use mathlib.Core.Bool.{Bool, true, false, not, _||_}
 use mathlib.Core.List.{List}
-use Prim.Native.Nat.{ℕ, _+_, _-_, _/_, _≤_, _<_}
+use Prim.Native.Nat.{ℕ, _+_, _-_, _/_, _<_}
 use native.Mathlib.Omega.{arith}
 use borrow.Author.Tests.{eq-eqb, ne-eqb}
 use lib.Dec.{eqb}
 use lib.ListN.{length, getD}
+use Rattle.lists.specs.Tests.{oneHolds}
 use Rattle.catalog.specs.Frames.{Point, Head, groupFrame, word, frameAt, countByPoint}
-use Rattle.catalog.specs.Rules.{hasCountPoint, oneHolds, scaleFaults, countFaults}
+use Rattle.catalog.specs.Rules.{hasCountPoint, scaleFaults, countFaults}
 use Rattle.catalog.specs.IdSets.{inSet}
 use Rattle.catalog.specs.Scans.{runsOf}
 use Rattle.catalog.specs.Tracking.{runIn, wrongNumber}
-use Rattle.catalog.specs.Marks.{Indexed, Counted, IsMisscaled, IsMiscounted, stops, firstStop}
+use Rattle.catalog.specs.Marks.{Indexed, Counted, IsMisscaled, IsMiscounted, stops}
 use Rattle.catalog.specs.declared.state.State.{State}
 use Rattle.catalog.proofs.MarkLaws.{stop-here, stop-later, stop-from}
 use Rattle.catalog.proofs.TrackedState.{words-here}

@@ -5,14 +5,14 @@ use mathlib.Core.Bool.{Bool, true, false, _&&_, _||_}
 use mathlib.Core.List.{List, [], _∷_}
 use Prim.Native.Nat.{ℕ, suc}
 use lib.Dec.{eqb}
-use Rattle.registers.specs.Each.{Each}
-use Rattle.registers.proofs.TestOutcomes.{clash}
+use Rattle.lists.specs.Each.{Each}
+use Rattle.lists.proofs.TestOutcomes.{clash}
+use Rattle.lists.proofs.TestLaws.{neither, none-broken}
 use Rattle.catalog.specs.Frames.{Point, Head, Frame, modelFrame, groupFrame, pointFrame, endFrame, malformed, fill, frames, wordsOfAll}
 use Rattle.catalog.specs.State.{OpenGroup, State, start, opened, withPoint, withGroup, closed, next}
 use Rattle.catalog.specs.Rules.{noModel, inTop, afterGroup, run, isMalformed, rules}
 use Rattle.catalog.specs.Checking.{accepted, checkFrom, checked}
 use Rattle.catalog.specs.Definitions.{Content, Definition, catalogFrames, Parsed, inFront, parsed, definitions}
-use Rattle.catalog.proofs.TestLaws.{neither, none-broken}
 use Rattle.catalog.proofs.AcceptedSteps.{accepted-start, accepted-step}
 use Rattle.catalog.proofs.AcceptedFrames.{Standing, accepted-frames}
 use Rattle.catalog.proofs.TreeFrames.{contentFrames, group-frames, definition-frames}

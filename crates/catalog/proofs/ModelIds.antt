@@ -4,12 +4,13 @@ use mathlib.Core.Path.{_≡_, refl, sym, ap, subst}
 use mathlib.Core.List.{List, [], _∷_, _++_}
 use Prim.Native.Nat.{ℕ, _≤_, _<_}
 use native.Mathlib.Omega.{arith}
-use Rattle.registers.specs.Each.{Each}
+use Rattle.lists.specs.Each.{Each}
+use Rattle.lists.specs.Members.{Distinct}
 use Rattle.registers.specs.Registers.{AreRegisters}
 use Rattle.catalog.specs.Frames.{Frame, modelFrame, groupFrame, pointFrame, endFrame, malformed, frames, wordsOf, wordsOfAll}
 use Rattle.catalog.specs.Checking.{accepted, checked}
 use Rattle.catalog.specs.Definitions.{Definition, definitionFrames, catalogFrames, parsed, definitions, modelIds}
-use Rattle.catalog.specs.Soundness.{Distinct, SoundDefinition, idsOf}
+use Rattle.catalog.specs.Soundness.{SoundDefinition, idsOf}
 use Rattle.catalog.proofs.ModelFrames.{words-of-definitions}
 use Rattle.catalog.proofs.AcceptedIsSound.{accepted-is-sound}
 

@@ -6,10 +6,9 @@ use mathlib.Core.Logic.{_↔_}
 use Prim.Native.Nat.{ℕ}
 use borrow.Author.Tests.{eqb-false, ne-eqb}
 use lib.Dec.{eqb}
-use Rattle.registers.specs.Each.{Each}
-use Rattle.catalog.specs.Rules.{among}
-use Rattle.catalog.specs.Soundness.{Distinct}
-use Rattle.catalog.proofs.TestLaws.{neither}
+use Rattle.lists.specs.Each.{Each}
+use Rattle.lists.specs.Members.{among, Distinct}
+use Rattle.lists.proofs.TestLaws.{neither}
 
 -- Behind the numbers `used`, the newest first, each of the numbers `ns` is new when it comes.
 abbrev pub New : List ℕ → List ℕ → Type 0

@@ -7,12 +7,12 @@ use Prim.Native.Nat.{ℕ, _≤_}
 use native.Mathlib.Omega.{arith}
 use borrow.Author.Tests.{eqb-false, ne-eqb}
 use lib.Dec.{eqb}
-use Rattle.registers.specs.Each.{Each}
+use Rattle.lists.specs.Each.{Each}
+use Rattle.lists.specs.Members.{among, Distinct}
+use Rattle.lists.proofs.TestLaws.{neither}
 use Rattle.catalog.specs.Frames.{Point, Frame, modelFrame, groupFrame, pointFrame, endFrame, malformed}
-use Rattle.catalog.specs.Rules.{among}
 use Rattle.catalog.specs.Definitions.{Groups, noGroup, group, Definition, pointFrames, groupFrames, definitionFrames}
-use Rattle.catalog.specs.Soundness.{Distinct, numbersOf}
-use Rattle.catalog.proofs.TestLaws.{neither}
+use Rattle.catalog.specs.Soundness.{numbersOf}
 use Rattle.catalog.proofs.AcceptedFrames.{Numbered}
 use Rattle.catalog.proofs.TreeFrames.{group-frames}
 use Rattle.catalog.proofs.NewNumbers.{New, all-new}

@@ -5,13 +5,14 @@ use mathlib.Core.List.{List, [], _∷_, _++_}
 use Prim.Native.Nat.{ℕ}
 use borrow.Author.Tests.{eqb-true}
 use lib.Dec.{eqb}
-use Rattle.registers.specs.Each.{Each}
-use Rattle.registers.proofs.TestOutcomes.{clash, both}
+use Rattle.lists.specs.Each.{Each}
+use Rattle.lists.specs.Members.{In, first, later}
+use Rattle.lists.proofs.TestOutcomes.{clash, both}
 use Rattle.catalog.specs.Frames.{Point, Head, uint16, sunssf, readOnly}
 use Rattle.catalog.specs.Rules.{hasPoint, isScaleFactorPoint, hasScaleFactor, isCountPoint, hasCountPoint}
 use Rattle.catalog.specs.Checking.{accepted, checked}
 use Rattle.catalog.specs.Definitions.{Groups, Definition, definitions}
-use Rattle.catalog.specs.Soundness.{SoundPoint, EachLowerGroup, In, first, later, ScaleResolves, CountResolves}
+use Rattle.catalog.specs.Soundness.{SoundPoint, EachLowerGroup, ScaleResolves, CountResolves}
 use Rattle.catalog.proofs.EveryGroup.{of-lower-groups, of-models}
 
 -- Where the test finds such a point among these, here it is.

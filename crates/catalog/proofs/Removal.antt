@@ -6,15 +6,16 @@ use Prim.Native.Nat.{ℕ, _≤_}
 use native.Mathlib.Omega.{arith}
 use lib.Dec.{eqb}
 use lib.ListN.{length, length-append}
-use Rattle.registers.specs.Each.{Each}
-use Rattle.registers.proofs.TestOutcomes.{clash}
+use Rattle.lists.specs.Each.{Each}
+use Rattle.lists.specs.Members.{among, Distinct}
+use Rattle.lists.specs.Tests.{keptBy}
+use Rattle.lists.proofs.TestOutcomes.{clash}
+use Rattle.lists.proofs.TestLaws.{neither}
 use Rattle.catalog.specs.Frames.{Frame, frames, wordsOfAll}
-use Rattle.catalog.specs.Rules.{among}
 use Rattle.catalog.specs.Checking.{accepted, checked}
 use Rattle.catalog.specs.Definitions.{Definition, definitionFrames, catalogFrames, definitions}
-use Rattle.catalog.specs.Soundness.{Distinct, SoundDefinition, SoundCatalog, idsOf}
-use Rattle.catalog.specs.Removal.{keptBy, keeping, allButOne}
-use Rattle.catalog.proofs.TestLaws.{neither}
+use Rattle.catalog.specs.Soundness.{SoundDefinition, SoundCatalog, idsOf}
+use Rattle.catalog.specs.Removal.{keeping, allButOne}
 use Rattle.catalog.proofs.FrameWords.{frames-words}
 use Rattle.catalog.proofs.DefinitionsBack.{definitions-back}
 use Rattle.catalog.proofs.ModelFrames.{frames-of-definitions, words-of-definitions}

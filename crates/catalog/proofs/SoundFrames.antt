@@ -8,15 +8,16 @@ use native.Mathlib.Omega.{arith}
 use borrow.Author.Tests.{eqb-true, eqb-false, leb-false, ltb-false, eq-eqb, ne-eqb, lt-leb, le-ltb, not-true, not-false}
 use lib.Dec.{eqb, leb, ltb}
 use lib.ListN.{length}
-use Rattle.registers.proofs.TestOutcomes.{clash}
+use Rattle.lists.specs.Tests.{oneHolds}
+use Rattle.lists.proofs.TestOutcomes.{clash}
+use Rattle.lists.proofs.TestLaws.{neither, excludes, clause, none-of}
 use Rattle.point_types.specs.Rows.{mayScale}
 use Rattle.values.specs.Classes.{twosComplement, isScaleFactor}
 use Rattle.catalog.specs.Frames.{Point, Head, pointFrame, noScale, fixedScale, scaleByPoint, constantCount, countByPoint, fill}
 use Rattle.catalog.specs.State.{OpenGroup}
-use Rattle.catalog.specs.Rules.{inTop, topPoints, hasScaleFactor, hasCountPoint, isSizeOf, oneHolds, isMistyped, scaleFaults, countFaults}
+use Rattle.catalog.specs.Rules.{inTop, topPoints, hasScaleFactor, hasCountPoint, isSizeOf, isMistyped, scaleFaults, countFaults}
 use Rattle.catalog.specs.Definitions.{Groups, noGroup}
 use Rattle.catalog.specs.Soundness.{SoundPoint, SoundHead}
-use Rattle.catalog.proofs.TestLaws.{neither, excludes, clause, none-of}
 
 -- A point frame breaks neither rule 7 nor rule 8 just where the point is sound.
 pub sound-point : (reach : List Point) (p : Point)

@@ -8,14 +8,14 @@ use native.Mathlib.Omega.{arith}
 use borrow.Author.Tests.{eqb-true, eq-eqb, ne-eqb}
 use lib.Dec.{eqb}
 use lib.ListN.{length}
-use Rattle.registers.specs.Each.{Each}
-use Rattle.registers.proofs.TestOutcomes.{clash, both}
+use Rattle.lists.specs.Each.{Each}
+use Rattle.lists.proofs.TestOutcomes.{impossible, clash, both}
+use Rattle.lists.proofs.TestLaws.{excludes}
 use Rattle.catalog.specs.Frames.{Point, Head, Frame, endFrame, fill}
 use Rattle.catalog.specs.State.{OpenGroup, opened}
 use Rattle.catalog.specs.Rules.{noModel, inTop, run, pointsOf, topPoints, noPoint}
 use Rattle.catalog.specs.Definitions.{Groups, noGroup, group, Definition, pointFrames, groupFrames, definitionFrames, catalogFrames}
 use Rattle.catalog.specs.Soundness.{SoundPoint, SoundGroups, SoundDefinition, numbersOf, idsOf}
-use Rattle.catalog.proofs.TestLaws.{excludes}
 use Rattle.catalog.proofs.AcceptedFrames.{Standing, Numbered}
 use Rattle.catalog.proofs.SoundFrames.{sound-head}
 use Rattle.catalog.proofs.TreeFrames.{contentFrames, group-frames, definition-frames, run-points, run-groups}
@@ -168,8 +168,8 @@ groups-stand (group h ps inside behind) = group-stands h ps inside behind (group
 -- Rule 10 of a top group: it has a point or a group.
 has-content : (ps : List Point) (g : Groups) → (noPoint ps && not (anyGroup g false) ≡ false) ↔ (ps ≡ [] → g ≡ noGroup → ⊥)
 has-content [] noGroup = (λ e. clash e, λ h. absurd (h refl refl))
-has-content [] (group h ps inside behind) = (λ e p g. let z : _≡_ {A = ℕ} 0 1 = cc in omega arith, λ h. refl)
-has-content (p ∷ ps) g = (λ e q h. let z : _≡_ {A = ℕ} 0 1 = cc in omega arith, λ h. refl)
+has-content [] (group h ps inside behind) = (λ e p g. impossible (cc), λ h. refl)
+has-content (p ∷ ps) g = (λ e q h. impossible (cc), λ h. refl)
 
 -- A model stands in its place just where what it holds is sound.
 model-stands : (d : Definition) (filled : Bool) (fs : List Frame)

@@ -8,10 +8,12 @@ use native.Mathlib.Omega.{arith}
 use borrow.Author.Tests.{eq-eqb, ne-eqb}
 use lib.Dec.{eqb}
 use lib.ListN.{length}
+use Rattle.lists.specs.Members.{among}
+use Rattle.lists.specs.Tests.{oneHolds, firstBroken}
 use Rattle.catalog.specs.Frames.{Point, Head, Frame, modelFrame, groupFrame, pointFrame, endFrame, malformed}
 use Rattle.catalog.specs.State as check
 use Rattle.catalog.specs.State.{OpenGroup}
-use Rattle.catalog.specs.Rules.{run, inReach, among, oneHolds, noModel, isMisplaced, isMisnumbered, isMisscaled, isMistyped, scaleFaults, firstBroken, fault}
+use Rattle.catalog.specs.Rules.{run, inReach, noModel, isMisplaced, isMisnumbered, isMisscaled, isMistyped, scaleFaults, fault}
 use Rattle.catalog.specs.IdSets.{IdFits}
 use Rattle.catalog.specs.Scans.{framesOnward, runsOf}
 use Rattle.catalog.specs.Tracking.{Tracks, Opens, aheadOf, codeRules, wrongNumber}

@@ -10,7 +10,8 @@ use borrow.Author.Tests.{leb-false}
 use lib.Dec.{eqb, leb}
 use lib.ListN.{length, getD, set, length-set, replicate, length-replicate}
 use lib.Seq.{getD-set-same, getD-set-other}
-use Rattle.registers.proofs.TestOutcomes.{clash}
+use Rattle.lists.proofs.TestOutcomes.{impossible, clash}
+use Rattle.lists.proofs.TestLaws.{none-broken, neither}
 use Rattle.catalog.specs.Frames.{Point, Head, Frame, modelFrame, groupFrame, pointFrame, endFrame, malformed, word, frameAt, wordsOf, fill}
 use Rattle.catalog.specs.State as check
 use Rattle.catalog.specs.State.{OpenGroup, start, next}
@@ -22,7 +23,6 @@ use Rattle.catalog.specs.declared.state.State.{State}
 use Rattle.catalog.proofs.FrameWords.{eight-back}
 use Rattle.catalog.proofs.IdSetLaws.{none-in, in-with, length-with}
 use Rattle.catalog.proofs.OpenGroups.{one-deeper}
-use Rattle.catalog.proofs.TestLaws.{none-broken, neither}
 use Rattle.catalog.proofs.TrackedRules.{no-point-ahead}
 
 -- Of four numbers, all but the first 0, none is over a bound on the first.
@@ -252,4 +252,4 @@ module _ (ws used : List ℕ) (i : ℕ) (c : State) (s : check.State) (t : Track
       let b = none-broken (rules s endFrame (run (framesOnward ws i))) .0 n in
       inside (Tracks ws used (i + 1) (stateBehind c i endFrame) (next s endFrame)) (b .1 .0)
       (λ l ls q. behind-end ws used i c s t l ls q e (ap run a))
-  tracks-next malformed u e a n = let z : _≡_ {A = ℕ} 0 1 = cc in absurd (omega arith)
+  tracks-next malformed u e a n = impossible (cc)

@@ -8,10 +8,10 @@ use native.Mathlib.Omega.{arith}
 use borrow.Author.Tests.{eq-eqb, ne-eqb}
 use lib.Dec.{eqb}
 use lib.ListN.{length, getD}
+use Rattle.lists.specs.Members.{among}
 use Rattle.catalog.specs.Frames.{Point, word, frameAt, framesFrom}
-use Rattle.catalog.specs.Rules.{among, run, hasPoint, hasScaleFactor, isScaleFactorPoint}
-use Rattle.catalog.specs.Scans.{zeroWords, isNumbered, hasNumber, numbersBefore, isSought, framesOnward, pointWords, runsOf}
-use Rattle.catalog.specs.declared.scans.Sought.{Sought}
+use Rattle.catalog.specs.Rules.{run, hasPoint, hasScaleFactor, isScaleFactorPoint}
+use Rattle.catalog.specs.Scans.{zeroWords, isNumbered, hasNumber, numbersBefore, framesOnward, pointWords, runsOf}
 use Rattle.catalog.proofs.FrameKinds as kinds
 
 -- ---- Words that are 0

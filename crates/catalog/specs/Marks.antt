@@ -7,8 +7,10 @@ use mathlib.Core.Option.{Option}
 use Prim.Native.Nat.{ℕ, zero, suc, _+_, _-_, _/_, _≤_, _<_}
 use lib.Dec.{eqb}
 use lib.ListN.{length, getD}
+use Rattle.lists.specs.Members.{among}
+use Rattle.lists.specs.Tests.{oneHolds, firstBroken}
 use Rattle.catalog.specs.Frames.{Point, Head, Frame, frameAt, modelFrame, groupFrame, pointFrame, endFrame, malformed, word, countByPoint}
-use Rattle.catalog.specs.Rules.{among, run, hasPoint, hasScaleFactor, hasCountPoint, oneHolds, scaleFaults, countFaults, firstBroken}
+use Rattle.catalog.specs.Rules.{run, hasPoint, hasScaleFactor, hasCountPoint, scaleFaults, countFaults}
 use Rattle.catalog.specs.IdSets.{inSet}
 use Rattle.catalog.specs.Scans.{framesOnward, isSought, numbersBefore, runsOf}
 use Rattle.catalog.specs.Tracking.{groupRules, pointRules}

@@ -3,16 +3,9 @@
 use mathlib.Core.Bool.{Bool, true, false}
 use mathlib.Core.List.{List, [], _∷_}
 use Prim.Native.Nat.{ℕ, zero, suc}
+use Rattle.lists.specs.Tests.{keptBy}
 use Rattle.catalog.specs.Frames.{wordsOfAll}
 use Rattle.catalog.specs.Definitions.{catalogFrames, definitions}
-
--- What is left by a choice for each element: true keeps it, false takes it out. Those behind the last choice stay, and choices
--- behind the last element say nothing.
-abbrev pub keptBy : {A : Type 0} → List Bool → List A → List A
-keptBy [] xs = xs
-keptBy (c ∷ cs) [] = []
-keptBy (true ∷ cs) (x ∷ xs) = x ∷ keptBy cs xs
-keptBy (false ∷ cs) (x ∷ xs) = keptBy cs xs
 
 -- A catalog with only those of its models that the choice keeps.
 unfoldable pub keeping : List Bool → List ℕ → List ℕ

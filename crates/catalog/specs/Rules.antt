@@ -5,17 +5,14 @@ use mathlib.Core.Option.{Option, none, some}
 use Prim.Native.Nat.{ℕ}
 use lib.Dec.{eqb, leb, ltb}
 use lib.ListN.{length}
+use Rattle.lists.specs.Members.{among}
+use Rattle.lists.specs.Tests.{oneHolds, firstBroken}
 use Rattle.point_types.specs.Rows.{mayScale, registersOf}
 use Rattle.values.specs.Classes.{twosComplement, isScaleFactor}
 use Rattle.catalog.specs.Frames.{Point, Head, Frame, modelFrame, groupFrame, pointFrame, endFrame, malformed, noScale, fixedScale, scaleByPoint, constantCount, countByPoint, fill, uint16, sunssf, readOnly}
 use Rattle.catalog.specs.State.{OpenGroup, State}
 
 -- ---- What the rules look at (where a rule behind 4 needs an open model, 4 has decided without one)
-
--- Is a number one of these?
-abbrev pub among : ℕ → List ℕ → Bool
-among n [] = false
-among n (m ∷ ms) = eqb n m || among n ms
 
 -- No model is open.
 abbrev pub noModel : List OpenGroup → Bool
@@ -82,11 +79,6 @@ hasCountPoint n ps = hasPoint (isCountPoint n) ps
 unfoldable pub isSizeOf : ℕ → ℕ → Bool
 isSizeOf code size =
     elim (registersOf code) [ none ↦ false | some r ↦ leb (r .0) size && leb size (r .1) ]
-
--- One of these tests holds.
-abbrev pub oneHolds : List Bool → Bool
-oneHolds [] = false
-oneHolds (t ∷ ts) = t || oneHolds ts
 
 -- ---- The rules: each says of a frame, in a state, whether it is broken
 
@@ -197,11 +189,6 @@ rules s f ahead =
     ∷ (isMiscounted s f, 9)
     ∷ (lacksContent (s .openGroups) f, 10)
     ∷ []
-
--- The number of the first rule that is broken, if one is.
-abbrev pub firstBroken : List (Bool × ℕ) → Option ℕ
-firstBroken [] = none
-firstBroken (r ∷ rs) = elim (r .0) [ true ↦ some (r .1) | false ↦ firstBroken rs ]
 
 -- The number of the rule that a frame breaks, if it breaks one.
 abbrev pub fault : State → Frame → List Point → Option ℕ

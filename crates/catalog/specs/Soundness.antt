@@ -2,21 +2,17 @@
 -- frame by frame. A catalog is accepted just where it is the words of its definitions and these are sound: rules 1, 3 and 11
 -- and the rest of 4 hold of the words of any trees (`proofs/AcceptedIsSound.antt`, `SoundIsAccepted.antt`).
 use mathlib.Core.Path.{_≡_}
-use mathlib.Core.Bool.{true, false}
+use mathlib.Core.Bool.{true}
 use mathlib.Core.List.{List, [], _∷_, _++_}
 use Prim.Native.Nat.{ℕ, suc, _≤_}
 use lib.ListN.{length}
-use Rattle.registers.specs.Each.{Each}
+use Rattle.lists.specs.Members.{In, Distinct}
+use Rattle.lists.specs.Each.{Each}
 use Rattle.point_types.specs.Rows.{mayScale}
 use Rattle.values.specs.Classes.{twosComplement, isScaleFactor}
 use Rattle.catalog.specs.Frames.{Point, Head, Frame, modelFrame, groupFrame, pointFrame, endFrame, malformed, noScale, fixedScale, scaleByPoint, constantCount, countByPoint, fill, uint16, sunssf, readOnly}
-use Rattle.catalog.specs.Rules.{among, isSizeOf, hasScaleFactor, hasCountPoint}
+use Rattle.catalog.specs.Rules.{isSizeOf, hasScaleFactor, hasCountPoint}
 use Rattle.catalog.specs.Definitions.{Groups, noGroup, group, Definition, definitionFrames, catalogFrames}
-
--- No number comes twice.
-abbrev pub Distinct : List ℕ → Type 0
-Distinct [] = Unit {0}
-Distinct (n ∷ ns) = (among n ns ≡ false) × Distinct ns
 
 -- The numbers of these points and groups, in the order of their frames.
 abbrev pub numbersOf : List Frame → List ℕ
@@ -92,11 +88,6 @@ EachGroup P enclosing level (group h ps inside behind) =
 -- Such a fact about each lower group of a model.
 abbrev pub EachLowerGroup : (List Point → ℕ → Head → List Point → Groups → Type 0) → Definition → Type 0
 EachLowerGroup P d = EachGroup P (d .top .points) 2 (d .top .groups)
-
--- A point, or anything else, is one of these.
-pub data In {A : Type 0} (x : A) : List A → Type 0 where
-  first : {xs : List A} → In x (x ∷ xs)
-  later : {y : A} {xs : List A} → In x xs → In x (y ∷ xs)
 
 -- If a point gives the scale factor, it is a sunssf point among these.
 abbrev pub ScaleResolves : List Point → Point → Type 0

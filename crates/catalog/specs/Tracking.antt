@@ -6,10 +6,12 @@ use mathlib.Core.List.{List, [], _∷_, _++_}
 use Prim.Native.Nat.{ℕ, _+_, _-_, _≤_, _<_}
 use lib.Dec.{eqb, leb, ltb}
 use lib.ListN.{length, getD, set}
+use Rattle.lists.specs.Members.{among}
+use Rattle.lists.specs.Tests.{oneHolds}
 use Rattle.catalog.specs.Frames.{Point, Head, Frame, modelFrame, groupFrame, pointFrame, endFrame, malformed, fill}
 use Rattle.catalog.specs.State as check
 use Rattle.catalog.specs.State.{OpenGroup}
-use Rattle.catalog.specs.Rules.{among, run, noPoint, isMistyped, oneHolds, scaleFaults, countFaults}
+use Rattle.catalog.specs.Rules.{run, noPoint, isMistyped, scaleFaults, countFaults}
 use Rattle.catalog.specs.IdSets.{inSet}
 use Rattle.catalog.specs.Scans.{framesOnward, numbersBefore, runsOf}
 use Rattle.catalog.specs.declared.state.State.{State}

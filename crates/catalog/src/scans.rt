@@ -16,7 +16,7 @@ ghost use mathlib.Core.Path.{_≡_};
 ghost use mathlib.Core.Bool.{false};
 ghost use Prim.Native.Nat.{_+_, _-_, _/_, _≤_, _<_};
 ghost use lib.ListN.{length};
-ghost use Rattle.catalog.specs.Rules.{among};
+ghost use Rattle.lists.specs.Members.{among};
 ghost use Rattle.catalog.specs.Scans.{hasNumber, isOfSort, isSought, numbersBefore, pointWords};
 ghost use Rattle.catalog.specs.Answers.{frameForm};
 ghost use Rattle.catalog.specs.Marks.{Marks, Keeps, Blank, Counted, inRun, stops, firstStop, NumbersBehind, ScalesBehind, CountsBehind, BlankAtModel};

@@ -2,9 +2,9 @@
 use mathlib.Core.Path.{_≡_, refl, ap, _∙_}
 use mathlib.Core.Bool.{Bool, true, false, not}
 use Prim.Native.Nat.{ℕ}
-use native.Mathlib.Omega.{arith}
 use lib.IntN.{ℤ, natAbs}
 use lib.Signed.{nonNeg}
+use Rattle.lists.proofs.TestOutcomes.{impossible}
 use Rattle.values.specs.Classes.{isScaleFactor}
 use Rattle.values.specs.Unscaled.{Unscaled, number, noValue, notScalable, unscaled}
 use Rattle.values.proofs.UnscaledRange.{Within64, unscaled-range}
@@ -47,7 +47,7 @@ module _ (code raw : ℕ) (scale : ℤ) where
       by-scale z u true b q =
           let v : z ≡ value = cc in
           record { is = u ∙ ap number v; same-scale = cc; in-range = b }
-      by-scale z u false b q = let z : _≡_ {A = ℕ} 0 1 = cc in absurd (omega arith)
+      by-scale z u false b q = impossible (cc)
 
       by-value : (u : Unscaled) → unscaled code raw ≡ u
           → _≡_ {A = Amount}
@@ -58,8 +58,8 @@ module _ (code raw : ℕ) (scale : ℤ) where
           ])
           (amount value s) → AmountOf value s
       by-value (number z) u q = by-scale z u (isScaleFactor scale) refl q
-      by-value noValue u q = let z : _≡_ {A = ℕ} 0 1 = cc in absurd (omega arith)
-      by-value notScalable u q = let z : _≡_ {A = ℕ} 0 1 = cc in absurd (omega arith)
+      by-value noValue u q = impossible (cc)
+      by-value notScalable u q = impossible (cc)
 
   pub value-within : (value s : ℤ) → amountOf code raw scale ≡ amount value s → Within64 value
   value-within value s e = unscaled-range code raw value (amount-of value s e .is)
@@ -80,7 +80,7 @@ pub record WasAmount (a : Amount) (parts : ScaledNumber) : Type 0 where
 
 pub was-amount : (a : Amount) (parts : ScaledNumber) → Accepted.Of parts ≡ acceptedForm a → WasAmount a parts
 was-amount (amount value scale) parts e = record { value = value; scale = scale; is = refl; form = cc }
-was-amount (refused m) parts e = let z : _≡_ {A = ℕ} 0 1 = cc in absurd (omega arith)
+was-amount (refused m) parts e = impossible (cc)
 
 -- The parts are bounded by the scale factor's range.
 pub parts-within : (code raw : ℕ) (s : ℤ) (parts : ScaledNumber) → Accepted.Of parts ≡ acceptedForm (amountOf code raw s)

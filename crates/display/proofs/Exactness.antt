@@ -10,6 +10,7 @@ use lib.Dec.{ltb}
 use lib.IntN.{ℤ, pos, negsuc, negℤ}
 use lib.ListN.{length}
 use lib.Pow.{pow-add}
+use Rattle.lists.proofs.TestOutcomes.{impossible}
 use Rattle.values.specs.Unscaled.{number, unscaled}
 use Rattle.values.proofs.UnscaledRange.{Within64}
 use Rattle.display.specs.Amounts.{Amount, amount, amountOf, fractionOf, zeros, places}
@@ -77,7 +78,7 @@ exactness code raw scale room t e = by-amount (amountOf code raw scale) refl e
   where
     by-room : (value s : ℤ) → amountOf code raw scale ≡ amount value s → (b : Bool)
         → _≡_ {A = Decimal} (elim b [ true ↦ Decimal.refused 46 | false ↦ text (decimalText value s) ]) (text t) → Exact code raw scale t
-    by-room value s a true q = let z : _≡_ {A = ℕ} 0 1 = cc in absurd (omega arith)
+    by-room value s a true q = impossible (cc)
     by-room value s a false q =
         let o = amount-of code raw scale value s a in
         let u : t ≡ decimalText value scale = cc in
@@ -95,5 +96,5 @@ exactness code raw scale room t e = by-amount (amountOf code raw scale) refl e
           | amount value s ↦ elim (ltb room 32) [ true ↦ Decimal.refused 46 | false ↦ text (decimalText value s) ]
         ])
         (text t) → Exact code raw scale t
-    by-amount (Amount.refused n) a q = let z : _≡_ {A = ℕ} 0 1 = cc in absurd (omega arith)
+    by-amount (Amount.refused n) a q = impossible (cc)
     by-amount (amount value s) a q = by-room value s a (ltb room 32) q

@@ -10,6 +10,7 @@ use borrow.Author.Tests.{eq-eqb, ne-eqb, le-leb, lt-leb, leb-true}
 use lib.Dec.{eqb, leb}
 use lib.ListN.{length, getD, take, drop, length-take, drop-of-length-le}
 use lib.Seq.{drop-cons}
+use Rattle.lists.proofs.TestOutcomes.{impossible}
 use Rattle.registers.specs.Registers.{allZero}
 use Rattle.display.specs.Text.{untilZeroByte, hasString, stringAt, textAt}
 
@@ -82,6 +83,6 @@ string-lies registers address size e = go (leb 1 size) (leb size 64) (leb (addre
   where
     go : (a b c : Bool) → leb (address + size) registers ≡ c → (a && b && c) ≡ true → address + size ≤ registers
     go true true true q t = leb-true (address + size) registers q
-    go true true false q t = let z : _≡_ {A = ℕ} 0 1 = cc in absurd (omega arith)
-    go true false c q t = let z : _≡_ {A = ℕ} 0 1 = cc in absurd (omega arith)
-    go false b c q t = let z : _≡_ {A = ℕ} 0 1 = cc in absurd (omega arith)
+    go true true false q t = impossible (cc)
+    go true false c q t = impossible (cc)
+    go false b c q t = impossible (cc)

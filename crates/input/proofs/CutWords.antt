@@ -6,10 +6,9 @@ use native.Mathlib.Omega.{arith}
 use borrow.Author.Tests.{eqb-true}
 use lib.Dec.{eqb, ltb}
 use lib.ListN.{length, take}
-use Rattle.registers.proofs.TestOutcomes.{by-test, by-same-test}
+use Rattle.lists.proofs.TestOutcomes.{by-test, by-same-test}
 use Rattle.input.specs.Digits.{wordsOf}
-use Rattle.input.specs.Parsing.{isCatalogLine, isMapLine, Input, refused, words, withFrame, withRegisters}
-use Rattle.input.specs.Parsing.{mapFrom, catalogFrom, parsed}
+use Rattle.input.specs.Parsing.{isCatalogLine, isMapLine, Input, refused, words, withFrame, withRegisters, mapFrom, catalogFrom, parsed}
 use Rattle.input.proofs.CutLines.{Cut, whole, nothing, within, behind, cut-lines}
 use Rattle.input.proofs.GoodLines.{map-line, words-behind}
 

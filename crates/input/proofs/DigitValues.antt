@@ -10,7 +10,7 @@ use borrow.Author.Tests.{le-leb, lt-leb, leb-true}
 use lib.Dec.{leb}
 use lib.ListN.{length, getD, drop, drop-of-length-le}
 use lib.Seq.{drop-cons}
-use Rattle.registers.proofs.TestOutcomes.{clash, by-test}
+use Rattle.lists.proofs.TestOutcomes.{impossible, clash, by-test}
 use Rattle.input.specs.Digits.{digitValue, isDigit, digitOr0, areDigits}
 
 module _ (b : ℕ) where
@@ -81,7 +81,7 @@ value-small b v =
     by-test Small (leb 48 b && leb b 57) (λ t e. let q : b - 48 ≡ v = cc in omega (arith, inside b 48 57 t))
     (λ _. by-test Small (leb 65 b && leb b 70) (λ t e. let q : b - 65 + 10 ≡ v = cc in omega (arith, inside b 65 70 t))
     (λ _. by-test Small (leb 97 b && leb b 102) (λ t e. let q : b - 97 + 10 ≡ v = cc in omega (arith, inside b 97 102 t))
-    (λ _ e. let z : _≡_ {A = ℕ} 0 1 = cc in absurd (omega arith))))
+    (λ _ e. impossible (cc))))
 
 -- A byte with a value is a digit of that value, and one without is none.
 module _ (b : ℕ) where

@@ -9,7 +9,7 @@ use native.Mathlib.Omega.{arith}
 use borrow.Author.Tests.{ltb-true, ltb-false, le-leb, lt-leb}
 use lib.Dec.{ltb}
 use lib.ListN.{length}
-use Rattle.registers.proofs.TestOutcomes.{by-test}
+use Rattle.lists.proofs.TestOutcomes.{by-test}
 use Rattle.input.specs.Digits.{isBetween, digitValue, isDigit, areDigits, digitOr0, word, wordsOf}
 use Rattle.input.specs.Writing.{AreWords, hexDigit, hexDigits}
 

@@ -7,7 +7,7 @@ use native.Mathlib.Omega.{arith}
 use borrow.Author.Tests.{eqb-true, leb-true, ne-eqb, lt-leb}
 use lib.Dec.{eqb, leb}
 use lib.ListN.{length}
-use Rattle.registers.proofs.TestOutcomes.{both}
+use Rattle.lists.proofs.TestOutcomes.{both}
 use Rattle.input.specs.Digits.{areDigits, word, wordsOf}
 use Rattle.input.specs.Parsing.{isCatalogLine, isMapLine}
 

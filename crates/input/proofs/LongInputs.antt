@@ -6,7 +6,7 @@ use native.Mathlib.Omega.{arith}
 use borrow.Author.Tests.{ltb-false, eqb-true, eqb-false}
 use lib.Dec.{eqb, ltb}
 use lib.ListN.{length, take, length-append}
-use Rattle.registers.proofs.TestOutcomes.{by-same-test}
+use Rattle.lists.proofs.TestOutcomes.{by-same-test}
 use Rattle.input.specs.Digits.{wordsOf}
 use Rattle.input.specs.Parsing.{isCatalogLine, isMapLine, withFrame, withRegisters, mapFrom, catalogFrom, parsed}
 use Rattle.input.proofs.CutLines.{Cut, whole, nothing, within, behind, cut-lines}

@@ -5,7 +5,7 @@ use Prim.Native.Nat.{ℕ, _+_, _-_, _*_, _<_}
 use native.Mathlib.Omega.{arith}
 use lib.Dec.{eqb, ltb}
 use lib.ListN.{length, drop, length-append}
-use Rattle.registers.proofs.TestOutcomes.{by-test}
+use Rattle.lists.proofs.TestOutcomes.{impossible, by-test}
 use Rattle.input.specs.Lines.{lines}
 use Rattle.input.specs.Digits.{wordsOf}
 use Rattle.input.specs.Parsing.{isCatalogLine, isMapLine, Input, refused, words, withFrame, withRegisters, mapFrom, catalogFrom}
@@ -17,7 +17,7 @@ use Rattle.input.proofs.WordRuns.{line-passed}
 -- Where a text has lines, the first and those behind it are the text's own.
 some-bytes : (t l : List ℕ) (ls : List (List ℕ)) → lines t ≡ l ∷ ls → 0 < length t
 unfolding lines
-some-bytes [] l ls e = let z : _≡_ {A = ℕ} 0 1 = cc in absurd (omega arith)
+some-bytes [] l ls e = impossible (cc)
 some-bytes (b ∷ bs) l ls e = omega arith
 
 -- A first line of k words, and as many words behind it as are asked for.
@@ -37,11 +37,11 @@ first-words t l ls k ws e n m rest =
 
 -- What is put in front can be taken off again.
 registers-off : (ws : List ℕ) (x : Input) (c m : List ℕ) → withRegisters ws x ≡ words c m → (n : List ℕ) × (x ≡ words c n) × (m ≡ ws ++ n)
-registers-off ws (refused number place) c m e = let z : _≡_ {A = ℕ} 0 1 = cc in absurd (omega arith)
+registers-off ws (refused number place) c m e = impossible (cc)
 registers-off ws (words catalog map) c m e = (map, (cc), (cc))
 
 frame-off : (ws : List ℕ) (x : Input) (c m : List ℕ) → withFrame ws x ≡ words c m → (n : List ℕ) × (x ≡ words n m) × (c ≡ ws ++ n)
-frame-off ws (refused number place) c m e = let z : _≡_ {A = ℕ} 0 1 = cc in absurd (omega arith)
+frame-off ws (refused number place) c m e = impossible (cc)
 frame-off ws (words catalog map) c m e = (catalog, (cc), (cc))
 
 -- The map's lines give no catalog.
@@ -51,11 +51,11 @@ map-only [] number room c m = λ q. cc
 map-only (l ∷ ls) number room c m =
     let Goal : Input → Type 0 = λ x. x ≡ words c m → c ≡ [] in
     by-test Goal (isMapLine l)
-    (λ _. by-test Goal (ltb room (length (wordsOf l))) (λ _ q. let z : _≡_ {A = ℕ} 0 1 = cc in absurd (omega arith))
+    (λ _. by-test Goal (ltb room (length (wordsOf l))) (λ _ q. impossible (cc))
     (λ _ q.
     let off = registers-off (wordsOf l) (mapFrom (number + 1) (room - length (wordsOf l)) ls) c m q in
     map-only ls (number + 1) (room - length (wordsOf l)) c (off .0) (off .1)))
-    (λ _ q. let z : _≡_ {A = ℕ} 0 1 = cc in absurd (omega arith))
+    (λ _ q. impossible (cc))
 
 pub map-words : (ls : List (List ℕ)) (t : List ℕ) (number room : ℕ) (c m : List ℕ) → lines t ≡ ls → mapFrom number room ls ≡ words c m
     → wordsFrom (length m) t ≡ m
@@ -66,26 +66,26 @@ map-words (l ∷ ls) t number room c m e =
     let next = number + 1 in
     let left = room - length (wordsOf l) in
     by-test Goal (isMapLine l)
-    (λ good. by-test Goal (ltb room (length (wordsOf l))) (λ _ q. let z : _≡_ {A = ℕ} 0 1 = cc in absurd (omega arith))
+    (λ good. by-test Goal (ltb room (length (wordsOf l))) (λ _ q. impossible (cc))
     (λ _ q.
     let off = registers-off (wordsOf l) (mapFrom next left ls) c m q in
     rw (off .2)
     (first-words t l ls (length (wordsOf l)) (off .0) e (map-line l good .1) refl (λ u d. map-words ls u next left c (off .0) d (off .1)))))
-    (λ _ q. let z : _≡_ {A = ℕ} 0 1 = cc in absurd (omega arith))
+    (λ _ q. impossible (cc))
 
 pub catalog-words : (ls : List (List ℕ)) (t : List ℕ) (number frames registers : ℕ) (c m : List ℕ) → lines t ≡ ls
     → catalogFrom number frames registers ls ≡ words c m → wordsFrom (length c) t ≡ c
 unfolding catalogFrom wordsFrom
-catalog-words [] t number frames registers c m e = λ q. let z : _≡_ {A = ℕ} 0 1 = cc in absurd (omega arith)
+catalog-words [] t number frames registers c m e = λ q. impossible (cc)
 catalog-words (l ∷ ls) t number frames registers c m e =
     let Goal : Input → Type 0 = λ x. x ≡ words c m → wordsFrom (length c) t ≡ c in
     let next = number + 1 in
     by-test Goal (eqb (length l) 0) (λ _ q. let z : c ≡ [] = map-only ls next registers c m q in rw z)
     (λ _. by-test Goal (isCatalogLine l)
-    (λ good. by-test Goal (eqb frames 0) (λ _ q. let z : _≡_ {A = ℕ} 0 1 = cc in absurd (omega arith))
+    (λ good. by-test Goal (eqb frames 0) (λ _ q. impossible (cc))
     (λ _ q.
     let off = frame-off (wordsOf l) (catalogFrom next (frames - 1) registers ls) c m q in
     let line = catalog-line l good in
     rw (off .2)
     (first-words t l ls 8 (off .0) e (line .0) (line .1) (λ u d. catalog-words ls u next (frames - 1) registers (off .0) m d (off .1)))))
-    (λ _ q. let z : _≡_ {A = ℕ} 0 1 = cc in absurd (omega arith)))
+    (λ _ q. impossible (cc)))

@@ -6,11 +6,10 @@ use native.Mathlib.Omega.{arith}
 use borrow.Author.Tests.{ltb-false, eqb-false}
 use lib.Dec.{eqb, ltb}
 use lib.ListN.{length, length-append}
-use Rattle.registers.proofs.TestOutcomes.{by-test}
+use Rattle.lists.proofs.TestOutcomes.{by-test}
 use Rattle.input.specs.Lines.{lines}
 use Rattle.input.specs.Digits.{wordsOf}
-use Rattle.input.specs.Parsing.{Input, refused, words, isCatalogLine, isMapLine, withFrame, withRegisters}
-use Rattle.input.specs.Parsing.{mapFrom, catalogFrom, parsed}
+use Rattle.input.specs.Parsing.{Input, refused, words, isCatalogLine, isMapLine, withFrame, withRegisters, mapFrom, catalogFrom, parsed}
 use Rattle.input.proofs.GoodLines.{catalog-line}
 
 -- The outcomes for so many lines, with room for so many frames and registers. 50 and 52 are told at one of the lines, 51 just

@@ -4,6 +4,7 @@ use mathlib.Core.List.{List}
 use Prim.Native.Nat.{ℕ, _*_, _/_}
 use native.Mathlib.Omega.{arith}
 use lib.ListN.{length}
+use Rattle.lists.proofs.TestOutcomes.{impossible}
 use Rattle.input.specs.Lines.{lines}
 use Rattle.input.specs.Parsing.{Input, refused, words, parsed}
 use Rattle.input.specs.Answers.{parsedTold, refusedTold, told}
@@ -11,7 +12,7 @@ use Rattle.input.proofs.Refusals.{Outcome, outcome}
 
 pub told-refused : (x : Input) (number place : ℕ) → refusedTold number place ≡ told x → x ≡ refused number place
 told-refused (refused n p) number place e = cc
-told-refused (words c m) number place e = let z : _≡_ {A = ℕ} 0 1 = cc in absurd (omega arith)
+told-refused (words c m) number place e = impossible (cc)
 
 -- The words of an input that is told by its counts.
 pub record Words (x : Input) (frames registers : ℕ) : Type 0 where
@@ -22,7 +23,7 @@ pub record Words (x : Input) (frames registers : ℕ) : Type 0 where
   pub register-count : registers ≡ length map
 
 pub told-words : (x : Input) (frames registers : ℕ) → parsedTold frames registers ≡ told x → Words x frames registers
-told-words (refused n p) frames registers e = let z : _≡_ {A = ℕ} 0 1 = cc in absurd (omega arith)
+told-words (refused n p) frames registers e = impossible (cc)
 told-words (words c m) frames registers e =
     record { catalog = c; map = m; is = refl; frame-count = cc; register-count = cc }
 
@@ -32,7 +33,7 @@ pub whole-frames : (text : List ℕ) (frames registers : ℕ) (c m : List ℕ) �
 whole-frames text frames registers c m e = go (parsed text frames registers) (outcome text frames registers) e
   where
     go : (x : Input) → Outcome (length (lines text)) frames registers x → x ≡ words c m → length c / 8 * 8 ≡ length c
-    go x (Outcome.badLine place h k) q = let z : _≡_ {A = ℕ} 0 1 = cc in absurd (omega arith)
-    go x (Outcome.noEmptyLine place h) q = let z : _≡_ {A = ℕ} 0 1 = cc in absurd (omega arith)
-    go x (Outcome.noRoom place h k) q = let z : _≡_ {A = ℕ} 0 1 = cc in absurd (omega arith)
+    go x (Outcome.badLine place h k) q = impossible (cc)
+    go x (Outcome.noEmptyLine place h) q = impossible (cc)
+    go x (Outcome.noRoom place h k) q = impossible (cc)
     go x (Outcome.given d n k h i j) q = let s : d ≡ c = cc in omega (arith, h, ap length s)

@@ -7,7 +7,7 @@ use native.Mathlib.Omega.{arith}
 use borrow.Author.Tests.{eq-eqb, ne-eqb, le-leb, le-ltb}
 use lib.Dec.{eqb}
 use lib.ListN.{length, take, drop}
-use Rattle.registers.proofs.TestOutcomes.{clash, both}
+use Rattle.lists.proofs.TestOutcomes.{clash, both}
 use Rattle.input.specs.Lines.{lineFeed, withByte, lines}
 use Rattle.input.specs.Digits.{digitValue, isDigit, areDigits}
 use Rattle.input.specs.Parsing.{isCatalogLine, isMapLine, withFrame, withRegisters, mapFrom, catalogFrom}

@@ -4,11 +4,11 @@ use mathlib.Core.Bool.{Bool, true, false}
 use mathlib.Core.List.{List, [], _∷_}
 use mathlib.Core.Option.{none, some}
 use Prim.Native.Nat.{ℕ, _/_, _≤_}
-use native.Mathlib.Omega.{arith}
 use borrow.Author.Tests.{eqb-true}
 use lib.Dec.{eqb}
 use lib.ListN.{length}
-use Rattle.registers.specs.Each.{Each}
+use Rattle.lists.specs.Each.{Each}
+use Rattle.lists.proofs.TestOutcomes.{impossible}
 use Rattle.catalog.specs.Definitions.{Content, Definition, definitions}
 use Rattle.catalog.specs.Soundness.{SoundPoint, SoundGroups, SoundDefinition}
 use Rattle.catalog.proofs.AcceptedSteps.{accepted-start}
@@ -25,7 +25,7 @@ accepted-few ws a = accepted-start ws (a .0) .0 (a .1) .1
 found : (P : Definition → Type 0) (ds : List Definition) (id : ℕ) (c : Content) → Each P ds → topOf id ds ≡ some c
     → (d : Definition) × P d × (d .id ≡ id) × (d .top ≡ c)
 unfolding topOf
-found P [] id c s e = let z : _≡_ {A = ℕ} 0 1 = cc in absurd (omega arith)
+found P [] id c s e = impossible (cc)
 found P (d ∷ ds) id c s e = go (eqb (d .id) id) refl (found P ds id c (s .1)) e
   where
     go : (b : Bool) → eqb (d .id) id ≡ b → (topOf id ds ≡ some c → (d : Definition) × P d × (d .id ≡ id) × (d .top ≡ c))

@@ -9,14 +9,14 @@ use native.Mathlib.Omega.{arith}
 use borrow.Author.Tests.{ne-eqb, le-leb, lt-leb, leb-true}
 use lib.Dec.{leb, ltb}
 use lib.ListN.{length, length-map}
-use Rattle.registers.proofs.TestOutcomes.{clash, by-test, both}
+use Rattle.lists.proofs.TestOutcomes.{impossible, clash, by-test, both}
+use Rattle.lists.proofs.EachLaws.{each-implied}
 use Rattle.register_map.specs.Scan.{Model, totalSize, marked}
 use Rattle.register_map.specs.Insertion.{placed, gapsBefore}
 use Rattle.register_map.proofs.Before.{before-model}
 use Rattle.listing.specs.Reading.{Reading}
 use Rattle.listing.specs.Listing.{Record, recordWidth, Answer, refused, listed, walk, withRoom}
 use Rattle.listing.specs.Stability.{shifted, movedAnswer, AreLower, MovedByLower}
-use Rattle.listing.proofs.EachLaws.{each-implied}
 use Rattle.listing.proofs.RefusalNumbers.{Between}
 use Rattle.listing.proofs.WalkHeaders.{HeadersWalked, walk-headers}
 use Rattle.listing.proofs.WalkMoved.{movedWalk}
@@ -31,7 +31,7 @@ By27To29 (listed rs headers) = Unit {0}
 marked-refusals : (index at : ℕ) (ms : List Model) (a : Answer) → HeadersWalked marked index at ms a → By27To29 a
 marked-refusals index at ms (listed rs headers) w = tt
 marked-refusals index at ms (refused number place headers) w =
-    ⊎-elim (λ e. let z : _≡_ {A = ℕ} 0 1 = cc (w .atEnd e) in absurd (omega arith)) (λ l. w .atModel l)
+    ⊎-elim (λ e. impossible (cc (w .atEnd e))) (λ l. w .atModel l)
     (eq-or-lt-of-le (w .within))
 
 pub walk-refusals : (read : Model → Reading) (index at : ℕ) (ms : List Model) → By27To29 (walk read marked index at ms)

@@ -7,19 +7,20 @@ use native.Mathlib.Nat.{suc-mul, zero-add}
 use native.Mathlib.Omega.{arith}
 use lib.Dec.{ltb}
 use lib.ListN.{length, set}
-use Rattle.registers.specs.Each.{Each}
-use Rattle.registers.proofs.TestOutcomes.{by-test}
+use Rattle.lists.specs.Each.{Each}
+use Rattle.lists.specs.Members.{In, first}
+use Rattle.lists.proofs.TestOutcomes.{impossible, by-test}
+use Rattle.lists.proofs.EachLaws.{each-implied, each-append}
+use Rattle.lists.proofs.InLaws.{in-front, in-behind, all-in}
 use Rattle.catalog.specs.Frames.{Point, Head}
 use Rattle.catalog.specs.Definitions.{Groups, noGroup, group, Definition, pointsSize}
-use Rattle.catalog.specs.Soundness.{SoundPoint, SoundGroups, SoundDefinition, In, first}
+use Rattle.catalog.specs.Soundness.{SoundPoint, SoundGroups, SoundDefinition}
 use Rattle.catalog.proofs.GroupSizes.{point-size}
 use Rattle.listing.specs.Points.{ModelPoint, Scope, pointAt}
 use Rattle.listing.specs.Layout.{within, topScope, groupsSize, countUnimplemented, fits, countsOf, noInstance, pointsAt, instances, groupsAt, contentAt}
 use Rattle.listing.specs.Reading.{Reading, faulty, points, Fault, endsWithPad, allButLast, padLeftOut, laidOut, readBy}
 use Rattle.listing.specs.Tiling.{lowerPoints, definedPoints, Tiles, BodyTiled}
 use Rattle.listing.proofs.Sizes.{laid-size}
-use Rattle.listing.proofs.EachLaws.{each-implied, each-append}
-use Rattle.listing.proofs.InLaws.{in-front, in-behind, all-in}
 use Rattle.listing.proofs.LeftOutPad.{without-pad, each-but-last, left-out}
 
 -- One tiling behind another.
@@ -185,7 +186,7 @@ pad-tiled d s body t l =
 
 -- No fault is a reading of points.
 pub not-points : {A : Type 0} (fault : Fault) (ps : List ModelPoint) → faulty fault ≡ points ps → A
-not-points fault ps e = let z : _≡_ {A = ℕ} 0 1 = cc in absurd (omega arith)
+not-points fault ps e = impossible (cc)
 
 -- A model that is read by a sound definition.
 pub read-tiled : (d : Definition) → SoundDefinition d → (id : ℕ) (body : List ℕ) (ps : List ModelPoint)

@@ -7,9 +7,10 @@ use Prim.Native.Nat.{ℕ, suc, _+_}
 use borrow.Author.Tests.{eqb-true}
 use lib.Dec.{eqb}
 use lib.ListN.{length}
+use Rattle.lists.specs.Members.{In}
 use Rattle.catalog.specs.Frames.{Point, Head, constantCount, countByPoint, fill}
 use Rattle.catalog.specs.Definitions.{Groups, noGroup, group, pointsSize}
-use Rattle.catalog.specs.Soundness.{In, SoundHead, SoundGroups}
+use Rattle.catalog.specs.Soundness.{SoundHead, SoundGroups}
 use Rattle.catalog.proofs.References.{count-point-found}
 use Rattle.listing.specs.Points.{Scope}
 use Rattle.listing.specs.Layout.{countOf, groupsSize, fillSize, countUnimplemented}

@@ -8,7 +8,7 @@ use native.Mathlib.Omega.{arith}
 use borrow.Author.Tests.{eqb-true}
 use lib.Dec.{eqb}
 use lib.ListN.{length}
-use Rattle.registers.proofs.TestOutcomes.{clash}
+use Rattle.lists.proofs.TestOutcomes.{impossible, clash}
 use Rattle.catalog.specs.Frames.{Point, Head, countByPoint, fill}
 use Rattle.catalog.specs.Definitions.{Groups, noGroup, group, pointsSize}
 use Rattle.listing.specs.Points.{Scope}
@@ -82,7 +82,7 @@ none-yet : (behind : Groups) (r : Extent) (fills : Bool) → (fills ≡ true →
     → (fills ≡ false → (r .«fill_size» ≡ 0) × (r .«fill_points» ≡ 0)) → NoFillYet behind r
 none-yet noGroup r fills last z = tt
 none-yet (group h ps inside behind) r true last z =
-    let e = last refl in let n : _≡_ {A = ℕ} 0 1 = cc in absurd (omega arith)
+    let e = last refl in impossible (cc)
 none-yet (group h ps inside behind) r false last z = z refl
 
 module _ (top : Scope) (all : Groups) where

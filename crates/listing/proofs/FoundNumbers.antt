@@ -9,8 +9,11 @@ use native.Mathlib.Decide.{decLe}
 use borrow.Author.Tests.{eq-eqb, ne-eqb}
 use lib.Dec.{eqb}
 use lib.ListN.{getD}
-use Rattle.registers.specs.Each.{Each}
-use Rattle.registers.proofs.TestOutcomes.{by-test}
+use Rattle.lists.specs.Each.{Each}
+use Rattle.lists.specs.Tests.{firstWith}
+use Rattle.lists.proofs.TestOutcomes.{impossible, by-test}
+use Rattle.lists.proofs.EachLaws.{each-append, each-one}
+use Rattle.lists.proofs.FirstFound.{found-in}
 use Rattle.point_types.proofs.Table.{no-row-outside}
 use Rattle.catalog.specs.Frames.{Point}
 use Rattle.catalog.specs.Checking.{accepted, checked}
@@ -24,11 +27,9 @@ use Rattle.listing.specs.Points.{ModelPoint}
 use Rattle.listing.specs.Reading.{Reading, unknown, faulty, points, reading}
 use Rattle.listing.specs.Listing.{Record, recordOf, listed, walk, walked, allRecords}
 use Rattle.listing.specs.Listing as Listing
-use Rattle.listing.specs.Finding.{firstWith, isRecord, Finding, refused, nothing, found, finding, Told, refusedTold, nothingTold, foundTold, told}
+use Rattle.listing.specs.Finding.{isRecord, Finding, refused, nothing, found, finding, Told, refusedTold, nothingTold, foundTold, told}
 use Rattle.listing.specs.Promises.{foundNumbers, foundIn, NarrowFound, targetIn, toldBy}
 use Rattle.listing.specs.declared.records.Sought.{Sought}
-use Rattle.listing.proofs.EachLaws.{each-append, each-one}
-use Rattle.listing.proofs.FirstFound.{found-in}
 use Rattle.listing.proofs.ReadingSteps.{reading-none, reading-first}
 use Rattle.listing.proofs.PointClasses.{row-of-size}
 use Rattle.listing.proofs.ListedPoints.{listed-by, all-sound}
@@ -48,8 +49,7 @@ sized-code code size e =
       | no h ↦ let r = row-of-size code size e in
           let n = no-row-outside code (λ l k. h k) in
           let q = sym n ∙ r .1 in
-          let z : _≡_ {A = ℕ} 0 1 = cc in
-          absurd (omega arith)
+          impossible (cc)
     ]
 
 sound-narrow : (reach : List Point) (p : Point) → SoundPoint reach p → Narrow p
@@ -61,7 +61,7 @@ sound-narrow reach p s =
 -- So are those of each point that sound definitions read.
 reading-narrow : (ds : List Definition) → Each SoundDefinition ds → (m : Model) (ps : List ModelPoint) → reading ds m ≡ points ps
     → Each (λ p. Narrow (p .definition)) ps
-reading-narrow [] s m ps e = let n = sym (reading-none m) ∙ e in let z : _≡_ {A = ℕ} 0 1 = cc in absurd (omega arith)
+reading-narrow [] s m ps e = let n = sym (reading-none m) ∙ e in impossible (cc)
 reading-narrow (d ∷ ds) s m ps e =
     by-test (λ r. r ≡ points ps → Each (λ p. Narrow (p .definition)) ps) (eqb (d .id) (m .id))
     (λ t. listed-by Narrow (m .body) d (all-sound Narrow sound-narrow d (s .0)) (m .id) ps)

@@ -5,12 +5,12 @@ use mathlib.Core.List.{List, [], _∷_, _++_}
 use Prim.Native.Nat.{ℕ}
 use borrow.Author.Tests.{eqb-true, eq-eqb}
 use lib.Dec.{eqb}
-use Rattle.registers.proofs.TestOutcomes.{clash}
+use Rattle.lists.specs.Members.{among, Distinct, In, first, later}
+use Rattle.lists.proofs.TestOutcomes.{clash}
+use Rattle.lists.proofs.TestLaws.{neither}
 use Rattle.catalog.specs.Frames.{Point, Head, Frame, modelFrame, groupFrame, pointFrame, endFrame, malformed}
-use Rattle.catalog.specs.Rules.{among}
 use Rattle.catalog.specs.Definitions.{Groups, group, pointFrames, groupFrames}
-use Rattle.catalog.specs.Soundness.{Distinct, numbersOf, In, first, later}
-use Rattle.catalog.proofs.TestLaws.{neither}
+use Rattle.catalog.specs.Soundness.{numbersOf}
 
 -- ---- Lists of numbers
 

@@ -13,15 +13,15 @@ use mathlib.Core.Option.{some}
 use Prim.Native.Nat.{ℕ, _+_, _≤_}
 use lib.Dec.{eqb, leb}
 use lib.ListN.{length, length-map}
-use Rattle.registers.specs.Each.{Each}
-use Rattle.registers.proofs.TestOutcomes.{by-test}
+use Rattle.lists.specs.Each.{Each}
+use Rattle.lists.proofs.TestOutcomes.{by-test}
+use Rattle.lists.proofs.EachLaws.{each-implied}
 use Rattle.register_map.specs.Scan.{Model, totalSize, scan, WellFormed}
 use Rattle.register_map.specs.Insertion.{placed, lengthened, gapsBefore}
 use Rattle.register_map.proofs.PlacedModels.{placed-length}
 use Rattle.register_map.proofs.Lengthened.{lengthened-scan, lengthened-length, lengthened-none}
 use Rattle.listing.specs.Listing.{Record, recordNumbers, Answer, refused, listed, listing, pointCount, stored, told}
 use Rattle.listing.specs.Stability.{MadeOfWholeModels, UnknownModel, shifted, movedAnswer, MovedByLower, refusalNumber}
-use Rattle.listing.proofs.EachLaws.{each-implied}
 use Rattle.listing.proofs.WholeMaps.{whole-ends, whole-models, lengthened-models}
 use Rattle.listing.proofs.ListingMoved.{listing-moved}
 

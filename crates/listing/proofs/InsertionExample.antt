@@ -4,8 +4,8 @@ use mathlib.Core.List.{List, [], _∷_}
 use Prim.Native.Nat.{ℕ, _≤_}
 use native.Mathlib.Omega.{arith}
 use lib.ListN.{length}
+use Rattle.lists.specs.Each.{Each}
 use Rattle.registers.specs.Registers.{join, shownRaw, tooWide}
-use Rattle.registers.specs.Each.{Each}
 use Rattle.point_types.specs.Rows.{rows, rowAmong, registersOf}
 use Rattle.values.specs.Classes.{inRange, classOf, classified}
 use Rattle.catalog.specs.Frames.{frameOf, framesFrom}

@@ -6,16 +6,16 @@ use mathlib.Core.Option.{some}
 use Prim.Native.Nat.{ℕ, suc, _+_, _-_, _/_, _≤_}
 use native.Mathlib.Omega.{arith}
 use lib.ListN.{length}
+use Rattle.lists.specs.Members.{among, Distinct, In}
+use Rattle.lists.proofs.InLaws.{in-behind, in-either}
 use Rattle.catalog.specs.Frames.{Point, Head, frameIn}
-use Rattle.catalog.specs.Rules.{among}
 use Rattle.catalog.specs.Definitions.{Groups, noGroup, group, Definition, groupFrames, definitions}
-use Rattle.catalog.specs.Soundness.{Distinct, numbersOf, In, SoundGroups, SoundDefinition}
+use Rattle.catalog.specs.Soundness.{numbersOf, SoundGroups, SoundDefinition}
 use Rattle.listing.specs.Reading.{topOf}
 use Rattle.listing.specs.Walks.{heldAt, Stands, pastEnd, Accepted, headOf, levelOf, SoundAt, AtGroups}
 use Rattle.listing.proofs.GroupNumbers.{point-among, apart, none-of-parts}
 use Rattle.listing.proofs.Standing as standing
 use Rattle.listing.proofs.AcceptedModels as models
-use Rattle.listing.proofs.InLaws.{in-behind, in-either}
 
 -- Sound groups at a level, apart from the points around them.
 pub record SoundBelow (top enclosing : List Point) (level : ℕ) (g : Groups) : Type 0 where

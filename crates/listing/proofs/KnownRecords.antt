@@ -3,16 +3,16 @@ use mathlib.Core.Path.{_≡_, refl, subst}
 use mathlib.Core.Bool.{Bool, true, false}
 use mathlib.Core.List.{List, [], _∷_, map}
 use Prim.Native.Nat.{ℕ, _+_}
-use native.Mathlib.Omega.{arith}
-use Rattle.registers.specs.Each.{Each}
-use Rattle.catalog.specs.Rules.{among}
+use Rattle.lists.specs.Each.{Each}
+use Rattle.lists.specs.Members.{among}
+use Rattle.lists.proofs.TestOutcomes.{impossible}
+use Rattle.lists.proofs.EachLaws.{each-append}
 use Rattle.catalog.specs.Definitions.{Definition, definitions}
 use Rattle.catalog.specs.Soundness.{idsOf}
 use Rattle.register_map.specs.Scan.{Model, sizeOf, Ending, marked, broken, scan}
 use Rattle.listing.specs.Points.{ModelPoint}
 use Rattle.listing.specs.Reading.{Reading, unknown, faulty, points, reading}
 use Rattle.listing.specs.Listing.{Record, recordOf, Answer, refused, listed, withRecords, walk, listing}
-use Rattle.listing.proofs.EachLaws.{each-append}
 use Rattle.listing.proofs.WalkSteps.{walk-unknown, walk-faulty, walk-points}
 use Rattle.listing.proofs.ReadingLeft.{unknown-left}
 use Rattle.listing.proofs.WalksBehind.{listed-walks}
@@ -35,7 +35,7 @@ module _ (ds : List Definition) where
   known-model : (m : Model) {ps : List ModelPoint} → reading ds m ≡ points ps → (b : Bool) → among (m .id) (idsOf ds) ≡ b
       → b ≡ true
   known-model m e true a = refl
-  known-model m e false a = let u = unknown-left [] ds m a in let z : _≡_ {A = ℕ} 0 1 = cc in absurd (omega arith)
+  known-model m e false a = let u = unknown-left [] ds m a in impossible (cc)
 
   known-points : (index at : ℕ) (m : Model) → among (m .id) (idsOf ds) ≡ true → (ps : List ModelPoint)
       → Each Known (map (recordOf index at (m .id)) ps)

@@ -5,13 +5,14 @@ use mathlib.Core.List.{List, [], _∷_}
 use Prim.Native.Nat.{ℕ}
 use borrow.Author.Tests.{eqb-true, eqb-false, eq-eqb, ne-eqb}
 use lib.Dec.{eqb}
-use Rattle.registers.specs.Each.{Each}
-use Rattle.registers.proofs.TestOutcomes.{clash}
-use Rattle.catalog.specs.Rules.{among}
+use Rattle.lists.specs.Each.{Each}
+use Rattle.lists.specs.Members.{among, Distinct}
+use Rattle.lists.specs.Tests.{keptBy}
+use Rattle.lists.proofs.TestOutcomes.{clash}
+use Rattle.lists.proofs.TestLaws.{neither}
 use Rattle.catalog.specs.Definitions.{Definition, definitions}
-use Rattle.catalog.specs.Soundness.{Distinct, idsOf}
-use Rattle.catalog.specs.Removal.{keptBy, keeping}
-use Rattle.catalog.proofs.TestLaws.{neither}
+use Rattle.catalog.specs.Soundness.{idsOf}
+use Rattle.catalog.specs.Removal.{keeping}
 use Rattle.catalog.proofs.ModelIds.{ids-distinct}
 use Rattle.catalog.proofs.Removal as catalogs
 use Rattle.listing.specs.Listing.{Record, listed, listing}

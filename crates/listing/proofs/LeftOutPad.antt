@@ -8,8 +8,8 @@ use native.Mathlib.Omega.{arith}
 use borrow.Author.Tests.{lt-ltb, le-ltb, eq-eqb, ne-eqb, eqb-true, leb-true}
 use lib.Dec.{eqb, leb}
 use lib.ListN.{length}
-use Rattle.registers.specs.Each.{Each}
-use Rattle.registers.proofs.TestOutcomes.{clash, both}
+use Rattle.lists.specs.Each.{Each}
+use Rattle.lists.proofs.TestOutcomes.{clash, both}
 use Rattle.point_types.specs.Rows.{rows, rowAmong, registersOf}
 use Rattle.catalog.specs.Frames.{Point, Head, frameIn, pad}
 use Rattle.catalog.specs.Rules.{isSizeOf}

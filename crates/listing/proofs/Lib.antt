@@ -11,12 +11,10 @@ pub mod OnePoint
 pub mod WorkedCases
 pub mod InsertionExample
 pub mod RemovalExample
--- Laws of lists
-pub mod EachLaws
-pub mod InLaws
 -- Laws of the layout of a model
 pub mod Sizes
 pub mod PointCounts
+pub mod InstancePairs
 pub mod GroupNumbers
 pub mod CountsAgree
 pub mod ReachOnly
@@ -74,7 +72,6 @@ pub mod MapSteps
 pub mod MapSurvey
 pub mod Searches
 pub mod MapRecords
-pub mod FirstFound
 pub mod Readings
 pub mod ListedPoints
 pub mod FoundNumbers

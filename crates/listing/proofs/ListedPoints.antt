@@ -4,7 +4,8 @@ use mathlib.Core.Bool.{true}
 use mathlib.Core.List.{List, [], _∷_, _++_}
 use Prim.Native.Nat.{ℕ, zero, suc, _+_, _*_, _-_}
 use lib.ListN.{set}
-use Rattle.registers.specs.Each.{Each}
+use Rattle.lists.specs.Each.{Each}
+use Rattle.lists.proofs.EachLaws.{each-implied, each-append, each-parts}
 use Rattle.catalog.specs.Frames.{Point, Head}
 use Rattle.catalog.specs.Rules.{isSizeOf}
 use Rattle.catalog.specs.Definitions.{Groups, noGroup, group, Definition, pointsSize}
@@ -13,7 +14,6 @@ use Rattle.listing.specs.Points.{ModelPoint, Scope, pointAt}
 use Rattle.listing.specs.Layout.{within, topScope, groupsSize, countsOf, noInstance, pointsAt, instances, groupsAt, contentAt}
 use Rattle.listing.specs.Reading.{points, allButLast, readBy}
 use Rattle.listing.specs.Tiling.{lowerPoints, definedPoints}
-use Rattle.listing.proofs.EachLaws.{each-implied, each-append, each-parts}
 use Rattle.listing.proofs.LeftOutPad.{each-but-last}
 use Rattle.listing.proofs.Readings.{by-reading}
 

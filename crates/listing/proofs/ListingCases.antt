@@ -3,11 +3,10 @@ use mathlib.Core.Path.{_≡_, refl, sym, ap, _∙_}
 use mathlib.Core.List.{List}
 use mathlib.Core.Option.{Option, none, some}
 use Prim.Native.Nat.{ℕ, _*_, _≤_, _<_}
-use native.Mathlib.Omega.{arith}
 use borrow.Author.Tests.{ltb-true, ltb-false, le-ltb}
 use lib.Dec.{ltb}
 use lib.ListN.{length}
-use Rattle.registers.proofs.TestOutcomes.{by-test}
+use Rattle.lists.proofs.TestOutcomes.{impossible, by-test}
 use Rattle.catalog.specs.Checking as Checking
 use Rattle.catalog.specs.Definitions.{definitions}
 use Rattle.register_map.specs.Headers.{opening}
@@ -127,8 +126,7 @@ module _ (catalog map : List ℕ) where
           → Walks catalog map (listed rs headers)
       by-opening a (some k) o =
           let q = sym e ∙ records-accepted a ∙ unopened (reading (definitions catalog)) map o in
-          let z : _≡_ {A = ℕ} 0 1 = cc in
-          absurd (omega arith)
+          impossible (cc)
       by-opening {n} a none o =
           record {
             models = n;
@@ -140,8 +138,7 @@ module _ (catalog map : List ℕ) where
       by-verdict : (v : Checking.Verdict) → Checking.checked catalog ≡ v → Walks catalog map (listed rs headers)
       by-verdict (Checking.refused n place) c =
           let q = sym e ∙ records-refused c in
-          let z : _≡_ {A = ℕ} 0 1 = cc in
-          absurd (omega arith)
+          impossible (cc)
       by-verdict (Checking.accepted n) c = by-opening c (opening map) refl
 
   -- And where a walk comes to an answer, it is that of all records.

@@ -3,10 +3,11 @@ use mathlib.Core.Path.{_≡_, refl, sym, ap, _∙_}
 use mathlib.Core.List.{List, []}
 use Prim.Native.Nat.{ℕ}
 use lib.ListN.{length}
-use Rattle.registers.specs.Each.{Each}
+use Rattle.lists.specs.Each.{Each}
+use Rattle.lists.specs.Members.{among}
+use Rattle.lists.proofs.EachLaws.{each-implied}
 use Rattle.catalog.specs.Checking.{Verdict, accepted, checked}
 use Rattle.catalog.specs.Checking as Checking
-use Rattle.catalog.specs.Rules.{among}
 use Rattle.catalog.specs.Definitions.{definitions}
 use Rattle.catalog.proofs.ModelIds.{ids-of-model-frames}
 use Rattle.register_map.specs.Scan.{Model, marked}
@@ -14,7 +15,6 @@ use Rattle.register_map.specs.Insertion.{allModels, placed}
 use Rattle.listing.specs.Reading.{unknown, reading}
 use Rattle.listing.specs.Listing.{Answer, walk, withRoom, listing}
 use Rattle.listing.specs.Stability.{UnknownModel, movedAnswer, MovedByLower}
-use Rattle.listing.proofs.EachLaws.{each-implied}
 use Rattle.listing.proofs.RefusalNumbers.{catalog-number}
 use Rattle.listing.proofs.ListingCases.{catalog-refused, listing-walks}
 use Rattle.listing.proofs.ReadingLeft.{unknown-left}

@@ -10,6 +10,7 @@ use borrow.Author.Tests.{eqb-true, le-leb}
 use lib.Dec.{eqb}
 use lib.ListN.{length, drop, getD, length-append, length-map}
 use lib.Seq.{sets, sets-eq, length-sets}
+use Rattle.lists.specs.Tests.{firstWith}
 use Rattle.register_map.specs.Headers.{model, endMarker, refused, headerAt}
 use Rattle.register_map.specs.Scan.{Model}
 use Rattle.register_map.proofs.HeaderCases.{model-ends}
@@ -17,7 +18,7 @@ use Rattle.listing.specs.Points.{ModelPoint}
 use Rattle.listing.specs.Reading.{Fault, Reading, unknown, faulty, points}
 use Rattle.listing.specs.Listing as Listing
 use Rattle.listing.specs.Listing.{Record, recordWidth, recordOf, Answer, listed, walked, entries, stored}
-use Rattle.listing.specs.Finding.{isRecord, firstWith}
+use Rattle.listing.specs.Finding.{isRecord}
 use Rattle.listing.specs.Walks.{pointsOf}
 use Rattle.listing.specs.Promises.{foundWidth, capacity, written, passedOver, metBy, foundIn, MapFits, behindMap}
 use Rattle.listing.specs.declared.records.Sought.{Sought}

@@ -6,6 +6,7 @@ use Prim.Native.Nat.{ℕ, _+_, _≤_, _<_}
 use native.Mathlib.Omega.{arith}
 use lib.Dec.{eqb}
 use lib.ListN.{length, drop, length-append, length-map}
+use Rattle.lists.proofs.TestOutcomes.{impossible}
 use Rattle.register_map.specs.Headers.{model, endMarker, refused, headerAt}
 use Rattle.register_map.specs.Scan.{Model}
 use Rattle.register_map.proofs.HeaderCases.{model-ends}
@@ -25,14 +26,14 @@ unknown-surveyed (points ps) e = cc
 
 refused-surveyed : (r : Reading) {n : ℕ} → surveyedRefused n ≡ surveyed r
     → (fault : Fault) × (r ≡ faulty fault) × (faultNumber fault ≡ n)
-refused-surveyed unknown e = let z : _≡_ {A = ℕ} 0 1 = cc in absurd (omega arith)
+refused-surveyed unknown e = impossible (cc)
 refused-surveyed (faulty fault) e = (fault, refl, cc)
-refused-surveyed (points ps) e = let z : _≡_ {A = ℕ} 0 1 = cc in absurd (omega arith)
+refused-surveyed (points ps) e = impossible (cc)
 
 points-surveyed : (r : Reading) {n : ℕ} → surveyedPoints n ≡ surveyed r
     → (ps : List ModelPoint) × (r ≡ points ps) × (length ps ≡ n)
-points-surveyed unknown e = let z : _≡_ {A = ℕ} 0 1 = cc in absurd (omega arith)
-points-surveyed (faulty fault) e = let z : _≡_ {A = ℕ} 0 1 = cc in absurd (omega arith)
+points-surveyed unknown e = impossible (cc)
+points-surveyed (faulty fault) e = impossible (cc)
 points-surveyed (points ps) e = (ps, refl, cc)
 
 -- A model that is unknown or refused has no points.

@@ -7,13 +7,14 @@ use native.Mathlib.Omega.{arith}
 use borrow.Author.Tests.{eq-eqb, ne-eqb}
 use lib.Dec.{eqb}
 use lib.ListN.{length}
-use Rattle.registers.specs.Each.{Each}
+use Rattle.lists.specs.Each.{Each}
+use Rattle.lists.proofs.TestOutcomes.{impossible}
+use Rattle.lists.proofs.EachLaws.{each-append}
 use Rattle.register_map.specs.Scan.{Model, sizeOf, totalSize, Ending, marked, broken}
 use Rattle.listing.specs.Points.{ModelPoint}
 use Rattle.listing.specs.Reading.{Reading, unknown, faulty, points}
 use Rattle.listing.specs.Listing.{Record, recordOf, listed, walk}
 use Rattle.listing.specs.Tiling.{recordsWith}
-use Rattle.listing.proofs.EachLaws.{each-append}
 use Rattle.listing.proofs.WalkSteps.{not-listed, in-front-listed, walk-unknown, walk-faulty, walk-points}
 
 -- ---- Records with an index
@@ -85,7 +86,7 @@ module _ (read : Model → Reading) (ending : Ending) where
     where
       go : (x : Ending) → walk read x i at [] ≡ listed rs headers → rs ≡ []
       go marked e = let same : [] ≡ rs = cc in sym same
-      go (broken number) e = let z : _≡_ {A = ℕ} 0 1 = cc in absurd (omega arith)
+      go (broken number) e = impossible (cc)
 
   -- From an index on, no record has a lower one.
   records-above : (ms : List Model) (i at : ℕ) (rs : List Record) (headers : ℕ)

@@ -9,10 +9,11 @@ use native.Mathlib.Omega.{arith}
 use borrow.Author.Tests.{eqb-true, ltb-false}
 use lib.Dec.{ltb}
 use lib.ListN.{length, getD}
-use Rattle.registers.specs.Each.{Each}
+use Rattle.lists.specs.Each.{Each}
+use Rattle.lists.specs.Members.{In, first, later}
 use Rattle.catalog.specs.Frames.{Point, sunssf, pad}
 use Rattle.catalog.specs.Definitions.{Groups, Content, pointsSize, definitions}
-use Rattle.catalog.specs.Soundness.{In, first, later, SoundPoint, SoundGroups, ScaleResolves}
+use Rattle.catalog.specs.Soundness.{SoundPoint, SoundGroups, ScaleResolves}
 use Rattle.catalog.proofs.References.{points-resolve}
 use Rattle.listing.specs.Points.{ModelPoint, Scope}
 use Rattle.listing.specs.Layout.{nothing, within, topScope, countOf, groupsSize, fillSizeOf, countUnimplemented, fits, fillOf, countsOf, pointsAt, groupsAt, noInstance, contentAt, restSize}

@@ -8,9 +8,10 @@ use borrow.Author.Tests.{eqb-true, eqb-false, lt-ltb, le-ltb}
 use lib.Dec.{eqb}
 use lib.ListN.{length, getD, drop, set, length-set}
 use lib.Seq.{getD-set-same, getD-set-other}
-use Rattle.registers.specs.Each.{Each}
+use Rattle.lists.specs.Each.{Each}
+use Rattle.lists.proofs.TestOutcomes.{by-test}
+use Rattle.lists.proofs.EachLaws.{each-drop}
 use Rattle.registers.specs.Registers.{allZero}
-use Rattle.registers.proofs.TestOutcomes.{by-test}
 use Rattle.catalog.specs.Frames.{Point, Frame, modelFrame, groupFrame, pointFrame, endFrame, malformed, frameOf, word, frameAt, framesFrom, frames}
 use Rattle.catalog.specs.Rules.{isSizeOf}
 use Rattle.catalog.specs.Definitions.{pointsSize, pointFrames, groupFrames}
@@ -18,7 +19,6 @@ use Rattle.catalog.proofs.GroupSizes.{type-size}
 use Rattle.listing.specs.Points.{Scope}
 use Rattle.listing.specs.Layout.{withPoint, within, pointsAt}
 use Rattle.listing.specs.Walks.{heldAt, Stands, scopeIn, noted, begun, IsTable}
-use Rattle.listing.proofs.EachLaws.{each-drop}
 
 -- ---- Noting
 

@@ -3,11 +3,11 @@ use mathlib.Core.Path.{_≡_, refl, sym, ap, subst, _∙_}
 use mathlib.Core.Bool.{true}
 use mathlib.Core.List.{List, [], _∷_, _++_, append-assoc, append-nil}
 use borrow.Author.Tests.{eq-eqb}
-use Rattle.registers.proofs.TestOutcomes.{clash}
+use Rattle.lists.specs.Members.{among, Distinct, In, first, later}
+use Rattle.lists.proofs.TestOutcomes.{clash}
 use Rattle.catalog.specs.Frames.{Point, Frame, modelFrame, groupFrame, pointFrame, endFrame, malformed}
-use Rattle.catalog.specs.Rules.{among}
 use Rattle.catalog.specs.Definitions.{Groups, noGroup, group, Definition, pointFrames, groupFrames, definitionFrames}
-use Rattle.catalog.specs.Soundness.{SoundDefinition, Distinct, numbersOf, In, first, later}
+use Rattle.catalog.specs.Soundness.{SoundDefinition, numbersOf}
 use Rattle.listing.specs.Tiling.{lowerPoints, definedPoints}
 use Rattle.listing.proofs.GroupNumbers.{among-later}
 

@@ -10,10 +10,10 @@ use native.Mathlib.Omega.{arith}
 use borrow.Author.Tests.{ne-eqb, lt-leb, leb-true}
 use lib.Dec.{leb}
 use lib.ListN.{length, getD}
+use Rattle.lists.proofs.TestOutcomes.{impossible, clash, both}
 use Rattle.registers.specs.Registers.{AreRegisters, join, tooWide}
 use Rattle.registers.proofs.Joining.{sixteen-each}
 use Rattle.registers.proofs.Splitting.{join-bound}
-use Rattle.registers.proofs.TestOutcomes.{clash, both}
 use Rattle.point_types.specs.Rows.{TypeRow, pattern, whole, rows, rowAmong, rowOf, registersOf}
 use Rattle.point_types.proofs.Table.{no-row-outside, four-registers}
 use Rattle.values.specs.Classes.{Class, value, isUnimplemented, inRange, classOf, ofClass, classified}
@@ -60,7 +60,7 @@ wide-row code r e w = go (decLe code 18) (decLe code 19) (decLe code 20)
         (sym (ap (λ (x : TypeRow). x .unimplemented) s), sym (ap (λ (x : TypeRow). x .range) s))
     go (no l) (no m) (no n) =
         let none-there : none ≡ some r = sym (no-row-outside code (λ low high. omega arith)) ∙ e in
-        let z : _≡_ {A = ℕ} 0 1 = cc in absurd (omega arith)
+        impossible (cc)
 
 -- So any of its patterns but 0 is a value.
 wide-class : (code raw : ℕ) (r : TypeRow) → rowOf code ≡ some r → 4 < r .most → raw < 2 ^ (16 * r .most) → (raw ≡ 0 → ⊥)

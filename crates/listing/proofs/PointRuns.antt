@@ -6,7 +6,7 @@ use mathlib.Core.Option.{none, some}
 use Prim.Native.Nat.{ℕ, _+_, _*_, _/_, _≤_, _<_}
 use native.Mathlib.Omega.{arith}
 use lib.ListN.{length, getD}
-use Rattle.registers.specs.Each.{Each}
+use Rattle.lists.specs.Each.{Each}
 use Rattle.catalog.specs.Frames.{Point, frameIn}
 use Rattle.catalog.specs.Rules.{isSizeOf}
 use Rattle.catalog.specs.Definitions.{pointsSize}

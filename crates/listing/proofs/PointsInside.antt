@@ -5,8 +5,8 @@ use Prim.Native.Nat.{ℕ, _+_, _≤_}
 use native.Mathlib.Omega.{arith}
 use lib.Dec.{eqb}
 use lib.ListN.{length}
-use Rattle.registers.specs.Each.{Each}
-use Rattle.registers.proofs.TestOutcomes.{by-test}
+use Rattle.lists.specs.Each.{Each}
+use Rattle.lists.proofs.TestOutcomes.{impossible, by-test}
 use Rattle.catalog.specs.Frames.{Point}
 use Rattle.catalog.specs.Checking.{accepted, checked}
 use Rattle.catalog.specs.Definitions.{Definition, definitions}
@@ -24,7 +24,7 @@ use Rattle.listing.proofs.TiledApart.{upward}
 -- What sound definitions read fills the body, by one of them.
 reading-tiled : (ds : List Definition) → Each SoundDefinition ds → (m : Model) (ps : List ModelPoint)
     → reading ds m ≡ points ps → (d : Definition) × BodyTiled d (length (m .body)) ps
-reading-tiled [] s m ps e = let n = sym (reading-none m) ∙ e in let z : _≡_ {A = ℕ} 0 1 = cc in absurd (omega arith)
+reading-tiled [] s m ps e = let n = sym (reading-none m) ∙ e in impossible (cc)
 reading-tiled (d ∷ ds) s m ps e =
     by-test (λ r. r ≡ points ps → (d : Definition) × BodyTiled d (length (m .body)) ps) (eqb (d .id) (m .id))
     (λ t e. (d, read-tiled d (s .0) (m .id) (m .body) ps e)) (λ t. reading-tiled ds (s .1) m ps) (sym (reading-first d ds m) ∙ e)

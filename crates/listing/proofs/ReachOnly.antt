@@ -7,19 +7,19 @@ use Prim.Native.Nat.{ℕ, zero, suc, _+_, _*_, _-_}
 use borrow.Author.Tests.{eqb-true}
 use lib.Dec.{eqb}
 use lib.ListN.{getD, set}
-use Rattle.registers.specs.Each.{Each}
+use Rattle.lists.specs.Each.{Each}
+use Rattle.lists.specs.Members.{among, In}
+use Rattle.lists.proofs.TestOutcomes.{clash}
+use Rattle.lists.proofs.InLaws.{in-either}
 use Rattle.registers.specs.Registers.{join, shownRaw}
-use Rattle.registers.proofs.TestOutcomes.{clash}
 use Rattle.values.specs.Classes.{value, unimplemented, outOfRange, Classified, ofClass, tooWide, unknownType, classified}
 use Rattle.catalog.specs.Frames.{Point, fixedScale, scaleByPoint, sunssf}
-use Rattle.catalog.specs.Rules.{among}
 use Rattle.catalog.specs.Definitions.{Groups, noGroup, group, pointsSize, pointFrames}
-use Rattle.catalog.specs.Soundness.{In, numbersOf, SoundGroups, ScaleResolves}
+use Rattle.catalog.specs.Soundness.{numbersOf, SoundGroups, ScaleResolves}
 use Rattle.catalog.proofs.References.{points-resolve}
 use Rattle.listing.specs.Points.{ModelPoint, Scope, statusOf, scaleOf, scaleStatus, registersAt, pointAt}
 use Rattle.listing.specs.Layout.{withPoint, within, countOf, groupsSize, pointsAt, instances, groupsAt}
 use Rattle.listing.proofs.GroupNumbers.{point-among}
-use Rattle.listing.proofs.InLaws.{in-either}
 use Rattle.listing.proofs.CountsAgree.{count-agrees, sizes-agree}
 
 -- Two scopes agree on these points.

@@ -5,15 +5,15 @@ use mathlib.Core.List.{List, [], _∷_}
 use Prim.Native.Nat.{ℕ}
 use borrow.Author.Tests.{eqb-true, eqb-false, ne-eqb}
 use lib.Dec.{eqb}
-use Rattle.catalog.specs.Rules.{among}
+use Rattle.lists.specs.Members.{among, Distinct}
+use Rattle.lists.specs.Tests.{keptBy}
+use Rattle.lists.proofs.TestLaws.{neither}
 use Rattle.catalog.specs.Definitions.{Definition}
-use Rattle.catalog.specs.Soundness.{Distinct, idsOf}
-use Rattle.catalog.specs.Removal.{keptBy}
-use Rattle.catalog.proofs.TestLaws.{neither}
+use Rattle.catalog.specs.Soundness.{idsOf}
 use Rattle.register_map.specs.Scan.{Model}
 use Rattle.listing.specs.Reading.{Reading, unknown, readBy, reading}
-use Rattle.listing.proofs.ReadingSteps.{reading-none, reading-first, reading-later}
 use Rattle.listing.specs.Removed.{keepsId}
+use Rattle.listing.proofs.ReadingSteps.{reading-none, reading-first, reading-later}
 
 -- A test of two numbers comes out as the other way round.
 other-way : (a b : ℕ) → eqb a b ≡ false → eqb b a ≡ false

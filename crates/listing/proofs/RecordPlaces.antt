@@ -5,7 +5,7 @@ use Prim.Native.Nat.{ℕ, _+_, _≤_}
 use native.Mathlib.Nat.{add-zero}
 use native.Mathlib.Omega.{arith}
 use lib.ListN.{length}
-use Rattle.registers.specs.Each.{Each}
+use Rattle.lists.specs.Each.{Each}
 use Rattle.register_map.specs.Scan.{Model, sizeOf, totalSize, marked}
 use Rattle.listing.specs.Points.{ModelPoint}
 use Rattle.listing.specs.Reading.{Reading, unknown, faulty, points}

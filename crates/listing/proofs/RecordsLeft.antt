@@ -5,7 +5,7 @@ use mathlib.Core.List.{List, [], _∷_, _++_, map}
 use Prim.Native.Nat.{ℕ, suc, _≤_}
 use native.Mathlib.Omega.{arith}
 use lib.ListN.{length}
-use Rattle.registers.proofs.TestOutcomes.{by-test}
+use Rattle.lists.proofs.TestOutcomes.{by-test}
 use Rattle.catalog.specs.Definitions.{Definition}
 use Rattle.register_map.specs.Scan.{Model}
 use Rattle.listing.specs.Points.{ModelPoint}

@@ -8,13 +8,13 @@ use native.Mathlib.Omega.{arith}
 use borrow.Author.Tests.{eq-eqb, ne-eqb}
 use lib.Dec.{ltb}
 use lib.ListN.{length}
-use Rattle.registers.specs.Each.{Each}
-use Rattle.registers.proofs.TestOutcomes.{clash, by-test}
+use Rattle.lists.specs.Each.{Each}
+use Rattle.lists.specs.Members.{among, Distinct, In, first, later}
+use Rattle.lists.proofs.TestOutcomes.{impossible, clash, by-test}
 use Rattle.catalog.specs.Frames.{Point}
-use Rattle.catalog.specs.Rules.{among}
 use Rattle.catalog.specs.Checking.{accepted, checked}
 use Rattle.catalog.specs.Definitions.{Content, Definition, definitions, pointsSize}
-use Rattle.catalog.specs.Soundness.{SoundDefinition, Distinct, idsOf, In, first, later}
+use Rattle.catalog.specs.Soundness.{SoundDefinition, idsOf}
 use Rattle.catalog.proofs.AcceptedIsSound.{accepted-is-sound}
 use Rattle.register_map.specs.Scan.{Model, sizeOf, totalSize, scan}
 use Rattle.listing.specs.Points.{ModelPoint}
@@ -55,12 +55,12 @@ not-unknown : (id : ℕ) (c : Content) (body : List ℕ) → readBy id c body �
 unfolding readBy laidOut
 not-unknown id c body =
     let W : Reading → Type 0 = λ r. r ≡ unknown → ⊥ in
-    by-test W (padLeftOut id c (length body)) (λ _ e. let z : _≡_ {A = ℕ} 0 1 = cc in absurd (omega arith)) (λ _.
-    by-test W (ltb (length body) (pointsSize (c .points))) (λ _ e. let z : _≡_ {A = ℕ} 0 1 = cc in absurd (omega arith)) (λ _.
+    by-test W (padLeftOut id c (length body)) (λ _ e. impossible (cc)) (λ _.
+    by-test W (ltb (length body) (pointsSize (c .points))) (λ _ e. impossible (cc)) (λ _.
     by-test W (countUnimplemented (topScope (c .points) body) (c .groups))
-    (λ _ e. let z : _≡_ {A = ℕ} 0 1 = cc in absurd (omega arith)) (λ _.
-    by-test W (fits c body) (λ _ e. let z : _≡_ {A = ℕ} 0 1 = cc in absurd (omega arith))
-    (λ _ e. let z : _≡_ {A = ℕ} 0 1 = cc in absurd (omega arith)))))
+    (λ _ e. impossible (cc)) (λ _.
+    by-test W (fits c body) (λ _ e. impossible (cc))
+    (λ _ e. impossible (cc)))))
 
 -- ---- The points of one model
 

@@ -9,10 +9,11 @@ use native.Mathlib.Omega.{arith}
 use borrow.Author.Tests.{leb-true}
 use lib.Dec.{eqb, leb, ltb}
 use lib.ListN.{length, drop}
-use Rattle.registers.proofs.TestOutcomes.{by-test, both}
+use Rattle.lists.specs.Tests.{firstBroken}
+use Rattle.lists.proofs.TestOutcomes.{impossible, by-test, both}
 use Rattle.catalog.specs.Frames.{Frame, frames}
 use Rattle.catalog.specs.State.{State, start, next}
-use Rattle.catalog.specs.Rules.{noModel, rules, firstBroken, run, fault}
+use Rattle.catalog.specs.Rules.{noModel, rules, run, fault}
 use Rattle.catalog.specs.Checking.{Verdict, refused, checkFrom, checked}
 use Rattle.register_map.specs.Headers as Headers
 use Rattle.register_map.specs.Scan.{broken, scanFrom, scan}
@@ -30,7 +31,7 @@ numbered (r ∷ rs) = (leb 3 (r .1) && leb (r .1) 10) && numbered rs
 
 -- The rule that is first broken is one of the rules.
 first-broken : (rs : List (Bool × ℕ)) (n : ℕ) → numbered rs ≡ true → firstBroken rs ≡ some n → Between 3 10 n
-first-broken [] n k = λ e. let z : _≡_ {A = ℕ} 0 1 = cc in absurd (omega arith)
+first-broken [] n k = λ e. impossible (cc)
 first-broken (r ∷ rs) n k =
     let h = both (leb 3 (r .1) && leb (r .1) 10) (numbered rs) k in
     let g = both (leb 3 (r .1)) (leb (r .1) 10) (h .0) in
@@ -49,7 +50,7 @@ module _ (n place : ℕ) where
   unfolding checkFrom
   frames-number s i [] =
       by-test (λ v. v ≡ refused n place → Between 1 11 n) (noModel (s .openGroups))
-      (λ t e. let z : _≡_ {A = ℕ} 0 1 = cc in absurd (omega arith)) (λ t e. let same : 11 ≡ n = cc in (omega arith, omega arith))
+      (λ t e. impossible (cc)) (λ t e. let same : 11 ≡ n = cc in (omega arith, omega arith))
   frames-number s i (f ∷ fs) = go (fault s f (run (f ∷ fs))) refl (frames-number (next s f) (suc i) fs)
     where
       go : (o : Option ℕ) → fault s f (run (f ∷ fs)) ≡ o
@@ -77,7 +78,7 @@ unfolding Headers.opening
 opening-number map n =
     let W : Option ℕ → Type 0 = λ o. o ≡ some n → Between 20 21 n in
     by-test W (ltb 65536 (length map)) (λ t e. let same : 20 ≡ n = cc in (omega arith, omega arith))
-    (λ t. by-test W (Headers.beginsWithSunS map) (λ u e. let z : _≡_ {A = ℕ} 0 1 = cc in absurd (omega arith))
+    (λ t. by-test W (Headers.beginsWithSunS map) (λ u e. impossible (cc))
     (λ u e. let same : 21 ≡ n = cc in (omega arith, omega arith)))
 
 -- A header's refusal.
@@ -89,11 +90,11 @@ header-number first (id ∷ len ∷ behind) n =
     by-test W (first && not (eqb id 1)) (λ t e. let same : 23 ≡ n = cc in (omega arith, omega arith))
     (λ t. by-test W (eqb id 0) (λ u e. let same : 24 ≡ n = cc in (omega arith, omega arith))
     (λ u. by-test W (eqb id Headers.endId)
-    (λ v. by-test W (eqb len 0) (λ w e. let z : _≡_ {A = ℕ} 0 1 = cc in absurd (omega arith))
+    (λ v. by-test W (eqb len 0) (λ w e. impossible (cc))
     (λ w e. let same : 25 ≡ n = cc in (omega arith, omega arith)))
     (λ v. by-test W (eqb len 0) (λ w e. let same : 25 ≡ n = cc in (omega arith, omega arith))
     (λ w. by-test W (ltb (length behind) len) (λ x e. let same : 26 ≡ n = cc in (omega arith, omega arith))
-    (λ x e. let z : _≡_ {A = ℕ} 0 1 = cc in absurd (omega arith))))))
+    (λ x e. impossible (cc))))))
 
 -- The refusal of the header that the models of a map end at.
 ending-from : (k : ℕ) (first : Bool) (rest : List ℕ) (n : ℕ) → scanFrom k first rest .ending ≡ broken n → Between 22 26 n
@@ -105,7 +106,7 @@ ending-from (suc k) first rest n e = go (Headers.headerAt first rest) refl (λ r
         → ((r : List ℕ) → scanFrom k false r .ending ≡ broken n → Between 22 26 n) → Between 22 26 n
     go (Headers.model id len) q later = later (drop len (drop 2 rest)) (rw (scan-model k first rest q) at e)
     go Headers.endMarker q later =
-        let f = rw (scan-end k first rest q) at e in let z : _≡_ {A = ℕ} 0 1 = cc in absurd (omega arith)
+        let f = rw (scan-end k first rest q) at e in impossible (cc)
     go (Headers.refused number) q later =
         let f = rw (scan-refused k first rest q) at e in
         let same : number ≡ n = cc in

@@ -6,6 +6,7 @@ use mathlib.Core.List.{List, [], _∷_}
 use Prim.Native.Nat.{ℕ, _*_, _≤_}
 use native.Mathlib.Omega.{arith}
 use lib.ListN.{length}
+use Rattle.lists.proofs.TestOutcomes.{impossible}
 use Rattle.catalog.specs.Definitions.{Definition, definitions}
 use Rattle.catalog.specs.Removal.{keeping}
 use Rattle.catalog.proofs.Removal as catalogs
@@ -56,7 +57,7 @@ module _ (choice : List Bool) (catalog map : List ℕ) (room room′ : ℕ) wher
       let b = walk-number catalog map w in
       header-refusal choice catalog map room room′ n place headers (omega arith) high e ∙ sym q
   map-case n place headers low high e answer (noRoom w s) q = let same : 30 ≡ n = cc in absurd (omega arith)
-  map-case n place headers low high e answer (allListed w s) q = let z : _≡_ {A = ℕ} 0 1 = cc in absurd (omega arith)
+  map-case n place headers low high e answer (allListed w s) q = impossible (cc)
 
 -- 20 to 26 stay.
 pub map-refusal-stays : (choice : List Bool) (catalog map : List ℕ) (room room′ n place headers : ℕ)

@@ -6,7 +6,7 @@ use mathlib.Core.List.{List, _++_}
 use Prim.Native.Nat.{ℕ, _*_, _≤_}
 use native.Mathlib.Omega.{arith}
 use lib.ListN.{length, drop}
-use Rattle.registers.specs.Each.{Each}
+use Rattle.lists.specs.Each.{Each}
 use Rattle.catalog.specs.Checking.{checked, accepted}
 use Rattle.catalog.specs.Definitions.{definitions}
 use Rattle.catalog.specs.Removal.{keeping}

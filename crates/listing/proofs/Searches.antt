@@ -11,11 +11,12 @@ use borrow.Author.Tests.{eq-eqb, ne-eqb}
 use lib.Dec.{eqb}
 use lib.ListN.{length, getD}
 use lib.Seq.{sets, sets-eq}
+use Rattle.lists.specs.Tests.{firstWith}
 use Rattle.register_map.specs.Scan.{Model, sizeOf, Ending, marked, broken}
 use Rattle.listing.specs.Points.{ModelPoint}
 use Rattle.listing.specs.Reading.{Reading, unknown, faulty, points}
 use Rattle.listing.specs.Listing.{Record, recordOf, Answer, listed, walk}
-use Rattle.listing.specs.Finding.{isPoint, isRecord, firstWith}
+use Rattle.listing.specs.Finding.{isPoint, isRecord}
 use Rattle.listing.specs.Promises.{foundNumbers, foundWidth, seen, searched, foundIn}
 use Rattle.listing.specs.declared.records.Sought.{Sought}
 use Rattle.listing.proofs.WalkSteps.{not-listed, in-front-listed, walk-unknown, walk-faulty, walk-points}

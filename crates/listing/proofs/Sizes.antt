@@ -10,8 +10,9 @@ use native.Mathlib.Omega.{arith}
 use borrow.Author.Tests.{eqb-true, eqb-false, eq-eqb, leb-true, le-leb}
 use lib.Dec.{eqb, leb}
 use lib.ListN.{length}
-use Rattle.registers.specs.Each.{Each}
-use Rattle.registers.proofs.TestOutcomes.{both}
+use Rattle.lists.specs.Each.{Each}
+use Rattle.lists.proofs.TestOutcomes.{impossible, both}
+use Rattle.lists.proofs.EachLaws.{each-implied}
 use Rattle.catalog.specs.Frames.{Point, Head, constantCount, countByPoint, fill}
 use Rattle.catalog.specs.Rules.{isSizeOf}
 use Rattle.catalog.specs.Checking.{accepted, checked}
@@ -22,7 +23,6 @@ use Rattle.catalog.proofs.EveryGroup.{of-models}
 use Rattle.listing.specs.Points.{Scope}
 use Rattle.listing.specs.Layout.{topScope, countOf, groupsSize, fillSize, restSize, fillSizeOf, fits, fillOf, countsOf}
 use Rattle.listing.specs.Counts.{sizeOr0}
-use Rattle.listing.proofs.EachLaws.{each-implied}
 
 -- ---- Sound points
 
@@ -125,7 +125,7 @@ fill-size-same s f top enclosing (group h ps inside behind) e =
 pub fill-takes-registers : (count : Head → ℕ) (top enclosing : List Point) (level : ℕ) (g : Groups)
     → SoundGroups top enclosing level g → (size : ℕ) → fillSize count g ≡ some size → 1 ≤ size
 unfolding fillSize
-fill-takes-registers count top enclosing level noGroup e size q = let z : _≡_ {A = ℕ} 0 1 = cc in absurd (omega arith)
+fill-takes-registers count top enclosing level noGroup e size q = impossible (cc)
 fill-takes-registers count top enclosing level (group h ps inside behind) e size q =
     go (eqb (h .countKind) fill) (fill-takes-registers count top enclosing level behind (e .4) size) q
   where

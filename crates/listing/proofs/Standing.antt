@@ -7,6 +7,7 @@ use native.Mathlib.Numerals.{add-one}
 use native.Mathlib.Omega.{arith}
 use lib.ListN.{length, drop, getD, length-drop, drop-of-length-le}
 use lib.Seq.{drop-cons, getD-drop, drop-drop, drop-append-seam}
+use Rattle.lists.proofs.TestOutcomes.{impossible}
 use Rattle.catalog.specs.Frames.{Point, Head, Frame, groupFrame, pointFrame, endFrame, malformed, framesFrom, frames, frameIn}
 use Rattle.catalog.specs.Definitions.{Groups, noGroup, group, pointFrames, groupFrames, parsed, inner}
 use Rattle.catalog.proofs.TreeFrames.{contentFrames, group-frames}
@@ -151,10 +152,10 @@ module _ (ws : List ℕ) (i : ℕ) (s : Stands ws i) where
           (cc, b ∙ sym (n .1), n .2)
       go [] noGroup a b e =
           let t : none ≡ some p = sym (ap pointOf (at-end ws i (s .behind) e .0)) ∙ f in
-          let z : _≡_ {A = ℕ} 0 1 = cc in absurd (omega arith)
+          impossible (cc)
       go [] (group h ps inside behind) a b e =
           let t : none ≡ some p = sym (ap pointOf (at-group ws i (s .behind) h ps inside behind e .0)) ∙ f in
-          let z : _≡_ {A = ℕ} 0 1 = cc in absurd (omega arith)
+          impossible (cc)
 
   -- At any other frame no point is left.
   pub no-point : pointOf (frameIn ws i) ≡ none → heldAt ws i .points ≡ []
@@ -188,7 +189,7 @@ module _ (ws : List ℕ) (i : ℕ) (s : Stands ws i) where
             × (heldAt ws (pastEnd ws (i + 1)) .points ≡ [])
         go noGroup b e =
             let t : none ≡ some h = sym (ap headOf (at-end ws i (s .behind) e .0)) ∙ f in
-            let z : _≡_ {A = ℕ} 0 1 = cc in absurd (omega arith)
+            impossible (cc)
         go (group g ps inside behind) b e =
             let t = at-group ws i (s .behind) g ps inside behind e in
             let same : some g ≡ some h = sym (ap headOf (t .0)) ∙ f in

@@ -6,7 +6,7 @@ use mathlib.Core.Option.{some}
 use Prim.Native.Nat.{ℕ, _-_, _≤_, _<_}
 use native.Mathlib.Omega.{arith}
 use lib.ListN.{length, getD}
-use Rattle.registers.specs.Each.{Each}
+use Rattle.lists.specs.Each.{Each}
 use Rattle.catalog.specs.Definitions.{Content, definitions, pointsSize}
 use Rattle.catalog.specs.Soundness.{SoundPoint, SoundGroups}
 use Rattle.listing.specs.Layout.{nothing, topScope, fits, fillOf, contentAt}

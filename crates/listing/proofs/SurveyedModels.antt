@@ -11,10 +11,11 @@ use native.Mathlib.Omega.{arith}
 use borrow.Author.Tests.{eqb-true, eqb-false, eq-eqb, ne-eqb, ltb-true, ltb-false, le-ltb, lt-ltb, leb-true, leb-false}
 use lib.Dec.{eqb, leb, ltb}
 use lib.ListN.{length}
-use Rattle.registers.proofs.TestOutcomes.{by-test}
+use Rattle.lists.specs.Members.{In}
+use Rattle.lists.proofs.TestOutcomes.{by-test}
 use Rattle.catalog.specs.Frames.{Point, Head, fill}
 use Rattle.catalog.specs.Definitions.{Groups, noGroup, group, Content, pointsSize}
-use Rattle.catalog.specs.Soundness.{In, SoundGroups}
+use Rattle.catalog.specs.Soundness.{SoundGroups}
 use Rattle.listing.specs.Points.{Scope}
 use Rattle.listing.specs.Layout.{topScope, countOf, groupsSize, fillSize, countUnimplemented, fillSizeOf, fits, fillOf, pointsAt, noInstance, contentAt}
 use Rattle.listing.specs.Counts.{groupsPoints, fillPoints, sizeOr0}

@@ -3,8 +3,8 @@ use mathlib.Core.Path.{_≡_}
 use mathlib.Core.List.{List, [], _∷_, _++_}
 use Prim.Native.Nat.{ℕ, _+_, _≤_}
 use native.Mathlib.Omega.{arith}
+use Rattle.lists.specs.Members.{In, first, later}
 use Rattle.catalog.specs.Frames.{Point}
-use Rattle.catalog.specs.Soundness.{In, first, later}
 use Rattle.listing.specs.Tiling.{Tiles}
 
 module _ {A : Type 0} (at number : A → ℕ) where

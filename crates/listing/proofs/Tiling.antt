@@ -5,11 +5,10 @@ use mathlib.Core.Bool.{false}
 use mathlib.Core.List.{List, [], _∷_, _++_}
 use Prim.Native.Nat.{ℕ, _+_}
 use lib.ListN.{length}
+use Rattle.lists.specs.Members.{among, In}
 use Rattle.catalog.specs.Frames.{frames}
-use Rattle.catalog.specs.Rules.{among}
 use Rattle.catalog.specs.Checking.{accepted, checked}
 use Rattle.catalog.specs.Definitions.{Definition, definitions, modelIds}
-use Rattle.catalog.specs.Soundness.{In}
 use Rattle.catalog.proofs.ModelIds.{ids-of-model-frames}
 use Rattle.register_map.specs.Scan.{Model, sizeOf, totalSize, scan}
 use Rattle.listing.specs.Points.{ModelPoint}

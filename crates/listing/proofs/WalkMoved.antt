@@ -6,7 +6,7 @@ use native.Mathlib.Nat.{add-zero, zero-add}
 use native.Mathlib.Numerals.{add-one}
 use native.Mathlib.Omega.{arith}
 use lib.ListN.{length, length-append}
-use Rattle.registers.specs.Each.{Each}
+use Rattle.lists.specs.Each.{Each}
 use Rattle.register_map.specs.Scan.{Model, sizeOf, totalSize, Ending, marked}
 use Rattle.register_map.specs.Insertion.{allModels, placed, gapsBefore}
 use Rattle.register_map.proofs.PlacedModels.{size-append, no-gaps, all-gap, all-unchanged}
@@ -14,8 +14,7 @@ use Rattle.listing.specs.Points.{ModelPoint}
 use Rattle.listing.specs.Reading.{Reading, unknown, faulty, points}
 use Rattle.listing.specs.Listing.{Record, recordOf, Answer, refused, listed, walk}
 use Rattle.listing.specs.Stability.{shifted}
-use Rattle.listing.proofs.WalkSteps.{walk-unknown}
-use Rattle.listing.proofs.WalkSteps.{withModel, walk-model}
+use Rattle.listing.proofs.WalkSteps.{walk-unknown, withModel, walk-model}
 use Rattle.listing.proofs.RaisedWalks.{raised, raisedAnswer, walk-raised}
 
 -- ---- Over unknown models

@@ -2,7 +2,7 @@
 use mathlib.Core.Path.{_≡_, refl, sym, ap, _∙_}
 use mathlib.Core.List.{List, [], _∷_, _++_, map}
 use Prim.Native.Nat.{ℕ, _+_}
-use native.Mathlib.Omega.{arith}
+use Rattle.lists.proofs.TestOutcomes.{impossible}
 use Rattle.register_map.specs.Scan.{Model, sizeOf, Ending}
 use Rattle.listing.specs.Points.{ModelPoint}
 use Rattle.listing.specs.Reading.{Reading, unknown, faulty, points, Fault, faultNumber}
@@ -16,7 +16,7 @@ none-in-front (listed rs headers) = refl
 -- No answer is both a refusal and a list.
 pub not-listed : {A : Type 0} {number place models headers : ℕ} {rs : List Record}
     → refused number place models ≡ listed rs headers → A
-not-listed e = let z : _≡_ {A = ℕ} 0 1 = cc in absurd (omega arith)
+not-listed e = impossible (cc)
 
 -- With records in front an answer lists these and what it lists.
 pub in-front-listed : (front : List Record) (answer : Answer) (rs : List Record) (headers : ℕ)

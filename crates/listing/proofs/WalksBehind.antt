@@ -6,6 +6,7 @@ use Prim.Native.Nat.{ℕ, _+_, _*_, _-_, _/_, _≤_, _<_}
 use native.Mathlib.Nat.{eq-or-lt-of-le}
 use native.Mathlib.Omega.{arith}
 use lib.ListN.{length}
+use Rattle.lists.proofs.TestOutcomes.{impossible}
 use Rattle.catalog.specs.Definitions.{definitions}
 use Rattle.register_map.specs.Scan.{scan}
 use Rattle.register_map.proofs.MadeOfModels.{marked-count}
@@ -42,10 +43,10 @@ module _ (catalog map : List ℕ) where
     -- Acceptance.
     listed-case : (rs : List Record) (headers : ℕ) (answer : Answer) → Case catalog map room answer → answer ≡ listed rs headers
         → Walks catalog map (listed rs headers) × (recordWidth * length rs ≤ room)
-    listed-case rs headers answer (catalogRefused c) e = let z : _≡_ {A = ℕ} 0 1 = cc in absurd (omega arith)
-    listed-case rs headers answer (openingRefused a c) e = let z : _≡_ {A = ℕ} 0 1 = cc in absurd (omega arith)
-    listed-case rs headers answer (walkRefused c) e = let z : _≡_ {A = ℕ} 0 1 = cc in absurd (omega arith)
-    listed-case rs headers answer (noRoom c l) e = let z : _≡_ {A = ℕ} 0 1 = cc in absurd (omega arith)
+    listed-case rs headers answer (catalogRefused c) e = impossible (cc)
+    listed-case rs headers answer (openingRefused a c) e = impossible (cc)
+    listed-case rs headers answer (walkRefused c) e = impossible (cc)
+    listed-case rs headers answer (noRoom c l) e = impossible (cc)
     listed-case rs headers answer (allListed {rs = ss} {headers = h} w l) e =
         let same : ss ≡ rs = cc in
         let also : h ≡ headers = cc in
@@ -68,7 +69,7 @@ module _ (catalog map : List ℕ) where
         let same : length rs ≡ n = cc in
         let also : h ≡ headers = cc in
         (rs, rw (← also) w, same, rw (← same) l)
-    short-case n headers answer (allListed c l) e = let z : _≡_ {A = ℕ} 0 1 = cc in absurd (omega arith)
+    short-case n headers answer (allListed c l) e = impossible (cc)
 
     pub short-walks : (n headers : ℕ) → listing catalog map room ≡ refused 30 n headers
         → (rs : List Record) × (Walks catalog map (listed rs headers)) × (length rs ≡ n) × (room < recordWidth * n)
@@ -83,7 +84,7 @@ module _ (catalog map : List ℕ) where
         let same : k ≡ n = cc in let b = opening-number map _ c in absurd (omega arith)
     refused-case n place headers r answer (walkRefused {n = k} w) e = subst (Walks catalog map) e w
     refused-case n place headers r answer (noRoom w l) e = let same : 30 ≡ n = cc in absurd (omega arith)
-    refused-case n place headers r answer (allListed c l) e = let z : _≡_ {A = ℕ} 0 1 = cc in absurd (omega arith)
+    refused-case n place headers r answer (allListed c l) e = impossible (cc)
 
     pub refused-walks : (n place headers : ℕ) → Between 22 29 n → listing catalog map room ≡ refused n place headers
         → Walks catalog map (refused n place headers)
@@ -98,7 +99,7 @@ module _ (catalog map : List ℕ) where
     early-case n place headers l answer (walkRefused {n = k} w) e =
         let same : k ≡ n = cc in let b = walk-number w in absurd (omega arith)
     early-case n place headers l answer (noRoom w s) e = let same : 30 ≡ n = cc in absurd (omega arith)
-    early-case n place headers l answer (allListed w s) e = let z : _≡_ {A = ℕ} 0 1 = cc in absurd (omega arith)
+    early-case n place headers l answer (allListed w s) e = impossible (cc)
 
     pub refused-early : (n place headers : ℕ) → n < 22 → listing catalog map room ≡ refused n place headers → headers ≡ 0
     refused-early n place headers l e =

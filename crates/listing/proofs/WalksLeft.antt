@@ -5,8 +5,9 @@ use mathlib.Core.List.{List}
 use Prim.Native.Nat.{ℕ}
 use native.Mathlib.Omega.{arith}
 use lib.ListN.{length}
+use Rattle.lists.specs.Tests.{keptBy}
 use Rattle.catalog.specs.Definitions.{definitions}
-use Rattle.catalog.specs.Removal.{keptBy, keeping}
+use Rattle.catalog.specs.Removal.{keeping}
 use Rattle.catalog.proofs.ModelIds.{ids-distinct}
 use Rattle.catalog.proofs.Removal as catalogs
 use Rattle.register_map.specs.Scan.{Model, scan}

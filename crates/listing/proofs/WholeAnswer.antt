@@ -5,6 +5,7 @@ use Prim.Native.Nat.{ℕ, _*_, _/_, _≤_, _<_}
 use native.Mathlib.Omega.{arith}
 use borrow.Author.Tests.{lt-ltb}
 use lib.ListN.{length}
+use Rattle.lists.proofs.TestOutcomes.{impossible}
 use Rattle.listing.specs.Listing.{recordWidth, Answer, refused, listed, withRoom, stored, Told, refusedTold, listedTold, told}
 use Rattle.listing.specs.Promises.{WalkFits}
 use Rattle.listing.proofs.ListingCases.{with-room}
@@ -29,7 +30,7 @@ module _ (out : List ℕ) where
   pub no-room : (a : Answer) (points headers : ℕ) → listedTold points headers ≡ told a → length out / recordWidth < points
       → Answered (withRoom (length out) a) out (refusedTold 30 points headers) out
   unfolding withRoom
-  no-room (refused number place behind) points headers e f = let z : _≡_ {A = ℕ} 0 1 = cc in absurd (omega arith)
+  no-room (refused number place behind) points headers e f = impossible (cc)
   no-room (listed rs behind) points headers e f =
       let n : points ≡ length rs = cc in
       let k : headers ≡ behind = cc in
@@ -40,7 +41,7 @@ module _ (out : List ℕ) where
   pub has-room : (a : Answer) (points headers : ℕ) → listedTold points headers ≡ told a → points ≤ length out / recordWidth
       → WalkFits a out × (withRoom (length out) a ≡ a)
   unfolding withRoom
-  has-room (refused number place behind) points headers e f = let z : _≡_ {A = ℕ} 0 1 = cc in absurd (omega arith)
+  has-room (refused number place behind) points headers e f = impossible (cc)
   has-room (listed rs behind) points headers e f =
       let n : points ≡ length rs = cc in
       let fits : recordWidth * length rs ≤ length out = omega arith in
@@ -51,4 +52,4 @@ module _ (out : List ℕ) where
       → Answered (withRoom (length out) a) out (refusedTold number place headers) out
   unfolding withRoom stored
   before-room (refused n at behind) number place headers e = (e, refl)
-  before-room (listed rs behind) number place headers e = let z : _≡_ {A = ℕ} 0 1 = cc in absurd (omega arith)
+  before-room (listed rs behind) number place headers e = impossible (cc)

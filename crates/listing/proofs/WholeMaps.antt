@@ -4,7 +4,7 @@ use mathlib.Core.List.{List, []}
 use mathlib.Core.Option.{none}
 use Prim.Native.Nat.{ℕ, _≤_}
 use lib.ListN.{length}
-use Rattle.registers.specs.Each.{Each}
+use Rattle.lists.specs.Each.{Each}
 use Rattle.register_map.specs.Headers.{opening}
 use Rattle.register_map.specs.Scan.{Model, marked, Scan, scan, WellFormed}
 use Rattle.register_map.specs.Insertion.{allModels, placed, lengthened}

@@ -1,10 +1,11 @@
 -- Finding a point of a map (document 01, "Writing": by its model's place, its number and a path of three instance numbers).
-use mathlib.Core.Bool.{Bool, true, false, _&&_}
-use mathlib.Core.List.{List, [], _∷_}
-use mathlib.Core.Option.{Option, none, some}
+use mathlib.Core.Bool.{Bool, _&&_}
+use mathlib.Core.List.{List}
+use mathlib.Core.Option.{none, some}
 use Prim.Native.Nat.{ℕ}
 use lib.Dec.{eqb}
 use lib.ListN.{getD}
+use Rattle.lists.specs.Tests.{firstWith}
 use Rattle.listing.specs.Points.{ModelPoint}
 use Rattle.listing.specs.Listing.{Record, allRecords}
 use Rattle.listing.specs.Listing as Listing
@@ -20,11 +21,6 @@ isPoint number path p = eqb (p .definition .number) number && isAt path p
 -- Is it the record of that point in the model with an index?
 abbrev pub isRecord : ℕ → ℕ → List ℕ → Record → Bool
 isRecord index number path r = eqb (r .index) index && isPoint number path (r .point)
-
--- The first of a list for which a test holds.
-unfoldable pub firstWith : {A : Type 0} → (A → Bool) → List A → Option A
-firstWith test [] = none
-firstWith test (x ∷ xs) = elim (test x) [ true ↦ some x | false ↦ firstWith test xs ]
 
 -- What finding a point comes to: a refusal of listing with its place, no such point, or its record.
 pub data Finding : Type 0 where

@@ -7,7 +7,8 @@ use Prim.Native.Nat.{ℕ, _+_, _*_, _-_, _/_, _%_, _≤_, min}
 use lib.Dec.{eqb, ltb, leb}
 use lib.ListN.{length, take, drop, getD}
 use lib.Seq.{sets}
-use Rattle.registers.specs.Each.{Each}
+use Rattle.lists.specs.Each.{Each}
+use Rattle.lists.specs.Tests.{firstWith}
 use Rattle.registers.specs.Registers.{join, shownRaw}
 use Rattle.values.specs.Classes.{classified}
 use Rattle.catalog.specs.Frames as Frames
@@ -220,7 +221,7 @@ IsListed (Listing.listed rs headers) = Unit {0}
 abbrev pub foundIn : Listing.Answer → Sought → List ℕ → List ℕ
 foundIn (Listing.refused number place headers) sought out = out
 foundIn (Listing.listed rs headers) sought out =
-    elim (Finding.firstWith (Finding.isRecord (sought .model) (sought .number) (sought .path .instances)) rs) [
+    elim (firstWith (Finding.isRecord (sought .model) (sought .number) (sought .path .instances)) rs) [
       | none ↦ out
       | some r ↦ sets out 0 (foundNumbers r)
     ]

@@ -3,7 +3,7 @@ use mathlib.Core.Bool.{Bool, true, false}
 use mathlib.Core.List.{List, [], _∷_}
 use Prim.Native.Nat.{ℕ, zero, suc}
 use lib.Dec.{eqb}
-use Rattle.catalog.specs.Rules.{among}
+use Rattle.lists.specs.Members.{among}
 use Rattle.catalog.specs.Definitions.{Definition}
 use Rattle.register_map.specs.Scan.{Model}
 use Rattle.listing.specs.Listing.{Record}

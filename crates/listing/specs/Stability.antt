@@ -6,9 +6,9 @@ use mathlib.Core.Option.{Option, none, some}
 use Prim.Native.Nat.{ℕ, _+_}
 use lib.Dec.{eqb, leb}
 use lib.ListN.{length}
-use Rattle.registers.specs.Each.{Each}
+use Rattle.lists.specs.Each.{Each}
+use Rattle.lists.specs.Members.{among}
 use Rattle.catalog.specs.Frames.{frames}
-use Rattle.catalog.specs.Rules.{among}
 use Rattle.catalog.specs.Definitions.{modelIds}
 use Rattle.register_map.specs.Scan.{Model, totalSize, WellFormed}
 use Rattle.register_map.specs.Insertion.{Placed, before, gapsBefore}

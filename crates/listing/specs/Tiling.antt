@@ -4,10 +4,10 @@ use mathlib.Core.Bool.{true, false}
 use mathlib.Core.List.{List, [], _∷_, _++_}
 use Prim.Native.Nat.{ℕ, _+_, _≤_}
 use lib.Dec.{eqb}
-use Rattle.registers.specs.Each.{Each}
+use Rattle.lists.specs.Each.{Each}
+use Rattle.lists.specs.Members.{In}
 use Rattle.catalog.specs.Frames.{Point}
 use Rattle.catalog.specs.Definitions.{Groups, noGroup, group, Definition}
-use Rattle.catalog.specs.Soundness.{In}
 use Rattle.listing.specs.Points.{ModelPoint}
 use Rattle.listing.specs.Listing.{Record}
 

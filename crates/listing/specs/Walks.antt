@@ -6,11 +6,11 @@ use mathlib.Core.Option.{Option, none, some}
 use Prim.Native.Nat.{ℕ, _+_, _-_, _/_, _≤_}
 use lib.Dec.{eqb, ltb}
 use lib.ListN.{length, drop, getD, set}
+use Rattle.lists.specs.Members.{among, Distinct, In}
 use Rattle.catalog.specs.Frames.{Point, Head, Frame, modelFrame, groupFrame, pointFrame, endFrame, malformed, frames}
-use Rattle.catalog.specs.Rules.{among}
 use Rattle.catalog.specs.Checking as Checking
 use Rattle.catalog.specs.Definitions.{Content, pointFrames, groupFrames, parsed, inner, definitions}
-use Rattle.catalog.specs.Soundness.{Distinct, numbersOf, In, SoundGroups}
+use Rattle.catalog.specs.Soundness.{numbersOf, SoundGroups}
 use Rattle.listing.specs.Points.{ModelPoint, Scope}
 use Rattle.listing.specs.Layout.{fillOf}
 use Rattle.listing.specs.Reading.{topOf, Reading, unknown, faulty, points, faultNumber, reading}

@@ -1,3 +1,2 @@
 -- Laws of the table, and what the proof of `row_of` cites
 pub mod Table
-pub mod ListTests

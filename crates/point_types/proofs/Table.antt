@@ -11,14 +11,15 @@ use lib.Dec.{T, eqb, leb, eqb→eq, leb→le}
 use lib.IntN.{ℤ, pos, negsuc}
 use lib.ListN.{length, getD}
 use lib.Ieee.Fits.{and-l, and-r}
-use Rattle.point_types.proofs.ListTests.{every}
+use Rattle.lists.specs.Tests.{every}
+use Rattle.lists.proofs.TestOutcomes.{impossible}
 use Rattle.point_types.specs.Rows.{TypeRow, Kind, signed, unsigned, float, Unimplemented, never, pattern, Range, whole, between, notNaN, rows, rowAmong, rowOf, Listed}
 
 -- The row found is one of the list, with the code looked for.
 found-among : (test : TypeRow → Bool) (rs : List TypeRow) (c : ℕ) (r : TypeRow) → T (every test rs) → rowAmong rs c ≡ some r
     → (c ≡ r .code) × T (test r)
 unfolding rowAmong
-found-among test [] c r t e = let z : _≡_ {A = ℕ} 0 1 = cc in absurd (omega arith)
+found-among test [] c r t e = impossible (cc)
 found-among test (x ∷ rs) c r t e =
     go (eqb c (x .code)) refl e (λ q. found-among test rs c r (and-r (test x) (every test rs) t) q)
   where

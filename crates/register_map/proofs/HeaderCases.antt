@@ -7,7 +7,7 @@ use native.Mathlib.Omega.{arith}
 use borrow.Author.Tests.{eqb-true, eqb-false, ltb-false}
 use lib.Dec.{eqb, ltb}
 use lib.ListN.{length, drop, length-drop}
-use Rattle.registers.proofs.TestOutcomes.{by-test}
+use Rattle.lists.proofs.TestOutcomes.{impossible, by-test}
 use Rattle.register_map.specs.Headers.{endId, Header, model, endMarker, refused, headerAt}
 use Rattle.register_map.proofs.HeaderLaws.{first-id}
 
@@ -58,8 +58,8 @@ by-case {id = id′} {len = len′} (modelCase {id = id} {len = len} one notZero
       notEmpty = omega (arith, long);
       fits = omega arith;
     }
-by-case (endCase one marker l) e = let z : _≡_ {A = ℕ} 0 1 = cc in absurd (omega arith)
-by-case refusedCase e = let z : _≡_ {A = ℕ} 0 1 = cc in absurd (omega arith)
+by-case (endCase one marker l) e = impossible (cc)
+by-case refusedCase e = impossible (cc)
 
 -- It holds wherever a model stands.
 model-header : (first : Bool) (rest : List ℕ) {id len : ℕ} → headerAt first rest ≡ model id len → ModelHeader id len rest

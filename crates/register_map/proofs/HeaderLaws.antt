@@ -11,7 +11,7 @@ use borrow.Author.Tests.{eqb-true, eq-eqb, lt-ltb, le-ltb, ltb-false, not-false}
 use lib.Dec.{eqb, ltb}
 use lib.ListN.{length, drop, getD, length-drop}
 use lib.Seq.{drop-cons}
-use Rattle.registers.proofs.TestOutcomes.{clash, by-test}
+use Rattle.lists.proofs.TestOutcomes.{impossible, clash, by-test}
 use Rattle.register_map.specs.Headers.{beginsWithSunS, opening, refused, headerOf, headerAt}
 
 -- 23 does not arise where the first header's id is 1.
@@ -38,9 +38,9 @@ module _ (map : List ℕ) where
   unfolding opening
   opening-none e =
       let Goal : Option ℕ → Type 0 = λ o. o ≡ none → (length map ≤ 65536) × (beginsWithSunS map ≡ true) in
-      by-test Goal (ltb 65536 (length map)) (λ t q. let z : _≡_ {A = ℕ} 0 1 = cc in absurd (omega arith)) (λ s.
+      by-test Goal (ltb 65536 (length map)) (λ t q. impossible (cc)) (λ s.
       by-test Goal (beginsWithSunS map) (λ t q. (ltb-false 65536 (length map) s, t))
-      (λ f q. let z : _≡_ {A = ℕ} 0 1 = cc in absurd (omega arith))) e
+      (λ f q. impossible (cc))) e
 
 -- A map of under two registers does not begin with 5375 6E53.
 pub too-short : (map : List ℕ) → length map < 2 → beginsWithSunS map ≡ false

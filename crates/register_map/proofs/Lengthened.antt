@@ -5,7 +5,7 @@ use Prim.Native.Nat.{ℕ, _+_}
 use native.Mathlib.Omega.{arith}
 use lib.ListN.{length, take, drop, getD, length-append}
 use lib.Seq.{drop-at, drop-drop}
-use Rattle.registers.specs.Each.{Each}
+use Rattle.lists.specs.Each.{Each}
 use Rattle.register_map.specs.Headers.{beginsWithSunS}
 use Rattle.register_map.specs.Scan.{Model, totalSize, marked, scan, modelRegisters, WellFormed}
 use Rattle.register_map.specs.Insertion.{allModels, placed, lengthened, gapsBefore}

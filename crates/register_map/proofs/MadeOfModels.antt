@@ -6,7 +6,8 @@ use Prim.Native.Nat.{ℕ, zero, suc, _+_, _-_, _/_, _≤_}
 use native.Mathlib.Omega.{arith}
 use lib.ListN.{length, take, drop, take-append-drop, length-append}
 use lib.Seq.{length-take-le}
-use Rattle.registers.specs.Each.{Each}
+use Rattle.lists.specs.Each.{Each}
+use Rattle.lists.proofs.TestOutcomes.{impossible}
 use Rattle.register_map.specs.Headers.{endId, Header, headerAt}
 use Rattle.register_map.specs.Scan.{Model, totalSize, marked, broken, Scan, scanFrom, scan, modelRegisters, WellFormed, BeginsWith1}
 use Rattle.register_map.proofs.HeaderCases.{HeaderCase, modelCase, endCase, refusedCase, header-case}
@@ -15,7 +16,7 @@ use Rattle.register_map.proofs.ScanBack.{length-registers, length-total
 
 -- The end marker is no refusal.
 unbroken : {A : Type 0} (number : ℕ) → broken number ≡ marked → A
-unbroken number e = let z : _≡_ {A = ℕ} 0 1 = cc in absurd (omega arith)
+unbroken number e = impossible (cc)
 
 -- The first model's id is 1 where the first header's is, and a map cannot begin with the end marker.
 begins-model : (first : Bool) (m : Model) (ms : List Model) → (first ≡ true → m .id ≡ 1) → BeginsWith1 first (m ∷ ms)

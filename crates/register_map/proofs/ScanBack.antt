@@ -8,7 +8,7 @@ use borrow.Author.Tests.{ne-eqb, le-ltb}
 use lib.Dec.{eqb}
 use lib.ListN.{length, length-append}
 use lib.Seq.{take-append-seam, drop-append-seam}
-use Rattle.registers.specs.Each.{Each}
+use Rattle.lists.specs.Each.{Each}
 use Rattle.register_map.specs.Headers.{model, headerOf, headerAt}
 use Rattle.register_map.specs.Scan.{Model, totalSize, marked, scanFrom, scan, modelRegisters, WellFormed, BeginsWith1}
 use Rattle.register_map.proofs.HeaderLaws.{first-id}

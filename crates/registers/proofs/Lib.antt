@@ -2,5 +2,3 @@
 pub mod Joining
 pub mod Splitting
 pub mod RegisterParts
--- Laws of tests, for all crates
-pub mod TestOutcomes

@@ -4,7 +4,7 @@ use mathlib.Core.List.{List, [], _∷_}
 use Prim.Native.Nat.{ℕ, zero, suc, _+_, _*_, _/_, _%_, _^_, _<_}
 use lib.Dec.{eqb, leb}
 use lib.ListN.{length}
-use Rattle.registers.specs.Each.{Each}
+use Rattle.lists.specs.Each.{Each}
 
 -- Every number of the list is a register's: below 65536.
 abbrev pub AreRegisters : List ℕ → Type 0

@@ -6,6 +6,7 @@ use mathlib.Core.Logic.{_⊎_, inl, inr}
 use Prim.Native.Nat.{ℕ}
 use native.Mathlib.Omega.{arith}
 use lib.ListN.{take}
+use Rattle.lists.proofs.TestOutcomes.{impossible}
 use Rattle.listing.specs.Listing.{Record, Answer, refused, listed}
 use Rattle.listing.proofs.BehindTheEnd.{listed-behind}
 use Rattle.input.specs.Parsing as Parsing
@@ -22,7 +23,7 @@ pub data RefusedAtLine : Answer → Type 0 where
 by-whole : {part whole : Parsing.Input} {count : ℕ} (rs : List Record) (headers : ℕ) → Continued part whole
     → Outcome count frameRoom registerRoom whole → foundIn part ≡ listed rs headers
     → (foundIn whole ≡ listed rs headers) ⊎ RefusedAtLine (foundIn whole)
-by-whole rs headers Continued.partRefused o e = let z : _≡_ {A = ℕ} 0 1 = cc in absurd (omega arith)
+by-whole rs headers Continued.partRefused o e = impossible (cc)
 by-whole rs headers (Continued.badLine place) o e = inr (badLine place)
 by-whole rs headers (Continued.noRoom place) o e = inr (noRoom place)
 by-whole rs headers (Continued.further catalog map more) (Outcome.given c m k eights frames fits) e =

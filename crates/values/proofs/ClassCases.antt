@@ -4,10 +4,10 @@ use mathlib.Core.Bool.{Bool, true, false, _&&_, and-false}
 use mathlib.Core.Option.{Option, none, some}
 use mathlib.Core.List.{List}
 use Prim.Native.Nat.{ℕ, _≤_, _<_}
-use native.Mathlib.Omega.{arith}
 use borrow.Author.Tests.{le-leb, lt-leb, leb-true}
 use lib.Dec.{leb}
 use lib.Ieee.{binary32, ofBits}
+use Rattle.lists.proofs.TestOutcomes.{impossible}
 use Rattle.registers.specs.Registers as registers
 use Rattle.point_types.specs.Rows.{TypeRow, Kind, rowOf}
 use Rattle.point_types.proofs.Table.{from-one}
@@ -109,5 +109,5 @@ decodable-up-to code row e = go (leb 1 code) (leb code 18) refl e
     go : (a b : Bool) → leb code 18 ≡ b → _≡_ {A = Option TypeRow} (elim (a && b) [ true ↦ rowOf code | false ↦ none ]) (some row)
         → code ≤ 18
     go true true t q = leb-true code 18 t
-    go true false t q = let z : _≡_ {A = ℕ} 0 1 = cc in absurd (omega arith)
-    go false b t q = let z : _≡_ {A = ℕ} 0 1 = cc in absurd (omega arith)
+    go true false t q = impossible (cc)
+    go false b t q = impossible (cc)

@@ -11,10 +11,11 @@ use lib.IntN.{ℤ, pos, negℤ}
 use lib.ListN.{length}
 use lib.Ieee.Fits.{and-l, and-r}
 use lib.Signed.{leZ, _≤ℤ_}
-use Rattle.registers.specs.Each.{Each}
+use Rattle.lists.specs.Each.{Each}
+use Rattle.lists.specs.Tests.{every}
+use Rattle.lists.proofs.TestOutcomes.{impossible}
 use Rattle.registers.specs.Registers.{AreRegisters}
 use Rattle.point_types.specs.Rows.{TypeRow, Kind, signed, unsigned, float, Unimplemented, never, pattern, Range, whole, between, notNaN, rows, rowAmong}
-use Rattle.point_types.proofs.ListTests.{every}
 use Rattle.point_types.proofs.Table.{signed-width, edgeTest, edges}
 use Rattle.values.specs.Classes as classes
 use Rattle.values.specs.Classes.{width, twosComplement, integer, isUnimplemented, isBetween, inRange, classOf, PatternOf}
@@ -65,7 +66,7 @@ never-both : false ≡ true → ⊥
 never-both e = subst T (sym e) tt
 
 other-kind : unsigned ≡ signed → ⊥
-other-kind e = let z : _≡_ {A = ℕ} 0 1 = cc in omega arith
+other-kind e = impossible (cc)
 
 module _ (row : TypeRow) (raw : ℕ) (p : PatternOf row raw) (v : classOf row raw ≡ classes.value) where
   implemented : isUnimplemented (row .unimplemented) raw ≡ false

@@ -7,6 +7,7 @@ use Prim.Native.Nat.{ℕ, _≤_}
 use native.Mathlib.Omega.{arith}
 use native.Mathlib.Decide.{decLe}
 use borrow.Author.Tests.{le-leb}
+use Rattle.lists.proofs.TestOutcomes.{impossible}
 use Rattle.point_types.specs.Rows.{row, rowOf, unsigned, never, whole}
 use Rattle.point_types.proofs.Table.{row-at, no-row-outside}
 use Rattle.values.specs.Decoding.{refused, decodable, decoded}
@@ -29,5 +30,4 @@ module _ (code : ℕ) (registers : List ℕ) where
       go m (noRow is) =
           let r : rowOf code ≡ none = simp (decodable, le-leb _ _ l, le-leb _ _ h) at is in
           let s = row-at (row 0 0 0 false unsigned never whole) code l (omega arith) in
-          let z : _≡_ {A = ℕ} 0 1 = cc in
-          omega arith
+          impossible (cc)

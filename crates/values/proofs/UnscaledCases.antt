@@ -8,6 +8,7 @@ use borrow.Author.Tests.{leb-false}
 use lib.IntN.{ℤ, natAbs}
 use lib.Pow.{pow-pos}
 use lib.Signed.{nonNeg}
+use Rattle.lists.proofs.TestOutcomes.{impossible}
 use Rattle.registers.specs.Registers.{tooWide}
 use Rattle.point_types.specs.Rows.{TypeRow, rowOf}
 use Rattle.values.specs.Classes.{width, twosComplement, integer, isValue, classified}
@@ -44,8 +45,7 @@ value-fits code raw row e v = go (tooWide (row .most) raw) refl
     go : (b : Bool) → tooWide (row .most) raw ≡ b → raw < 2 ^ width row
     go true w =
         let f : isValue (classified code raw) ≡ false = ap isValue (too-wide code raw row e w) in
-        let z : _≡_ {A = ℕ} 0 1 = cc in
-        absurd (omega arith)
+        impossible (cc)
     go false w = leb-false _ _ w
 
 -- Two's complement by sign and magnitude, from the largest pattern of the width.
@@ -79,5 +79,5 @@ pub record NumberOf (u : Unscaled) (negative : Bool) (magnitude : ℕ) : Type 0 
 pub was-number : (u : Unscaled) (negative : Bool) (magnitude : ℕ) → unscaledForm u ≡ UnscaledValue.Of negative magnitude
     → NumberOf u negative magnitude
 was-number (number z) negative magnitude e = record { value = z; is = refl; sign = cc; size = cc }
-was-number noValue negative magnitude e = let z : _≡_ {A = ℕ} 0 1 = cc in absurd (omega arith)
-was-number notScalable negative magnitude e = let z : _≡_ {A = ℕ} 0 1 = cc in absurd (omega arith)
+was-number noValue negative magnitude e = impossible (cc)
+was-number notScalable negative magnitude e = impossible (cc)

@@ -8,11 +8,11 @@ use borrow.Author.Tests.{eq-eqb, eqb-true}
 use lib.Dec.{eqb}
 use lib.ListN.{length, drop, getD, set}
 use lib.Seq.{getD-set-other}
-use Rattle.registers.proofs.TestOutcomes.{clash, both}
+use Rattle.lists.specs.Members.{among, Distinct}
+use Rattle.lists.proofs.TestOutcomes.{clash, both}
 use Rattle.catalog.specs.Frames.{Point, Head}
-use Rattle.catalog.specs.Rules.{among}
 use Rattle.catalog.specs.Definitions.{Groups, noGroup, group, pointFrames, groupFrames}
-use Rattle.catalog.specs.Soundness.{Distinct, numbersOf}
+use Rattle.catalog.specs.Soundness.{numbersOf}
 use Rattle.listing.proofs.GroupNumbers.{Apart, apart, NoneOf, none-of-parts}
 use Rattle.writing.specs.AfterWriting.{depthIn, agreeTo}
 

@@ -3,15 +3,16 @@ use mathlib.Core.Path.{_≡_, refl, sym, ap, subst, _∙_}
 use mathlib.Core.List.{List}
 use mathlib.Core.Option.{Option, none, some}
 use Prim.Native.Nat.{ℕ, _+_, _≤_}
-use native.Mathlib.Omega.{arith}
 use lib.ListN.{length}
 use lib.Seq.{sets}
+use Rattle.lists.specs.Tests.{firstWith}
+use Rattle.lists.proofs.TestOutcomes.{impossible}
+use Rattle.lists.proofs.FirstFound.{found-in}
 use Rattle.registers.specs.Registers.{split}
 use Rattle.listing.specs.Listing.{Record, allRecords}
 use Rattle.listing.specs.Listing as Listing
-use Rattle.listing.specs.Finding.{isRecord, firstWith, finding, Target, targetOf}
+use Rattle.listing.specs.Finding.{isRecord, finding, Target, targetOf}
 use Rattle.listing.specs.Finding as Finding
-use Rattle.listing.proofs.FirstFound.{found-in}
 use Rattle.writing.specs.Writing.{refusal, rewritten, Answer, refused, written, writingTo, writing, refusedTold, writtenTold, told, mapBehind}
 use Rattle.writing.proofs.RawValues.{record-inside}
 
@@ -41,20 +42,20 @@ module _ (t : Target) (raw : ℕ) (map : List ℕ) where
 -- A target that is told is that of a record.
 told-record : (f : Finding.Finding) (t : Target) → Finding.foundTold t ≡ Finding.told f
     → (w : Record) × (f ≡ Finding.found w) × (t ≡ targetOf w)
-told-record (Finding.refused n place) t e = let z : _≡_ {A = ℕ} 0 1 = cc in absurd (omega arith)
-told-record Finding.nothing t e = let z : _≡_ {A = ℕ} 0 1 = cc in absurd (omega arith)
+told-record (Finding.refused n place) t e = impossible (cc)
+told-record Finding.nothing t e = impossible (cc)
 told-record (Finding.found w) t e = (w, refl, cc)
 
 -- The other answers.
 told-nothing : (f : Finding.Finding) → Finding.nothingTold ≡ Finding.told f → f ≡ Finding.nothing
-told-nothing (Finding.refused n place) e = let z : _≡_ {A = ℕ} 0 1 = cc in absurd (omega arith)
+told-nothing (Finding.refused n place) e = impossible (cc)
 told-nothing Finding.nothing e = refl
-told-nothing (Finding.found w) e = let z : _≡_ {A = ℕ} 0 1 = cc in absurd (omega arith)
+told-nothing (Finding.found w) e = impossible (cc)
 
 told-refused : (f : Finding.Finding) (n place : ℕ) → Finding.refusedTold n place ≡ Finding.told f → f ≡ Finding.refused n place
 told-refused (Finding.refused m at) n place e = cc
-told-refused Finding.nothing n place e = let z : _≡_ {A = ℕ} 0 1 = cc in absurd (omega arith)
-told-refused (Finding.found w) n place e = let z : _≡_ {A = ℕ} 0 1 = cc in absurd (omega arith)
+told-refused Finding.nothing n place e = impossible (cc)
+told-refused (Finding.found w) n place e = impossible (cc)
 
 -- ---- Writing by what was found
 
@@ -100,7 +101,7 @@ module _ (catalog map : List ℕ) (index number : ℕ) (path : List ℕ) (raw : 
             → (o : Option Record) → firstWith (isRecord index number path) rs ≡ o
             → elim o [ none ↦ Finding.nothing | some r ↦ Finding.found r ] ≡ Finding.found w
             → w .address + w .point .definition .size ≤ length map
-        by-record w rs headers q none f g = let z : _≡_ {A = ℕ} 0 1 = cc in absurd (omega arith)
+        by-record w rs headers q none f g = impossible (cc)
         by-record w rs headers q (some r) f g =
             let same : r ≡ w = cc in
             let there = record-inside catalog map rs headers q r (found-in (isRecord index number path) rs r f .0) in
@@ -110,8 +111,7 @@ module _ (catalog map : List ℕ) (index number : ℕ) (path : List ℕ) (raw : 
             → w .address + w .point .definition .size ≤ length map
         by-answer w (Listing.refused n place headers) q f =
             let g : Finding.refused n place ≡ Finding.found w = sym (rw (q, finding)) ∙ f in
-            let z : _≡_ {A = ℕ} 0 1 = cc in
-            absurd (omega arith)
+            impossible (cc)
         by-answer w (Listing.listed rs headers) q f =
             let o = firstWith (isRecord index number path) rs in
             let shape : found ≡ elim o [ none ↦ Finding.nothing | some r ↦ Finding.found r ] = rw (q, finding) in

@@ -7,24 +7,25 @@ use native.Mathlib.Omega.{arith}
 use borrow.Author.Tests.{eqb-true}
 use lib.Dec.{eqb}
 use lib.ListN.{getD, set}
-use Rattle.registers.specs.Each.{Each}
-use Rattle.registers.proofs.TestOutcomes.{clash}
+use Rattle.lists.specs.Each.{Each, Pairwise}
+use Rattle.lists.specs.Members.{among, In}
+use Rattle.lists.proofs.TestOutcomes.{clash}
+use Rattle.lists.proofs.InLaws.{in-front, in-behind, in-either}
+use Rattle.lists.proofs.EachLaws.{each-parts}
+use Rattle.lists.proofs.PairwiseLaws.{pairwise-append}
 use Rattle.catalog.specs.Frames.{Point, Head}
-use Rattle.catalog.specs.Rules.{among}
 use Rattle.catalog.specs.Definitions.{Groups, noGroup, group, Content, pointsSize, pointFrames}
-use Rattle.catalog.specs.Soundness.{In, numbersOf, SoundPoint, ScaleResolves}
+use Rattle.catalog.specs.Soundness.{numbersOf, SoundPoint, ScaleResolves}
 use Rattle.catalog.proofs.GroupSizes.{point-size}
 use Rattle.catalog.proofs.References.{points-resolve}
 use Rattle.listing.specs.Points.{ModelPoint, Scope}
 use Rattle.listing.specs.Layout.{withPoint, within, groupsSize, pointsAt, instances, groupsAt}
 use Rattle.listing.specs.Tiling.{lowerPoints}
+use Rattle.listing.proofs.InstancePairs.{pairwise-instances}
 use Rattle.listing.proofs.GroupNumbers.{point-among}
-use Rattle.listing.proofs.InLaws.{in-front, in-behind, in-either}
 use Rattle.listing.proofs.IntoGroups.{SoundBelow, below, beside}
-use Rattle.listing.proofs.EachLaws.{each-parts}
-use Rattle.writing.specs.AfterWriting.{agreeTo, pathOf, PointAfter, Pairwise}
+use Rattle.writing.specs.AfterWriting.{agreeTo, pathOf, PointAfter}
 use Rattle.writing.proofs.Places.{Place}
-use Rattle.writing.proofs.PairwiseLaws.{pairwise-append, pairwise-instances}
 use Rattle.writing.proofs.Depths.{levels, agree-behind, Deep, own-depth, inside-deep, behind-deep}
 use Rattle.writing.proofs.OnePointAfter as one
 use Rattle.writing.proofs.OnePointAfter.{Write}

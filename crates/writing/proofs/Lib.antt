@@ -5,8 +5,6 @@ pub mod NoSuchPoint
 pub mod SameValue
 pub mod WorkedWrites
 -- Laws of the definitions, and what the proofs of the functions cite
-pub mod ListLaws
-pub mod PairwiseLaws
 pub mod StoredRegisters
 pub mod Places
 pub mod Depths

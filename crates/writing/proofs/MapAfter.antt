@@ -8,20 +8,22 @@ use native.Mathlib.Omega.{arith}
 use borrow.Author.Tests.{eq-eqb, ne-eqb}
 use lib.ListN.{length}
 use lib.Seq.{sets, length-sets}
+use Rattle.lists.specs.Members.{In}
+use Rattle.lists.specs.Tests.{firstWith}
+use Rattle.lists.specs.Each.{Pairwise}
+use Rattle.lists.proofs.FirstFound.{found-in}
 use Rattle.registers.specs.Registers.{split}
 use Rattle.registers.proofs.Splitting.{split-length}
 use Rattle.catalog.specs.Definitions.{Content, Definition, definitions}
-use Rattle.catalog.specs.Soundness.{In}
 use Rattle.register_map.specs.Scan.{sizeOf, marked, scan}
 use Rattle.listing.specs.Points.{ModelPoint}
 use Rattle.listing.specs.Reading.{points, topOf, reading}
 use Rattle.listing.specs.Listing.{Record, recordOf, listed, walk, allRecords}
-use Rattle.listing.specs.Finding.{isRecord, firstWith, targetOf}
+use Rattle.listing.specs.Finding.{isRecord, targetOf}
 use Rattle.listing.proofs.ListingCases.{records-walk, walk-records}
 use Rattle.listing.proofs.WalksBehind.{headers-walked}
-use Rattle.listing.proofs.FirstFound.{found-in}
 use Rattle.writing.specs.Writing.{refusal, rewritten}
-use Rattle.writing.specs.AfterWriting.{PointAfter, PointBecomes, RecordAfter, Pairwise}
+use Rattle.writing.specs.AfterWriting.{PointAfter, PointBecomes, RecordAfter}
 use Rattle.writing.proofs.PointPlaces.{point-inside}
 use Rattle.writing.proofs.ModelAfter.{model-after}
 use Rattle.writing.proofs.WritingCases.{Writable, refusal-none}

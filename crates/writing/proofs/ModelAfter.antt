@@ -8,21 +8,23 @@ use borrow.Author.Tests.{eqb-true}
 use lib.Dec.{eqb}
 use lib.ListN.{length}
 use lib.Seq.{sets, length-sets}
-use Rattle.registers.specs.Each.{Each}
+use Rattle.lists.specs.Each.{Each, Pairwise}
+use Rattle.lists.specs.Members.{In}
+use Rattle.lists.proofs.TestOutcomes.{both}
+use Rattle.lists.proofs.EachLaws.{each-one, each-parts}
+use Rattle.lists.proofs.InLaws.{in-front, in-behind}
+use Rattle.lists.proofs.PairwiseLaws.{pairwise-append}
 use Rattle.registers.specs.Registers.{split}
-use Rattle.registers.proofs.TestOutcomes.{both}
 use Rattle.values.specs.Classes.{classified, isUnimplementedClass}
 use Rattle.catalog.specs.Frames.{Point, readOnly}
 use Rattle.catalog.specs.Rules.{isSizeOf}
 use Rattle.catalog.specs.Definitions.{Definition, pointsSize}
-use Rattle.catalog.specs.Soundness.{In, SoundPoint, SoundDefinition, ScaleResolves}
+use Rattle.catalog.specs.Soundness.{SoundPoint, SoundDefinition, ScaleResolves}
 use Rattle.catalog.proofs.References.{points-resolve}
 use Rattle.listing.specs.Points.{ModelPoint, Scope}
 use Rattle.listing.specs.Layout.{nothing, topScope, countsOf, noInstance, pointsAt, groupsAt, contentAt}
 use Rattle.listing.specs.Reading.{points, allButLast, padLeftOut, readBy}
 use Rattle.listing.specs.Tiling.{lowerPoints, definedPoints}
-use Rattle.listing.proofs.EachLaws.{each-one, each-parts}
-use Rattle.listing.proofs.InLaws.{in-front, in-behind}
 use Rattle.listing.proofs.OnePoint.{one-point}
 use Rattle.listing.proofs.LeftOutPad.{each-but-last, left-out}
 use Rattle.listing.proofs.IntoGroups.{definition-below}
@@ -30,8 +32,7 @@ use Rattle.listing.proofs.ModelWriting.{Full, resolves-left}
 use Rattle.listing.proofs.ListedPoints.{all-sized}
 use Rattle.listing.proofs.Readings.{pointsLeft, read-left, read-full, by-reading}
 use Rattle.writing.specs.Writing.{canHold}
-use Rattle.writing.specs.AfterWriting.{depthIn, agreeTo, pathOf, PointAfter, Pairwise}
-use Rattle.writing.proofs.PairwiseLaws.{pairwise-append}
+use Rattle.writing.specs.AfterWriting.{depthIn, agreeTo, pathOf, PointAfter}
 use Rattle.writing.proofs.Places.{Place}
 use Rattle.writing.proofs.PointPlaces.{in-but-last, point-defined, point-inside, point-places}
 use Rattle.writing.proofs.Depths.{levels, absent-depth}

@@ -7,13 +7,13 @@ use Prim.Native.Nat.{ℕ, _+_, _≤_}
 use native.Mathlib.Omega.{arith}
 use lib.ListN.{length, take, drop, length-append}
 use lib.Seq.{sets, length-sets, drop-append-add}
+use Rattle.lists.proofs.EachLaws.{each-replaced}
 use Rattle.register_map.specs.Headers.{beginsWithSunS, opening}
 use Rattle.register_map.specs.Scan.{Model, totalSize, marked, scan, modelRegisters, WellFormed, BeginsWith1}
 use Rattle.register_map.proofs.HeaderLaws.{opening-none, opening-with-SunS}
 use Rattle.register_map.proofs.ScanBack.{length-registers, scan-whole-back}
 use Rattle.register_map.proofs.MadeOfModels.{MadeOf}
 use Rattle.register_map.proofs.Lengthened.{registers-append}
-use Rattle.writing.proofs.ListLaws.{each-replaced}
 use Rattle.writing.proofs.StoredRegisters.{part-of-first, sets-behind, sets-within}
 
 -- A model with registers stored in its body from an offset on.

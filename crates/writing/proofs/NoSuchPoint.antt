@@ -4,19 +4,19 @@ use mathlib.Core.Bool.{false}
 use mathlib.Core.List.{List}
 use Prim.Native.Nat.{ℕ}
 use native.Mathlib.Omega.{arith}
-use Rattle.registers.specs.Each.{Each}
-use Rattle.catalog.specs.Soundness.{In}
+use Rattle.lists.specs.Each.{Each}
+use Rattle.lists.specs.Members.{In}
+use Rattle.lists.proofs.TestOutcomes.{impossible}
+use Rattle.lists.proofs.FirstFound.{not-none, none-found}
 use Rattle.listing.specs.Listing.{Record, listed, allRecords, listing}
 use Rattle.listing.specs.Finding.{isRecord, finding, targetOf}
 use Rattle.listing.specs.Finding as Finding
 use Rattle.listing.proofs.WalkSteps.{not-listed}
 use Rattle.listing.proofs.WalksBehind.{listed-walks}
 use Rattle.listing.proofs.ListingCases.{walk-records}
-use Rattle.listing.proofs.FirstFound.{not-none, none-found}
 use Rattle.writing.specs.Writing.{Answer, refused, writing}
 use Rattle.writing.specs.AfterWriting.{pathOf}
-use Rattle.writing.proofs.WritingCases.{Case, listingRefused, noPoint, pointRefused, pointWritten, writing-case}
-use Rattle.writing.proofs.WritingCases.{finding-found, records-number, refusal-number}
+use Rattle.writing.proofs.WritingCases.{Case, listingRefused, noPoint, pointRefused, pointWritten, writing-case, finding-found, records-number, refusal-number}
 use Rattle.writing.proofs.OneRecord.{own-found}
 
 -- There is no such point: of all records that the map has, and so of those that a listing shows, none is that of the point asked for.
@@ -54,7 +54,7 @@ module _ (catalog map : List ℕ) where
       let b = refusal-number (targetOf w) raw why in
       let same : n ≡ 31 = cc in
       omega arith
-  found-case r raw place e i answer (pointWritten q found why) f = let z : _≡_ {A = ℕ} 0 1 = cc in absurd (omega arith)
+  found-case r raw place e i answer (pointWritten q found why) f = impossible (cc)
 
   -- Only one way leads to 31.
   missing-case : (index number : ℕ) (path : List ℕ) (raw place : ℕ) (answer : Answer)
@@ -84,7 +84,7 @@ module _ (catalog map : List ℕ) where
       let same : n ≡ 31 = cc in
       absurd (omega arith)
   missing-case index number path raw place answer (pointWritten q found why) f =
-      let z : _≡_ {A = ℕ} 0 1 = cc in absurd (omega arith)
+      impossible (cc)
 
   -- 31 is honest with every catalog and every map.
   pub honest : Honest catalog map

@@ -9,8 +9,9 @@ use borrow.Author.Tests.{eqb-true, eqb-false, eq-eqb, not-true}
 use lib.Dec.{eqb}
 use lib.ListN.{length, take, drop, getD, length-take}
 use lib.Seq.{sets}
+use Rattle.lists.specs.Members.{In}
+use Rattle.lists.proofs.TestOutcomes.{both}
 use Rattle.registers.specs.Registers.{join, split, shownRaw, tooWide}
-use Rattle.registers.proofs.TestOutcomes.{both}
 use Rattle.registers.proofs.Joining.{shown}
 use Rattle.registers.proofs.Splitting.{split-length, join-split, one-register}
 use Rattle.point_types.specs.Rows.{mayScale}
@@ -18,7 +19,7 @@ use Rattle.values.specs.Classes.{value, ofClass, classified, isValue, isUnimple
 use Rattle.catalog.specs.Frames.{Point, scaleByPoint, sunssf}
 use Rattle.catalog.specs.Rules.{isSizeOf}
 use Rattle.catalog.specs.Definitions.{Content}
-use Rattle.catalog.specs.Soundness.{In, SoundPoint, ScaleResolves}
+use Rattle.catalog.specs.Soundness.{SoundPoint, ScaleResolves}
 use Rattle.listing.specs.Points.{ModelPoint, Scope, statusOf, scaleOf, registersAt, pointAt}
 use Rattle.listing.proofs.ReachOnly.{same-status, same-scale, shownAs, shown-same}
 use Rattle.writing.specs.Writing.{canHold}

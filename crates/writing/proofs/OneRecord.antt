@@ -8,16 +8,17 @@ use borrow.Author.Tests.{eq-eqb, eqb-true}
 use lib.Dec.{eqb}
 use lib.ListN.{take, drop}
 use lib.Seq.{take-at, drop-at}
-use Rattle.registers.proofs.TestOutcomes.{both, clash}
+use Rattle.lists.specs.Members.{In}
+use Rattle.lists.specs.Tests.{firstWith}
+use Rattle.lists.proofs.TestOutcomes.{both, clash}
+use Rattle.lists.proofs.EachLaws.{each-one}
+use Rattle.lists.proofs.FirstFound.{found-in, none-found}
 use Rattle.catalog.specs.Definitions.{definitions}
-use Rattle.catalog.specs.Soundness.{In}
 use Rattle.register_map.specs.Scan.{Model, scan, totalSize}
 use Rattle.listing.specs.Points.{ModelPoint}
 use Rattle.listing.specs.Reading.{reading, points}
 use Rattle.listing.specs.Listing.{Record, allRecords, listed}
-use Rattle.listing.specs.Finding.{isAt, isPoint, isRecord, firstWith}
-use Rattle.listing.proofs.EachLaws.{each-one}
-use Rattle.listing.proofs.FirstFound.{found-in, none-found}
+use Rattle.listing.specs.Finding.{isAt, isPoint, isRecord}
 use Rattle.writing.specs.AfterWriting.{depthIn, agreeTo, pathOf}
 use Rattle.writing.proofs.Depths.{agree-itself}
 use Rattle.writing.proofs.Places.{Place}

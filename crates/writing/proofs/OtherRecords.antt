@@ -10,16 +10,18 @@ use borrow.Author.Tests.{eqb-true, eqb-false}
 use lib.Dec.{eqb}
 use lib.ListN.{length, take}
 use lib.Seq.{take-at}
+use Rattle.lists.specs.Members.{In}
+use Rattle.lists.specs.Tests.{firstWith}
+use Rattle.lists.specs.Each.{Pairwise}
+use Rattle.lists.proofs.FirstFound.{found-in}
+use Rattle.lists.proofs.PairwiseLaws.{pairwise-at, pairwise-implied}
 use Rattle.catalog.specs.Definitions.{Content, Definition, definitions}
-use Rattle.catalog.specs.Soundness.{In}
 use Rattle.register_map.specs.Scan.{totalSize, scan}
 use Rattle.listing.specs.Reading.{topOf}
 use Rattle.listing.specs.Listing.{Record, listed, allRecords, listing}
-use Rattle.listing.specs.Finding.{isRecord, firstWith}
-use Rattle.listing.proofs.FirstFound.{found-in}
+use Rattle.listing.specs.Finding.{isRecord}
 use Rattle.writing.specs.Writing.{written, writing}
-use Rattle.writing.specs.AfterWriting.{isScaleFactorOf, Holds, rescaled, RecordAfter, Pairwise}
-use Rattle.writing.proofs.PairwiseLaws.{pairwise-at, pairwise-implied}
+use Rattle.writing.specs.AfterWriting.{isScaleFactorOf, Holds, rescaled, RecordAfter}
 use Rattle.writing.proofs.AfterCases.{after-elsewhere, after-here, after-scaled, after-unscaled}
 use Rattle.writing.proofs.RecordSources.{record-source}
 use Rattle.writing.proofs.ReadBack.{read-back, shown-after}

@@ -9,18 +9,18 @@ use borrow.Author.Tests.{eq-eqb, ne-eqb}
 use lib.Dec.{eqb}
 use lib.ListN.{length, getD, drop, set, length-set}
 use lib.Seq.{getD-set-same, getD-set-other, drop-cons}
-use Rattle.registers.specs.Each.{Each}
+use Rattle.lists.specs.Each.{Each}
+use Rattle.lists.specs.Members.{among, Distinct, In, first, later}
+use Rattle.lists.proofs.TestOutcomes.{clash}
+use Rattle.lists.proofs.EachLaws.{each-implied, each-append}
+use Rattle.lists.proofs.InLaws.{in-front, in-behind}
 use Rattle.registers.specs.Registers.{shownRaw}
-use Rattle.registers.proofs.TestOutcomes.{clash}
 use Rattle.catalog.specs.Frames.{Point, Head}
-use Rattle.catalog.specs.Rules.{among}
 use Rattle.catalog.specs.Definitions.{Groups, noGroup, group, pointsSize, pointFrames, groupFrames}
-use Rattle.catalog.specs.Soundness.{SoundGroups, Distinct, numbersOf, In, first, later}
+use Rattle.catalog.specs.Soundness.{SoundGroups, numbersOf}
 use Rattle.listing.specs.Points.{ModelPoint, Scope, registersAt, pointAt}
 use Rattle.listing.specs.Layout.{within, groupsSize, pointsAt, instances, groupsAt}
 use Rattle.listing.specs.Tiling.{lowerPoints}
-use Rattle.listing.proofs.EachLaws.{each-implied, each-append}
-use Rattle.listing.proofs.InLaws.{in-front, in-behind}
 use Rattle.listing.proofs.GroupNumbers.{point-among, Apart, apart}
 use Rattle.listing.proofs.OnePoint.{framePoints, of-groups, number-among}
 use Rattle.writing.specs.AfterWriting.{depthIn, agreeTo, pathOf}

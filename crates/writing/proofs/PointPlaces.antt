@@ -7,19 +7,19 @@ use Prim.Native.Nat.{ℕ, _+_, _≤_}
 use native.Mathlib.Omega.{arith}
 use lib.Dec.{eqb}
 use lib.ListN.{length}
-use Rattle.registers.specs.Each.{Each}
-use Rattle.registers.proofs.TestOutcomes.{by-same-test}
+use Rattle.lists.specs.Each.{Each}
+use Rattle.lists.specs.Members.{among, Distinct, In, first, later}
+use Rattle.lists.proofs.TestOutcomes.{by-same-test}
+use Rattle.lists.proofs.TestLaws.{neither}
+use Rattle.lists.proofs.EachLaws.{each-implied, each-append, each-one, each-any}
+use Rattle.lists.proofs.InLaws.{in-front, in-behind, all-in}
 use Rattle.catalog.specs.Frames.{Point, Head}
-use Rattle.catalog.specs.Rules.{among}
 use Rattle.catalog.specs.Definitions.{noGroup, Content, Definition, pointsSize, pointFrames}
-use Rattle.catalog.specs.Soundness.{SoundDefinition, Distinct, numbersOf, In, first, later}
-use Rattle.catalog.proofs.TestLaws.{neither}
+use Rattle.catalog.specs.Soundness.{SoundDefinition, numbersOf}
 use Rattle.listing.specs.Points.{ModelPoint}
 use Rattle.listing.specs.Layout.{topScope, countsOf, noInstance, pointsAt, groupsAt, contentAt}
 use Rattle.listing.specs.Reading.{points, allButLast, readBy}
 use Rattle.listing.specs.Tiling.{lowerPoints, definedPoints, Tiles}
-use Rattle.listing.proofs.EachLaws.{each-implied, each-append, each-one, each-any}
-use Rattle.listing.proofs.InLaws.{in-front, in-behind, all-in}
 use Rattle.listing.proofs.LeftOutPad.{each-but-last}
 use Rattle.listing.proofs.GroupNumbers.{point-among, Apart, apart}
 use Rattle.listing.proofs.OnePoint.{one-point}
@@ -27,8 +27,7 @@ use Rattle.listing.proofs.BodyTiling.{read-tiled}
 use Rattle.listing.proofs.Readings.{pointsLeft, by-reading}
 use Rattle.writing.specs.AfterWriting.{depthIn, agreeTo, pathOf}
 use Rattle.writing.proofs.Places.{Place}
-use Rattle.writing.proofs.PointAddresses.{offsetIn, addressIn, agree-address, Reads, Own, each-own, Lower, each-lower}
-use Rattle.writing.proofs.PointAddresses.{lower-among}
+use Rattle.writing.proofs.PointAddresses.{offsetIn, addressIn, agree-address, Reads, Own, each-own, Lower, each-lower, lower-among}
 
 -- ---- One point behind the other
 

@@ -3,8 +3,8 @@ use mathlib.Core.Path.{_≡_, sym, ap, _∙_}
 use mathlib.Core.List.{List}
 use Prim.Native.Nat.{ℕ, _+_, _≤_}
 use lib.ListN.{length, take, drop}
+use Rattle.lists.specs.Members.{In}
 use Rattle.registers.specs.Registers.{shownRaw}
-use Rattle.catalog.specs.Soundness.{In}
 use Rattle.listing.specs.Listing.{Record, listed, allRecords}
 use Rattle.writing.proofs.PointPlaces.{point-inside, point-reads}
 use Rattle.writing.proofs.ModelAnew.{inside-map, registers-in-map}

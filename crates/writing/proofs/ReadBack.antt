@@ -7,17 +7,19 @@ use Prim.Native.Nat.{ℕ, _+_, _≤_, _<_}
 use native.Mathlib.Omega.{arith}
 use lib.ListN.{length, getD}
 use lib.Seq.{length-sets}
+use Rattle.lists.specs.Tests.{firstWith}
+use Rattle.lists.specs.Each.{Pairwise}
+use Rattle.lists.proofs.PairwiseLaws.{pairwise-length, pairwise-found}
 use Rattle.registers.specs.Registers.{split}
 use Rattle.registers.proofs.Splitting.{split-length}
 use Rattle.catalog.specs.Definitions.{definitions}
 use Rattle.listing.specs.Listing.{Record, listed, allRecords, withRoom, listing}
-use Rattle.listing.specs.Finding.{isRecord, firstWith, targetOf}
+use Rattle.listing.specs.Finding.{isRecord, targetOf}
 use Rattle.listing.proofs.ListingCases.{with-room, listing-records, walk-records}
 use Rattle.listing.proofs.WalksBehind.{listed-walks}
 use Rattle.writing.specs.Writing.{refusal, rewritten, written, writing}
-use Rattle.writing.specs.AfterWriting.{RecordAfter, Pairwise}
+use Rattle.writing.specs.AfterWriting.{RecordAfter}
 use Rattle.writing.proofs.WritingCases.{accepted-write}
-use Rattle.writing.proofs.PairwiseLaws.{pairwise-length, pairwise-found}
 use Rattle.writing.proofs.StoredRegisters.{stored-outside}
 use Rattle.writing.proofs.AfterCases.{same-record, after-written}
 use Rattle.writing.proofs.MapAfter.{map-after}

@@ -7,10 +7,11 @@ use Prim.Native.Nat.{ℕ, suc, _+_, _-_, _/_, _%_}
 use borrow.Author.Tests.{eqb-true}
 use lib.Dec.{eqb, leb}
 use lib.ListN.{length}
+use Rattle.lists.specs.Members.{In, first, later}
 use Rattle.catalog.specs.Frames.{Point, uint16, readOnly}
 use Rattle.catalog.specs.Rules.{hasCountPoint}
 use Rattle.catalog.specs.Definitions.{Groups, noGroup, group, Content, pointsSize}
-use Rattle.catalog.specs.Soundness.{In, first, later, SoundGroups}
+use Rattle.catalog.specs.Soundness.{SoundGroups}
 use Rattle.listing.specs.Points.{Scope}
 use Rattle.listing.specs.Layout.{topScope, countOf, fillSizeOf, restSize, countUnimplemented, fits, fillOf, countsOf, groupsAt}
 use Rattle.listing.proofs.CountsAgree.{sizes-agree, fill-sizes-agree, unimplemented-agrees}

@@ -5,8 +5,10 @@ use mathlib.Core.Option.{Option, none, some}
 use Prim.Native.Nat.{ℕ, _+_}
 use native.Mathlib.Omega.{arith}
 use lib.ListN.{length}
+use Rattle.lists.specs.Members.{In}
+use Rattle.lists.proofs.TestOutcomes.{impossible}
 use Rattle.catalog.specs.Definitions.{Content, Definition, definitions}
-use Rattle.catalog.specs.Soundness.{SoundDefinition, In}
+use Rattle.catalog.specs.Soundness.{SoundDefinition}
 use Rattle.register_map.specs.Scan.{Model, totalSize, marked, scan}
 use Rattle.register_map.proofs.MadeOfModels.{MadeOf, made-of-models}
 use Rattle.listing.specs.Points.{ModelPoint}
@@ -55,8 +57,7 @@ known-model catalog accepted m ps e = go (topOf (m .id) (definitions catalog)) r
     go : (o : Option Content) → topOf (m .id) (definitions catalog) ≡ o → KnownModel catalog m ps
     go none t =
         let q = sym (read-unknown (definitions catalog) (m .id) (m .body) t) ∙ e in
-        let z : _≡_ {A = ℕ} 0 1 = cc in
-        absurd (omega arith)
+        impossible (cc)
     go (some c) t =
         let d = top-sound catalog (m .id) c accepted t in
         let known = t ∙ ap some (sym (d .3)) in

@@ -3,13 +3,14 @@ use mathlib.Core.Path.{_≡_, refl, sym, ap, _∙_}
 use mathlib.Core.List.{List}
 use mathlib.Core.Option.{some}
 use Prim.Native.Nat.{ℕ}
+use Rattle.lists.specs.Members.{In}
+use Rattle.lists.specs.Tests.{firstWith}
+use Rattle.lists.proofs.FirstFound.{found-in}
 use Rattle.registers.specs.Registers.{AreRegisters}
-use Rattle.catalog.specs.Soundness.{In}
 use Rattle.listing.specs.Listing.{Record, listed, allRecords, listing}
-use Rattle.listing.specs.Finding.{isRecord, firstWith, targetOf}
+use Rattle.listing.specs.Finding.{isRecord, targetOf}
 use Rattle.listing.proofs.ListingCases.{walk-records}
 use Rattle.listing.proofs.WalksBehind.{listed-walks}
-use Rattle.listing.proofs.FirstFound.{found-in}
 use Rattle.writing.specs.Writing.{rewritten, written, writing}
 use Rattle.writing.specs.AfterWriting.{pathOf}
 use Rattle.writing.proofs.StoredRegisters.{shown-stored}

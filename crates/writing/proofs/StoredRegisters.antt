@@ -8,10 +8,10 @@ use native.Mathlib.Omega.{arith}
 use lib.ListN.{length, take, drop, getD, set, length-set, length-drop, take-append-drop}
 use lib.Seq.{sets, sets-eq, set-append-left, getD-set-other, length-take-le, take-at, drop-at, take-append-le, drop-append-le}
 use lib.Seq.{drop-drop, getD-take, getD-drop}
+use Rattle.lists.proofs.EachLaws.{each-drop}
 use Rattle.registers.specs.Registers.{AreRegisters, split, shownRaw}
 use Rattle.registers.proofs.Splitting.{split-shown}
 use Rattle.registers.proofs.RegisterParts.{first-registers}
-use Rattle.listing.proofs.EachLaws.{each-drop}
 
 -- ---- Parts of a list
 

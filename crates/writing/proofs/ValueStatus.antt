@@ -4,7 +4,7 @@ use mathlib.Core.Bool.{Bool, true, false, not, _&&_}
 use Prim.Native.Nat.{ℕ, _≤_}
 use native.Mathlib.Omega.{arith}
 use lib.Dec.{eqb}
-use Rattle.registers.proofs.TestOutcomes.{clash}
+use Rattle.lists.proofs.TestOutcomes.{clash}
 use Rattle.point_types.specs.Rows.{rows, rowAmong, mayScale, registersOf}
 use Rattle.point_types.proofs.Table.{listed, scalable-width}
 use Rattle.values.specs.Classes.{value, unimplemented, outOfRange, Classified, ofClass, tooWide, unknownType, classified, isValue, isUnimplementedClass}

@@ -4,18 +4,17 @@ use mathlib.Core.List.{List, [], _∷_, _++_, map}
 use Prim.Native.Nat.{ℕ, _+_}
 use native.Mathlib.Omega.{arith}
 use lib.ListN.{length}
-use Rattle.catalog.specs.Soundness.{In, first, later}
+use Rattle.lists.specs.Members.{In, first, later}
+use Rattle.lists.specs.Each.{Pairwise}
+use Rattle.lists.proofs.InLaws.{in-either, not-in-none}
+use Rattle.lists.proofs.PairwiseLaws.{pairwise-append, pairwise-same, pairwise-map}
 use Rattle.register_map.specs.Scan.{Model, sizeOf, totalSize, Ending}
 use Rattle.listing.specs.Points.{ModelPoint}
 use Rattle.listing.specs.Reading.{Reading, unknown, faulty, points}
 use Rattle.listing.specs.Listing.{Record, recordOf, listed, withRecords, walk}
 use Rattle.listing.specs.Walks.{pointsOf}
-use Rattle.listing.proofs.InLaws.{in-either}
 use Rattle.listing.proofs.WalkSteps.{not-listed, walk-no-records, walk-faulty, walk-points}
 use Rattle.listing.proofs.ModelRecords.{Listed, walk-listed, end-listed}
-use Rattle.writing.specs.AfterWriting.{Pairwise}
-use Rattle.writing.proofs.ListLaws.{not-in-none}
-use Rattle.writing.proofs.PairwiseLaws.{pairwise-append, pairwise-same, pairwise-map}
 
 -- One of the records of points is the record of one of them.
 in-records : (i at id : ℕ) (ps : List ModelPoint) (r : Record) → In r (map (recordOf i at id) ps)

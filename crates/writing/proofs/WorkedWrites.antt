@@ -5,6 +5,7 @@ use mathlib.Core.List.{List, [], _∷_, _++_, map}
 use mathlib.Core.Option.{Option, none, some}
 use Prim.Native.Nat.{ℕ}
 use lib.ListN.{take}
+use Rattle.lists.specs.Tests.{firstWith}
 use Rattle.registers.specs.Registers.{join, split, shownRaw, tooWide}
 use Rattle.point_types.specs.Rows.{rows, rowAmong, mayScale, registersOf}
 use Rattle.values.specs.Classes.{twosComplement, integer, inRange, classOf, classified}
@@ -15,12 +16,11 @@ use Rattle.catalog.specs.Definitions.{Content, parsed, definitions}
 use Rattle.register_map.specs.Headers.{opening}
 use Rattle.register_map.specs.Scan.{scanFrom, scan}
 use Rattle.listing.specs.Points.{pointAt}
-use Rattle.listing.specs.Layout.{within, groupsSize, fillSize, countUnimplemented, fits, fillOf, pointsAt, instances, groupsAt}
-use Rattle.listing.specs.Layout.{contentAt}
+use Rattle.listing.specs.Layout.{within, groupsSize, fillSize, countUnimplemented, fits, fillOf, pointsAt, instances, groupsAt, contentAt}
 use Rattle.listing.specs.Reading.{endsWithPad, allButLast, laidOut, readBy, topOf, reading}
 use Rattle.listing.specs.Listing as Listing
 use Rattle.listing.specs.Listing.{Record, recordNumbers, walk, recordsBy, allRecords, withRoom, listing}
-use Rattle.listing.specs.Finding.{firstWith, isRecord, finding}
+use Rattle.listing.specs.Finding.{isRecord, finding}
 use Rattle.listing.proofs.WorkedCases.{Shown, listed, shown, model, times, point, uint16, scaled, sunssf, end, joined, body, row}
 use Rattle.writing.specs.Writing.{refusal, rewritten, Answer, refused, written, writing}
 use Rattle.writing.specs.AfterWriting.{depthIn, isScaleFactorOf}

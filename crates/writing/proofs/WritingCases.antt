@@ -7,19 +7,19 @@ use Prim.Native.Nat.{ℕ, _≤_}
 use native.Mathlib.Omega.{arith}
 use borrow.Author.Tests.{eqb-false, ltb-false}
 use lib.Dec.{eqb, ltb}
-use Rattle.registers.proofs.TestOutcomes.{by-test}
+use Rattle.lists.specs.Tests.{firstWith}
+use Rattle.lists.proofs.TestOutcomes.{impossible, by-test}
 use Rattle.values.specs.Classes.{classified, isUnimplementedClass}
 use Rattle.catalog.specs.Frames.{readOnly}
 use Rattle.listing.specs.Listing.{Record, allRecords, withRoom, listing}
 use Rattle.listing.specs.Listing as Listing
-use Rattle.listing.specs.Finding.{isRecord, firstWith, finding, Target, targetOf}
+use Rattle.listing.specs.Finding.{isRecord, finding, Target, targetOf}
 use Rattle.listing.specs.Finding as Finding
 use Rattle.listing.proofs.RefusalNumbers.{Between, catalog-number, opening-number}
 use Rattle.listing.proofs.WalkSteps.{not-listed}
 use Rattle.listing.proofs.WalksBehind.{walk-number}
 use Rattle.listing.proofs.ListingCases as listings
-use Rattle.listing.proofs.ListingCases.{catalogRefused, openingRefused, walkRefused, noRoom, allListed, listing-case}
-use Rattle.listing.proofs.ListingCases.{listing-records, walk-records}
+use Rattle.listing.proofs.ListingCases.{catalogRefused, openingRefused, walkRefused, noRoom, allListed, listing-case, listing-records, walk-records}
 use Rattle.writing.specs.Writing.{canHold, refusal, rewritten, Answer, refused, written, writing}
 
 -- An answer by what decides it.
@@ -172,9 +172,9 @@ module _ (catalog map : List ℕ) (index number : ℕ) (path : List ℕ) (raw : 
   -- Only one way leads to a new map.
   accepted-case : (answer : Answer) → Case catalog map index number path raw answer → answer ≡ written new
       → Accepted catalog map index number path raw new
-  accepted-case answer (listingRefused e) q = let z : _≡_ {A = ℕ} 0 1 = cc in absurd (omega arith)
-  accepted-case answer (noPoint e f) q = let z : _≡_ {A = ℕ} 0 1 = cc in absurd (omega arith)
-  accepted-case answer (pointRefused e f r) q = let z : _≡_ {A = ℕ} 0 1 = cc in absurd (omega arith)
+  accepted-case answer (listingRefused e) q = impossible (cc)
+  accepted-case answer (noPoint e f) q = impossible (cc)
+  accepted-case answer (pointRefused e f r) q = impossible (cc)
   accepted-case answer (pointWritten {rs = rs} {headers = headers} {w = w} e f r) q =
       record { records = rs; headers = headers; all = e; point = w; found = f; accepted = r; rewrites = cc }
 

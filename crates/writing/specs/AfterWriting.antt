@@ -5,9 +5,9 @@ use mathlib.Core.List.{List, [], _∷_}
 use mathlib.Core.Option.{Option, none, some}
 use Prim.Native.Nat.{ℕ, zero, suc}
 use lib.Dec.{eqb}
+use Rattle.lists.specs.Members.{among}
 use Rattle.values.specs.Classes.{value, ofClass, classified}
 use Rattle.catalog.specs.Frames.{scaleByPoint}
-use Rattle.catalog.specs.Rules.{among}
 use Rattle.catalog.specs.Definitions.{Groups, noGroup, group, Content, Definition, pointFrames, groupFrames}
 use Rattle.catalog.specs.Soundness.{numbersOf}
 use Rattle.listing.specs.Points.{ModelPoint, statusOf, scaleOf}
@@ -106,12 +106,3 @@ pub record RecordAfter (ds : List Definition) (w : Record) (raw : ℕ) (r s : Re
   pub id : s .id ≡ r .id
   pub address : s .address ≡ r .address
   pub point : PointBecomes (eqb (r .index) (w .index)) (topOf (w .id) ds) (w .point) raw (r .point) (s .point)
-
--- ---- Lists
-
--- The lists are as long as each other, and each pair of them is related.
-abbrev pub Pairwise : {A : Type 0} → (A → A → Type 0) → List A → List A → Type 0
-Pairwise R [] [] = Unit {0}
-Pairwise R [] (y ∷ ys) = ⊥
-Pairwise R (x ∷ xs) [] = ⊥
-Pairwise R (x ∷ xs) (y ∷ ys) = R x y × Pairwise R xs ys

@@ -5,7 +5,7 @@ use mathlib.Core.Logic.{_⊎_, inl, inr}
 use Prim.Native.Nat.{ℕ}
 use borrow.Author.Tests.{eq-eqb, ne-eqb, lt-ltb, le-ltb}
 use lib.Dec.{eqb}
-use Rattle.registers.proofs.TestOutcomes.{clash}
+use Rattle.lists.proofs.TestOutcomes.{clash}
 use Rattle.register_map.proofs.HeaderLaws.{first-id}
 use Rattle.register_map.proofs.header_of.Statement.{statement}
 use Rattle.register_map.proofs.header_of.Tie as tie

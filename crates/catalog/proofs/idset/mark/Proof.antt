@@ -1,5 +1,4 @@
 -- `catalog::idset::mark` meets its contract.
-use mathlib.Core.Path.{sym}
 use native.Mathlib.Omega.{arith}
 use Rattle.catalog.proofs.MarkLaws as laws
 use borrow.Author.Needs.{needs}

@@ -5,7 +5,6 @@ use borrow.Author.Tests.{eq-eqb, ne-eqb}
 use lib.Dec.{eqb}
 use Rattle.catalog.specs.Answers.{headForm}
 use Rattle.catalog.proofs.KindCases as kinds
-use borrow.Author.Needs.{needs}
 use Rattle.catalog.proofs.rules.is_miscounted.Statement.{statement}
 use Rattle.catalog.proofs.rules.is_miscounted.Tie as tie
 

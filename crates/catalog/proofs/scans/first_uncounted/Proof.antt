@@ -1,5 +1,5 @@
 -- `catalog::scans::first_uncounted` meets its contract: the count points are marked, and taken out again.
-use mathlib.Core.Path.{_≡_, refl, sym, ap, _∙_}
+use mathlib.Core.Path.{sym, _∙_}
 use Rattle.catalog.proofs.MarkLaws as laws
 use borrow.Author.Needs.{needs}
 use Rattle.catalog.proofs.scans.first_uncounted.Statement.{statement}

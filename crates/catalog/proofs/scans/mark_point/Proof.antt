@@ -1,5 +1,5 @@
 -- `catalog::scans::mark_point` meets its contract.
-use mathlib.Core.Path.{_≡_, refl, sym, ap, _∙_}
+use mathlib.Core.Path.{sym, ap, _∙_}
 use borrow.Author.Tests.{not-true, not-false}
 use lib.Dec.{eqb}
 use Rattle.catalog.specs.Scans.{pointWords}

@@ -1,6 +1,4 @@
 -- `catalog::scans::take_number_out` meets its contract.
-use mathlib.Core.Path.{_≡_, refl, sym, ap, _∙_}
-use native.Mathlib.Omega.{arith}
 use borrow.Author.Tests.{lt-leb, le-leb}
 use Rattle.catalog.proofs.MarkLaws as laws
 use borrow.Author.Needs.{needs}

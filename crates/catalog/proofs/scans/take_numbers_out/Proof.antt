@@ -1,16 +1,16 @@
 -- `catalog::scans::take_numbers_out` meets its contract: the frames passed are taken out.
-use mathlib.Core.Path.{_≡_, refl, sym, ap, _∙_}
+use mathlib.Core.Path.{_≡_, sym, _∙_}
 use mathlib.Core.Bool.{false}
 use Prim.Native.Nat.{_+_, _-_, _≤_}
 use native.Mathlib.Omega.{arith}
-use Rattle.catalog.specs.Rules.{among}
-use Rattle.catalog.specs.Scans.{numbersBefore, hasNumber}
+use Rattle.lists.specs.Members.{among}
+use Rattle.catalog.specs.Scans.{numbersBefore}
 use Rattle.catalog.specs.Marks.{Marks}
 use Rattle.catalog.proofs.WordScans.{number-next, number-nowhere}
 use Rattle.catalog.proofs.MarkLaws as laws
-use borrow.Author.Needs.{needs}
 use Rattle.catalog.proofs.scans.take_numbers_out.Statement.{statement}
 use Rattle.catalog.proofs.scans.take_numbers_out.Tie as tie
+use borrow.Author.Needs.{needs}
 
 abbrev Inv-loop : tie.InvT-loop
 Inv-loop catalog numbers₀ first end j₀ numbers j =

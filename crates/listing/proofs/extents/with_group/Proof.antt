@@ -5,7 +5,7 @@ use mathlib.Core.Logic.{⊎-elim}
 use Prim.Native.Nat.{ℕ, _+_, _*_, min}
 use native.Mathlib.Omega.{arith}
 use borrow.Author.Needs.{needs}
-use Rattle.registers.proofs.TestOutcomes.{clash}
+use Rattle.lists.proofs.TestOutcomes.{clash}
 use Rattle.listing.proofs.extents.with_group.Statement.{statement}
 use Rattle.listing.proofs.extents.with_group.Tie as tie
 

@@ -3,15 +3,14 @@ use mathlib.Core.Path.{_≡_, refl, sym, _∙_}
 use mathlib.Core.Bool.{Bool, true, false}
 use mathlib.Core.List.{List, [], _∷_}
 use mathlib.Core.Option.{none, some}
-use Prim.Native.Nat.{ℕ}
-use native.Mathlib.Omega.{arith}
-use Rattle.registers.specs.Each.{Each}
-use Rattle.catalog.specs.Soundness.{In, first, later}
-use Rattle.listing.specs.Finding.{firstWith}
+use Rattle.lists.proofs.TestOutcomes.{impossible}
+use Rattle.lists.specs.Each.{Each}
+use Rattle.lists.specs.Members.{In, first, later}
+use Rattle.lists.specs.Tests.{firstWith}
 
 -- Nothing is not something.
 pub not-none : {A B : Type 0} {x : B} → none ≡ some x → A
-not-none e = let z : _≡_ {A = ℕ} 0 1 = cc in absurd (omega arith)
+not-none e = impossible (cc)
 
 module _ {A : Type 0} (test : A → Bool) where
   -- Where the test holds of the first one,

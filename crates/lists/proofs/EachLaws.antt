@@ -2,8 +2,8 @@
 use mathlib.Core.List.{List, [], _∷_, _++_}
 use Prim.Native.Nat.{ℕ, zero, suc}
 use lib.ListN.{drop}
-use Rattle.registers.specs.Each.{Each}
-use Rattle.catalog.specs.Soundness.{In, first, later}
+use Rattle.lists.specs.Each.{Each}
+use Rattle.lists.specs.Members.{In, first, later}
 
 -- What follows of each.
 pub each-implied : {A : Type 0} (P Q : A → Type 0) → ((x : A) → P x → Q x) → (xs : List A) → Each P xs → Each Q xs
@@ -34,3 +34,9 @@ pub each-drop : {A : Type 0} (P : A → Type 0) (i : ℕ) (xs : List A) → Each
 each-drop P zero xs e = e
 each-drop P (suc i) [] e = tt
 each-drop P (suc i) (x ∷ xs) e = each-drop P i xs (e .1)
+
+-- With one of them replaced.
+pub each-replaced : {A : Type 0} (P : A → Type 0) (front behind : List A) (x y : A) → (P x → P y) → Each P (front ++ x ∷ behind)
+    → Each P (front ++ y ∷ behind)
+each-replaced P [] behind x y f e = (f (e .0), e .1)
+each-replaced P (z ∷ front) behind x y f e = (e .0, each-replaced P front behind x y f (e .1))

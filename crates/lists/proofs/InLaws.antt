@@ -1,8 +1,10 @@
--- One of a list is one of a longer list.
+-- The members of a list.
+use mathlib.Core.Path.{_≡_}
 use mathlib.Core.List.{List, [], _∷_, _++_}
-use Rattle.registers.specs.Each.{Each}
-use Rattle.catalog.specs.Soundness.{In, first, later}
-use Rattle.listing.proofs.EachLaws.{each-implied}
+use Rattle.lists.specs.Each.{Each}
+use Rattle.lists.proofs.TestOutcomes.{impossible}
+use Rattle.lists.specs.Members.{In, first, later}
+use Rattle.lists.proofs.EachLaws.{each-implied}
 
 module _ {A : Type 0} (x : A) where
   -- With others behind the list, or in front of it.
@@ -24,3 +26,7 @@ module _ {A : Type 0} (x : A) where
 pub all-in : {A : Type 0} (xs : List A) → Each (λ y. In y xs) xs
 all-in [] = tt
 all-in (x ∷ xs) = (first, each-implied (λ y. In y xs) (λ y. In y (x ∷ xs)) (λ y i. later i) xs (all-in xs))
+
+-- Nothing is in an empty list.
+pub not-in-none : {A B : Type 0} (x : A) (xs : List A) → xs ≡ [] → In x xs → B
+not-in-none x (y ∷ ys) e i = impossible (cc)

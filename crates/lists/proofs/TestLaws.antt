@@ -5,12 +5,11 @@ use mathlib.Core.List.{List, [], _∷_}
 use mathlib.Core.Logic.{_↔_, Iff·rfl, Iff·trans, Iff·and}
 use mathlib.Core.Option.{Option, none}
 use Prim.Native.Nat.{ℕ}
-use native.Mathlib.Omega.{arith}
 use borrow.Author.Tests.{eqb-true, eq-eqb, not-false}
 use lib.Dec.{eqb}
-use Rattle.registers.proofs.TestOutcomes.{clash, by-test}
-use Rattle.registers.specs.Each.{Each}
-use Rattle.catalog.specs.Rules.{oneHolds, firstBroken}
+use Rattle.lists.specs.Each.{Each}
+use Rattle.lists.specs.Tests.{oneHolds, firstBroken}
+use Rattle.lists.proofs.TestOutcomes.{impossible, clash, by-test}
 
 -- Neither of two tests holds.
 pub neither : (a b : Bool) → (a || b ≡ false) ↔ ((a ≡ false) × (b ≡ false))
@@ -39,5 +38,5 @@ none-broken [] = (λ e. tt, λ e. refl)
 none-broken (r ∷ rs) =
     let P : Option ℕ → Type 0 = λ o. (o ≡ none) ↔ ((r .0 ≡ false) × Each (λ q. q .0 ≡ false) rs) in
     let rest = none-broken rs in
-    by-test P (r .0) (λ t. (λ e. let z : _≡_ {A = ℕ} 0 1 = cc in absurd (omega arith), λ h. clash (sym t ∙ h .0)))
+    by-test P (r .0) (λ t. (λ e. impossible (cc), λ h. clash (sym t ∙ h .0)))
     (λ f. (λ e. (f, rest .0 e), λ h. rest .1 (h .1)))

@@ -1,12 +1,16 @@
--- A test by its two outcomes, and two tests together.
+-- A test by its two outcomes, two tests together, and what follows from a contradiction.
 use mathlib.Core.Path.{_≡_, refl, sym}
 use mathlib.Core.Bool.{Bool, true, false, _&&_}
 use Prim.Native.Nat.{ℕ}
 use native.Mathlib.Omega.{arith}
 
--- No test comes out both ways.
+-- From a contradiction anything follows. `impossible (cc)` ends a case whose equations contradict each other.
+pub impossible : {A : Type 0} → _≡_ {A = ℕ} 0 1 → A
+impossible e = absurd (omega arith)
+
+-- No test has both outcomes.
 pub clash : {A : Type 0} → true ≡ false → A
-clash e = let z : _≡_ {A = ℕ} 0 1 = cc in absurd (omega arith)
+clash e = impossible (cc)
 
 -- What holds of both outcomes of a test holds of the one that it picks.
 pub by-test : {A : Type 0} (P : A → Type 0) (b : Bool) {x y : A} → (b ≡ true → P x) → (b ≡ false → P y)

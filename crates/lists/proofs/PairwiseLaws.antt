@@ -3,17 +3,13 @@ use mathlib.Core.Path.{_≡_, refl, sym, _∙_}
 use mathlib.Core.Bool.{Bool, true, false}
 use mathlib.Core.List.{List, [], _∷_, _++_, map}
 use mathlib.Core.Option.{some}
-use Prim.Native.Nat.{ℕ, zero, suc, _+_}
+use Prim.Native.Nat.{_+_}
 use native.Mathlib.Omega.{arith}
 use lib.ListN.{length}
-use Rattle.registers.specs.Each.{Each}
-use Rattle.catalog.specs.Soundness.{In, first, later}
-use Rattle.listing.specs.Points.{ModelPoint}
-use Rattle.listing.specs.Layout.{instances}
-use Rattle.listing.specs.Finding.{firstWith}
-use Rattle.listing.proofs.EachLaws.{each-parts}
-use Rattle.listing.proofs.FirstFound.{not-none, found-here, found-behind}
-use Rattle.writing.specs.AfterWriting.{Pairwise}
+use Rattle.lists.specs.Each.{Pairwise}
+use Rattle.lists.specs.Members.{In, first, later}
+use Rattle.lists.specs.Tests.{firstWith}
+use Rattle.lists.proofs.FirstFound.{not-none, found-here, found-behind}
 
 module _ {A : Type 0} (R : A → A → Type 0) where
   -- Pairs behind pairs.
@@ -77,16 +73,3 @@ pairwise-map R Q f g h [] [] p = tt
 pairwise-map R Q f g h [] (y ∷ ys) p = absurd p
 pairwise-map R Q f g h (x ∷ xs) [] p = absurd p
 pairwise-map R Q f g h (x ∷ xs) (y ∷ ys) p = (h x y (p .0), pairwise-map R Q f g h xs ys (p .1))
-
-module _ (P : ModelPoint → Type 0) (R : ModelPoint → ModelPoint → Type 0) (one other : ℕ → ℕ → List ModelPoint)
-    (each : (j at : ℕ) → Each P (one j at) → Pairwise R (one j at) (other j at)) where
-  -- The instances of a group, if so it is with each.
-  pub pairwise-instances : (n j offset size : ℕ) → Each P (instances n j offset size one)
-      → Pairwise R (instances n j offset size one) (instances n j offset size other)
-  unfolding instances
-  pairwise-instances zero j offset size e = tt
-  pairwise-instances (suc n) j offset size e =
-      let s = each-parts P (one j offset) (instances n (suc j) (offset + size) size one) e in
-      pairwise-append R (one j offset) (other j offset) (instances n (suc j) (offset + size) size one)
-      (instances n (suc j) (offset + size) size other) (each j offset (s .0))
-      (pairwise-instances n (suc j) (offset + size) size (s .1))

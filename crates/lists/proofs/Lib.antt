@@ -1,0 +1,8 @@
+-- Tests
+pub mod TestOutcomes
+pub mod TestLaws
+-- Lists
+pub mod EachLaws
+pub mod InLaws
+pub mod FirstFound
+pub mod PairwiseLaws
