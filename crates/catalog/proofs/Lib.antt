@@ -19,6 +19,7 @@ pub mod SoundFrames
 pub mod NumberedModels
 pub mod SoundModels
 pub mod EveryGroup
+pub mod GroupNumbers
 -- What the proofs of the functions cite
 pub mod FrameKinds
 pub mod FramesByIndex

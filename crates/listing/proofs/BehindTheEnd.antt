@@ -9,7 +9,7 @@ use Rattle.catalog.specs.Definitions.{definitions}
 use Rattle.register_map.specs.Headers.{opening}
 use Rattle.register_map.specs.Scan.{Model, marked, scan}
 use Rattle.register_map.proofs.BehindTheMarker.{scan-behind, opening-behind}
-use Rattle.listing.specs.Reading.{Reading, reading}
+use Rattle.layout.specs.Reading.{Reading, reading}
 use Rattle.listing.specs.Listing.{Record, listed, Answer, walk, recordsBy, withRoom, listing}
 use Rattle.listing.proofs.ListingCases.{catalog-refused, accepted-listed, unopened, opened}
 use Rattle.listing.proofs.WalksBehind.{headers-walked, listed-walks}

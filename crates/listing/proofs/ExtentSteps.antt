@@ -11,13 +11,13 @@ use lib.ListN.{length}
 use Rattle.lists.proofs.TestOutcomes.{impossible, clash}
 use Rattle.catalog.specs.Frames.{Point, Head, countByPoint, fill}
 use Rattle.catalog.specs.Definitions.{Groups, noGroup, group, pointsSize}
-use Rattle.listing.specs.Points.{Scope}
-use Rattle.listing.specs.Layout.{countOf, groupsSize, fillSize, countUnimplemented}
-use Rattle.listing.specs.Counts.{groupsPoints, fillPoints, sizeOr0}
+use Rattle.layout.specs.Points.{Scope}
+use Rattle.layout.specs.Layout.{countOf, groupsSize, fillSize, countUnimplemented}
+use Rattle.layout.specs.Counts.{groupsPoints, fillPoints, sizeOr0}
+use Rattle.layout.proofs.Capping.{capped-factor}
 use Rattle.listing.specs.Promises.{ExtentOf, SameExtent, WithGroup}
 use Rattle.listing.specs.declared.extents.Run.{Run}
 use Rattle.listing.specs.declared.extents.Extent.{Extent}
-use Rattle.listing.proofs.Capping.{capped-factor}
 
 -- Where a group is still to come, none that was met fills the model.
 abbrev pub NoFillYet : Groups → Extent → Type 0

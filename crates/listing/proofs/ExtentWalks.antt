@@ -7,14 +7,14 @@ use native.Mathlib.Omega.{arith}
 use lib.ListN.{length, length-append}
 use Rattle.catalog.specs.Frames.{Point, Head, endFrame, fill, frameIn}
 use Rattle.catalog.specs.Definitions.{Groups, noGroup, group, pointsSize, pointFrames, groupFrames}
-use Rattle.listing.specs.Points.{Scope}
-use Rattle.listing.specs.Walks.{heldAt, pastEnd, headOf, AtGroups}
+use Rattle.layout.specs.Points.{Scope}
+use Rattle.layout.specs.Walks.{heldAt, pastEnd, headOf, AtGroups}
+use Rattle.layout.proofs.Standing as standing
+use Rattle.layout.proofs.IntoGroups as groups
+use Rattle.layout.proofs.Sizes.{points-small}
 use Rattle.listing.specs.Promises.{RunOf, ExtentOf, SameExtent, WithGroup}
 use Rattle.listing.specs.declared.extents.Run.{Run}
 use Rattle.listing.specs.declared.extents.Extent.{Extent}
-use Rattle.listing.proofs.Standing as standing
-use Rattle.listing.proofs.IntoGroups as groups
-use Rattle.listing.proofs.Sizes.{points-small}
 use Rattle.listing.proofs.ExtentSteps.{SummedUp, all-met, one-more}
 
 -- How many frames a group and those behind it take.

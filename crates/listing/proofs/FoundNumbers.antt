@@ -23,16 +23,16 @@ use Rattle.catalog.specs.Soundness.{SoundPoint, SoundDefinition}
 use Rattle.catalog.proofs.GroupSizes.{type-size}
 use Rattle.catalog.proofs.AcceptedIsSound.{accepted-is-sound}
 use Rattle.register_map.specs.Scan.{Model, sizeOf, Ending, marked, broken}
-use Rattle.listing.specs.Points.{ModelPoint}
-use Rattle.listing.specs.Reading.{Reading, unknown, faulty, points, reading}
+use Rattle.layout.specs.Points.{ModelPoint}
+use Rattle.layout.specs.Reading.{Reading, unknown, faulty, points, reading}
+use Rattle.layout.proofs.ReadingSteps.{reading-none, reading-first}
+use Rattle.layout.proofs.PointClasses.{row-of-size}
+use Rattle.layout.proofs.ListedPoints.{listed-by, all-sound}
 use Rattle.listing.specs.Listing.{Record, recordOf, listed, walk, walked, allRecords}
 use Rattle.listing.specs.Listing as Listing
 use Rattle.listing.specs.Finding.{isRecord, Finding, refused, nothing, found, finding, Told, refusedTold, nothingTold, foundTold, told}
 use Rattle.listing.specs.Promises.{foundNumbers, foundIn, NarrowFound, targetIn, toldBy}
 use Rattle.listing.specs.declared.records.Sought.{Sought}
-use Rattle.listing.proofs.ReadingSteps.{reading-none, reading-first}
-use Rattle.listing.proofs.PointClasses.{row-of-size}
-use Rattle.listing.proofs.ListedPoints.{listed-by, all-sound}
 use Rattle.listing.proofs.WalkSteps.{not-listed, in-front-listed, walk-unknown, walk-faulty, walk-points}
 
 -- ---- Points of an accepted catalog

@@ -13,17 +13,17 @@ use Rattle.catalog.specs.Frames.{Point, Head}
 use Rattle.catalog.specs.Definitions.{Groups, noGroup, group, pointsSize, pointFrames, groupFrames}
 use Rattle.catalog.specs.Soundness.{numbersOf}
 use Rattle.catalog.proofs.References.{points-resolve}
-use Rattle.listing.specs.Points.{ModelPoint, Scope}
-use Rattle.listing.specs.Layout.{withPoint, within, countOf, groupsSize, pointsAt, instances, groupsAt}
-use Rattle.listing.specs.Counts.{groupsPoints}
-use Rattle.listing.specs.Walks.{scopeIn, Elsewhere, IsTable}
+use Rattle.catalog.proofs.GroupNumbers.{none-of-parts, NoneOf}
+use Rattle.layout.specs.Points.{ModelPoint, Scope}
+use Rattle.layout.specs.Layout.{withPoint, within, countOf, groupsSize, pointsAt, instances, groupsAt}
+use Rattle.layout.specs.Counts.{groupsPoints}
+use Rattle.layout.specs.Walks.{scopeIn, Elsewhere, IsTable}
+use Rattle.layout.proofs.IntoGroups.{SoundBelow, beside}
+use Rattle.layout.proofs.CountsAgree as counts
+use Rattle.layout.proofs.ReachOnly.{Agree, reach-agrees, groups-agree, points-agree}
+use Rattle.layout.proofs.PointCounts as pointCounts
 use Rattle.listing.specs.Promises.{written}
 use Rattle.listing.specs.declared.records.Visit.{Visit}
-use Rattle.listing.proofs.GroupNumbers.{none-of-parts, NoneOf}
-use Rattle.listing.proofs.IntoGroups.{SoundBelow, beside}
-use Rattle.listing.proofs.CountsAgree as counts
-use Rattle.listing.proofs.ReachOnly.{Agree, reach-agrees, groups-agree, points-agree}
-use Rattle.listing.proofs.PointCounts as pointCounts
 use Rattle.listing.proofs.WrittenRecords as lists
 
 -- ---- From an instance on

@@ -8,21 +8,21 @@ use lib.ListN.{length, getD, set, length-set}
 use Rattle.catalog.specs.Frames.{Point, Head, frameIn}
 use Rattle.catalog.specs.Definitions.{Groups, group, pointsSize, groupFrames}
 use Rattle.catalog.specs.Soundness.{numbersOf}
-use Rattle.listing.specs.Points.{Scope}
-use Rattle.listing.specs.Layout.{within, countOf, groupsSize, pointsAt, groupsAt}
-use Rattle.listing.specs.Counts.{groupsPoints}
-use Rattle.listing.specs.Walks.{heldAt, Stands, pastEnd, headOf, levelOf, scopeIn, noted, Elsewhere, IsTable}
+use Rattle.layout.specs.Points.{Scope}
+use Rattle.layout.specs.Layout.{within, countOf, groupsSize, pointsAt, groupsAt}
+use Rattle.layout.specs.Counts.{groupsPoints}
+use Rattle.layout.specs.Walks.{heldAt, Stands, pastEnd, headOf, levelOf, scopeIn, noted, Elsewhere, IsTable}
+use Rattle.layout.proofs.Standing as standing
+use Rattle.layout.proofs.IntoGroups.{SoundBelow, below, sound-below, standing-at}
+use Rattle.layout.proofs.CountsAgree as counts
+use Rattle.layout.proofs.Sizes.{points-sized}
+use Rattle.layout.proofs.NotedPoints.{noted-length, noted-scope, numbers-in-table}
 use Rattle.listing.specs.Promises.{capacity, written, RunAsks, GroupsAsk, BehindRun, BehindGroups}
 use Rattle.listing.specs.declared.records.Visit.{Visit}
 use Rattle.listing.specs.declared.records.Progress.{Progress}
-use Rattle.listing.proofs.Standing as standing
-use Rattle.listing.proofs.IntoGroups.{SoundBelow, below, sound-below, standing-at}
-use Rattle.listing.proofs.CountsAgree as counts
 use Rattle.listing.proofs.WrittenRecords as lists
 use Rattle.listing.proofs.GroupsWriting as writing
 use Rattle.listing.proofs.GroupsWriting.{Writing}
-use Rattle.listing.proofs.Sizes.{points-sized}
-use Rattle.listing.proofs.NotedPoints.{noted-length, noted-scope, numbers-in-table}
 
 module _ {ws body : List ℕ} {visit : Visit} {fill levels : ℕ} {path table₀ out₀ : List ℕ} {start : Progress}
     (asks : GroupsAsk ws body table₀ out₀ visit fill levels path start) where

@@ -11,7 +11,7 @@ use Rattle.catalog.specs.Checking as Checking
 use Rattle.catalog.specs.Definitions.{definitions}
 use Rattle.register_map.specs.Headers.{opening}
 use Rattle.register_map.specs.Scan.{Model}
-use Rattle.listing.specs.Reading.{Reading, reading}
+use Rattle.layout.specs.Reading.{Reading, reading}
 use Rattle.listing.specs.Listing.{Record, recordWidth, Answer, refused, listed, walked, recordsBy, allRecords, withRoom, listing}
 
 -- ---- 1 to 11, 20 and 21, and 30

@@ -14,12 +14,12 @@ use Rattle.lists.specs.Tests.{firstWith}
 use Rattle.register_map.specs.Headers.{model, endMarker, refused, headerAt}
 use Rattle.register_map.specs.Scan.{Model}
 use Rattle.register_map.proofs.HeaderCases.{model-ends}
-use Rattle.listing.specs.Points.{ModelPoint}
-use Rattle.listing.specs.Reading.{Fault, Reading, unknown, faulty, points}
+use Rattle.layout.specs.Points.{ModelPoint}
+use Rattle.layout.specs.Reading.{Fault, Reading, unknown, faulty, points}
+use Rattle.layout.specs.Walks.{pointsOf}
 use Rattle.listing.specs.Listing as Listing
 use Rattle.listing.specs.Listing.{Record, recordWidth, recordOf, Answer, listed, walked, entries, stored}
 use Rattle.listing.specs.Finding.{isRecord}
-use Rattle.listing.specs.Walks.{pointsOf}
 use Rattle.listing.specs.Promises.{foundWidth, capacity, written, passedOver, metBy, foundIn, MapFits, behindMap}
 use Rattle.listing.specs.declared.records.Sought.{Sought}
 use Rattle.listing.specs.declared.records.Task.{Task}

@@ -12,8 +12,8 @@ use Rattle.register_map.specs.Scan.{Model, sizeOf, Scan, marked, broken, ahead,
 use Rattle.register_map.proofs.ScanSteps.{scan-next, scan-end, scan-refused, scan-enough}
 use Rattle.register_map.proofs.HeaderLaws.{header-late}
 use Rattle.register_map.proofs.HeaderCases.{model-ends}
-use Rattle.listing.specs.Points.{ModelPoint}
-use Rattle.listing.specs.Reading.{Reading, unknown, faulty, points, Fault, faultNumber}
+use Rattle.layout.specs.Points.{ModelPoint}
+use Rattle.layout.specs.Reading.{Reading, unknown, faulty, points, Fault, faultNumber}
 use Rattle.listing.specs.Listing as Listing
 use Rattle.listing.specs.Listing.{recordOf, Answer, listed, withRecords, walk, walked}
 use Rattle.listing.proofs.WalkSteps.{walk-unknown, walk-faulty, walk-points}

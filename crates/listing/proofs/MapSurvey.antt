@@ -10,11 +10,11 @@ use Rattle.lists.proofs.TestOutcomes.{impossible}
 use Rattle.register_map.specs.Headers.{model, endMarker, refused, headerAt}
 use Rattle.register_map.specs.Scan.{Model}
 use Rattle.register_map.proofs.HeaderCases.{model-ends}
-use Rattle.listing.specs.Points.{ModelPoint}
-use Rattle.listing.specs.Reading.{Reading, unknown, faulty, points, Fault, faultNumber}
+use Rattle.layout.specs.Points.{ModelPoint}
+use Rattle.layout.specs.Reading.{Reading, unknown, faulty, points, Fault, faultNumber}
+use Rattle.layout.specs.Walks.{surveyedUnknown, surveyedRefused, surveyedPoints, surveyed, pointsOf, HasPoints}
 use Rattle.listing.specs.Listing as Listing
 use Rattle.listing.specs.Listing.{Record, recordOf, Answer, listed, withRecords, walked, Told, refusedTold, listedTold, told}
-use Rattle.listing.specs.Walks.{surveyedUnknown, surveyedRefused, surveyedPoints, surveyed, pointsOf, HasPoints}
 use Rattle.listing.proofs.MapSteps.{walkAt, modelAt, body-length, walk-starts, walk-at-end, walk-at-refused, walk-at-late, walk-at-unknown, walk-at-faulty, walk-at-points}
 
 -- ---- A reading by what surveying it answers

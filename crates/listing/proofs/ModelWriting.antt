@@ -6,110 +6,34 @@ use mathlib.Core.Option.{Option, none, some}
 use Prim.Native.Nat.{ℕ, _+_, _*_, _-_, _/_, _≤_, _<_}
 use native.Mathlib.Nat.{div-le-self}
 use native.Mathlib.Omega.{arith}
-use borrow.Author.Tests.{eqb-true, ltb-false}
 use lib.Dec.{ltb}
 use lib.ListN.{length, getD}
 use Rattle.lists.specs.Each.{Each}
-use Rattle.lists.specs.Members.{In, first, later}
-use Rattle.catalog.specs.Frames.{Point, sunssf, pad}
+use Rattle.lists.specs.Members.{first}
+use Rattle.catalog.specs.Frames.{Point}
 use Rattle.catalog.specs.Definitions.{Groups, Content, pointsSize, definitions}
 use Rattle.catalog.specs.Soundness.{SoundPoint, SoundGroups, ScaleResolves}
 use Rattle.catalog.proofs.References.{points-resolve}
-use Rattle.listing.specs.Points.{ModelPoint, Scope}
-use Rattle.listing.specs.Layout.{nothing, within, topScope, countOf, groupsSize, fillSizeOf, countUnimplemented, fits, fillOf, countsOf, pointsAt, groupsAt, noInstance, contentAt, restSize}
-use Rattle.listing.specs.Counts.{groupsPoints}
-use Rattle.listing.specs.Reading.{Reading, faulty, points, endsWithPad, allButLast, padLeftOut, belowTopPoints, countPointUnimplemented, notTheSize, laidOut, readBy, reading}
+use Rattle.layout.specs.Points.{ModelPoint, Scope}
+use Rattle.layout.specs.Layout.{nothing, within, topScope, countOf, groupsSize, fillSizeOf, fillOf, countsOf, pointsAt, groupsAt, noInstance, contentAt, restSize}
+use Rattle.layout.specs.Counts.{groupsPoints}
+use Rattle.layout.specs.Reading.{Reading, points, allButLast, readBy, reading}
+use Rattle.layout.specs.Walks.{heldAt, Accepted, scopeIn, begun, IsTable, AtGroups, pointsOf, HasPoints, Ready}
+use Rattle.layout.proofs.Readings.{Full, HowRead, leftOut, full, how-read, resolves-left}
+use Rattle.layout.proofs.Standing as standing
+use Rattle.layout.proofs.AcceptedModels as models
+use Rattle.layout.proofs.IntoGroups.{top-groups}
+use Rattle.layout.proofs.CountsAgree as counts
+use Rattle.layout.proofs.ReachOnly.{Agree, within-own, points-agree, groups-agree}
+use Rattle.layout.proofs.PointCounts as pointCounts
+use Rattle.layout.proofs.NotedPoints as notes
+use Rattle.layout.proofs.LeftOutPad as pads
+use Rattle.layout.proofs.Sizes.{laid-size, points-sized}
 use Rattle.listing.specs.Listing.{recordWidth}
-use Rattle.listing.specs.Walks.{heldAt, Accepted, scopeIn, begun, IsTable, AtGroups, pointsOf, HasPoints, Ready}
 use Rattle.listing.specs.Promises.{capacity, written, RunAsks, BehindRun, GroupsAsk, BehindGroups}
 use Rattle.listing.specs.declared.records.Visit.{Visit}
 use Rattle.listing.specs.declared.records.Progress.{Progress}
-use Rattle.listing.proofs.Standing as standing
-use Rattle.listing.proofs.AcceptedModels as models
-use Rattle.listing.proofs.IntoGroups.{top-groups}
-use Rattle.listing.proofs.CountsAgree as counts
-use Rattle.listing.proofs.ReachOnly.{Agree, within-own, points-agree, groups-agree}
-use Rattle.listing.proofs.PointCounts as pointCounts
 use Rattle.listing.proofs.WrittenRecords as lists
-use Rattle.listing.proofs.NotedPoints as notes
-use Rattle.listing.proofs.LeftOutPad as pads
-use Rattle.listing.proofs.Sizes.{laid-size, points-sized}
-
--- ---- Readings
-
--- A body that is laid out in full: it has room for the top points, its counts are given, and its length is the size.
-pub record Full (c : Content) (body : List ℕ) : Type 0 where
-  pub room : pointsSize (c .points) ≤ length body
-  pub counted : countUnimplemented (topScope (c .points) body) (c .groups) ≡ false
-  pub fitting : fits c body ≡ true
-
--- How a model with points is read: with its last pad left out, or in full.
-pub data HowRead (id : ℕ) (c : Content) (body : List ℕ) : Reading → Type 0 where
-  leftOut : padLeftOut id c (length body) ≡ true
-      → HowRead id c body
-      (points (pointsAt body (topScope (allButLast (c .points)) body) noInstance 0 (allButLast (c .points))))
-  full : padLeftOut id c (length body) ≡ false → Full c body → HowRead id c body (points (contentAt c body))
-
-laid-out : (id : ℕ) (c : Content) (body : List ℕ) → padLeftOut id c (length body) ≡ false → HasPoints (laidOut c body)
-    → HowRead id c body (laidOut c body)
-unfolding laidOut
-laid-out id c body kept =
-    go (ltb (length body) (pointsSize (c .points))) (countUnimplemented (topScope (c .points) body) (c .groups)) (fits c body)
-    refl refl refl
-  where
-    go : (a b d : Bool) → ltb (length body) (pointsSize (c .points)) ≡ a
-        → countUnimplemented (topScope (c .points) body) (c .groups) ≡ b → fits c body ≡ d
-        → HasPoints (elim a [
-          | true ↦ faulty belowTopPoints
-          | false ↦ elim b [
-            | true ↦ faulty countPointUnimplemented
-            | false ↦ elim d [ false ↦ faulty notTheSize | true ↦ points (contentAt c body) ]
-          ]
-        ])
-        → HowRead id c body (elim a [
-          | true ↦ faulty belowTopPoints
-          | false ↦ elim b [
-            | true ↦ faulty countPointUnimplemented
-            | false ↦ elim d [ false ↦ faulty notTheSize | true ↦ points (contentAt c body) ]
-          ]
-        ])
-    go true b d e u f h = absurd h
-    go false true d e u f h = absurd h
-    go false false false e u f h = absurd h
-    go false false true e u f h =
-        full kept (record { room = ltb-false (length body) (pointsSize (c .points)) e; counted = u; fitting = f })
-
-pub how-read : (id : ℕ) (c : Content) (body : List ℕ) → HasPoints (readBy id c body) → HowRead id c body (readBy id c body)
-unfolding readBy
-how-read id c body = go (padLeftOut id c (length body)) refl
-  where
-    go : (b : Bool) → padLeftOut id c (length body) ≡ b
-        → HasPoints (elim b [
-          | true ↦ points (pointsAt body (topScope (allButLast (c .points)) body) noInstance 0 (allButLast (c .points)))
-          | false ↦ laidOut c body
-        ])
-        → HowRead id c body (elim b [
-          | true ↦ points (pointsAt body (topScope (allButLast (c .points)) body) noInstance 0 (allButLast (c .points)))
-          | false ↦ laidOut c body
-        ])
-    go true e h = leftOut e
-    go false e h = laid-out id c body e h
-
--- ---- Scopes
-
--- A scale factor is no pad, so it is none that is left out.
-not-last : (q : Point) (ps : List Point) → endsWithPad ps ≡ true → q .typeCode ≡ sunssf → In q ps → In q (allButLast ps)
-unfolding endsWithPad allButLast
-not-last q (p ∷ []) e t first = let z = eqb-true (q .typeCode) pad e in absurd (omega (arith, z, t))
-not-last q (p ∷ r ∷ ps) e t first = first
-not-last q (p ∷ r ∷ ps) e t (later i) = later (not-last q (r ∷ ps) e t i)
-
--- So the scale factors of the points that are left resolve among these.
-pub resolves-left : (ps qs : List Point) → endsWithPad ps ≡ true → Each (ScaleResolves ps) qs
-    → Each (ScaleResolves (allButLast ps)) qs
-resolves-left ps [] e r = tt
-resolves-left ps (q ∷ qs) e r =
-    (λ k. let f = r .0 k in (f .0, not-last (f .0) ps e (f .3) (f .1), f .2, f .3), resolves-left ps qs e (r .1))
 
 -- The points of a model in full.
 content-parts : (c : Content) (body : List ℕ) → contentAt c body

@@ -10,16 +10,16 @@ use Rattle.lists.specs.Each.{Each}
 use Rattle.catalog.specs.Frames.{Point, frameIn}
 use Rattle.catalog.specs.Rules.{isSizeOf}
 use Rattle.catalog.specs.Definitions.{pointsSize}
-use Rattle.listing.specs.Points.{ModelPoint, registersAt, pointAt}
-use Rattle.listing.specs.Layout.{pointsAt}
+use Rattle.layout.specs.Points.{ModelPoint, registersAt, pointAt}
+use Rattle.layout.specs.Layout.{pointsAt}
+use Rattle.layout.specs.Walks.{heldAt, pointOf, scopeIn, begun}
+use Rattle.layout.proofs.Standing as standing
+use Rattle.layout.proofs.NotedPoints.{begun-past, begun-first}
 use Rattle.listing.specs.Listing.{recordNumbers, recordWidth}
-use Rattle.listing.specs.Walks.{heldAt, pointOf, scopeIn, begun}
 use Rattle.listing.specs.Promises.{ShownOf, recordAt, capacity, written, PointFits, RunAsks, BehindRun}
 use Rattle.listing.specs.declared.points.Shown.{Shown}
 use Rattle.listing.specs.declared.records.Visit.{Visit}
 use Rattle.listing.specs.declared.records.Progress.{Progress}
-use Rattle.listing.proofs.Standing as standing
-use Rattle.listing.proofs.NotedPoints.{begun-past, begun-first}
 use Rattle.listing.proofs.WrittenRecords.{written-none, written-length, written-append}
 
 -- The numbers of a record from what is shown of its point.

@@ -16,18 +16,18 @@ use Rattle.catalog.specs.Checking.{accepted, checked}
 use Rattle.catalog.specs.Definitions.{Content, Definition, definitions, pointsSize}
 use Rattle.catalog.specs.Soundness.{SoundDefinition, idsOf}
 use Rattle.catalog.proofs.AcceptedIsSound.{accepted-is-sound}
+use Rattle.catalog.proofs.GroupNumbers.{among-later}
 use Rattle.register_map.specs.Scan.{Model, sizeOf, totalSize, scan}
-use Rattle.listing.specs.Points.{ModelPoint}
-use Rattle.listing.specs.Layout.{topScope, countUnimplemented, fits}
-use Rattle.listing.specs.Reading.{Reading, unknown, faulty, points, padLeftOut, laidOut, readBy, reading}
+use Rattle.layout.specs.Points.{ModelPoint}
+use Rattle.layout.specs.Layout.{topScope, countUnimplemented, fits}
+use Rattle.layout.specs.Reading.{Reading, unknown, faulty, points, padLeftOut, laidOut, readBy, reading}
+use Rattle.layout.specs.Tiling.{Tiles, BodyTiled}
+use Rattle.layout.proofs.BodyTiling.{read-tiled}
+use Rattle.layout.proofs.ReadingSteps.{reading-here, reading-later, unknown-left}
 use Rattle.listing.specs.Listing.{Record, recordOf, listed, walk, listing}
-use Rattle.listing.specs.Tiling.{Tiles, BodyTiled, RecordsTiled, recordsWith}
-use Rattle.listing.proofs.BodyTiling.{read-tiled}
-use Rattle.listing.proofs.ReadingSteps.{reading-here, reading-later}
-use Rattle.listing.proofs.ReadingLeft.{unknown-left}
+use Rattle.listing.specs.Tiling.{RecordsTiled, recordsWith}
 use Rattle.listing.proofs.WalksBehind.{listed-walks}
 use Rattle.listing.proofs.ModelRecords.{RecordsOf, model-records}
-use Rattle.listing.proofs.GroupNumbers.{among-later}
 
 -- ---- The definition of a model
 

@@ -18,7 +18,7 @@ use Rattle.catalog.specs.Checking.{Verdict, refused, checkFrom, checked}
 use Rattle.register_map.specs.Headers as Headers
 use Rattle.register_map.specs.Scan.{broken, scanFrom, scan}
 use Rattle.register_map.proofs.ScanSteps.{scan-model, scan-end, scan-refused}
-use Rattle.listing.specs.Reading.{Fault, belowTopPoints, countPointUnimplemented, notTheSize, faultNumber}
+use Rattle.layout.specs.Reading.{Fault, belowTopPoints, countPointUnimplemented, notTheSize, faultNumber}
 
 -- A number lies in a range.
 abbrev pub Between : ℕ → ℕ → ℕ → Type 0

@@ -9,10 +9,10 @@ use lib.Dec.{eqb}
 use lib.ListN.{length}
 use Rattle.catalog.specs.Frames.{Point, frameIn, pad}
 use Rattle.catalog.specs.Definitions.{pointsSize}
-use Rattle.listing.specs.Reading.{endsWithPad}
-use Rattle.listing.specs.Walks.{heldAt, Stands, pointOf}
+use Rattle.layout.specs.Reading.{endsWithPad}
+use Rattle.layout.specs.Walks.{heldAt, Stands, pointOf}
+use Rattle.layout.proofs.Standing as standing
 use Rattle.listing.specs.Promises.{RunOf}
-use Rattle.listing.proofs.Standing as standing
 
 -- Is the last of these points a pad, or where there is none, was the one in front of them?
 abbrev pub lastIsPad : Bool → List Point → Bool

@@ -13,8 +13,8 @@ use lib.ListN.{length, getD}
 use lib.Seq.{sets, sets-eq}
 use Rattle.lists.specs.Tests.{firstWith}
 use Rattle.register_map.specs.Scan.{Model, sizeOf, Ending, marked, broken}
-use Rattle.listing.specs.Points.{ModelPoint}
-use Rattle.listing.specs.Reading.{Reading, unknown, faulty, points}
+use Rattle.layout.specs.Points.{ModelPoint}
+use Rattle.layout.specs.Reading.{Reading, unknown, faulty, points}
 use Rattle.listing.specs.Listing.{Record, recordOf, Answer, listed, walk}
 use Rattle.listing.specs.Finding.{isPoint, isRecord}
 use Rattle.listing.specs.Promises.{foundNumbers, foundWidth, seen, searched, foundIn}

@@ -9,8 +9,8 @@ use lib.ListN.{getD}
 use lib.Seq.{sets}
 use Rattle.registers.specs.Registers.{shownRaw}
 use Rattle.catalog.specs.Frames.{Point}
-use Rattle.listing.specs.Points.{ModelPoint, Scope, registersAt, pointAt}
-use Rattle.listing.specs.Layout.{nothing}
+use Rattle.layout.specs.Points.{ModelPoint, Scope, registersAt, pointAt}
+use Rattle.layout.specs.Layout.{nothing}
 use Rattle.listing.specs.Listing.{Record, recordNumbers, recordWidth, entries}
 use Rattle.listing.specs.Promises.{recordAt, isSamePath, foundNumbers, seen, visited, written}
 use Rattle.listing.specs.declared.records.Task.{Task}

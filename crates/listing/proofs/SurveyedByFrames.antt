@@ -9,21 +9,21 @@ use lib.ListN.{length, getD}
 use Rattle.lists.specs.Each.{Each}
 use Rattle.catalog.specs.Definitions.{Content, definitions, pointsSize}
 use Rattle.catalog.specs.Soundness.{SoundPoint, SoundGroups}
-use Rattle.listing.specs.Layout.{nothing, topScope, fits, fillOf, contentAt}
-use Rattle.listing.specs.Reading.{padLeftOut, readBy, topOf}
-use Rattle.listing.specs.Walks.{heldAt, Stands, Accepted, scopeIn, noted, begun, IsTable, surveyedRefused, surveyedPoints, surveyed, Ready, AtGroups}
+use Rattle.layout.specs.Layout.{nothing, topScope, fits, fillOf, contentAt}
+use Rattle.layout.specs.Reading.{padLeftOut, readBy, topOf}
+use Rattle.layout.specs.Walks.{heldAt, Stands, Accepted, scopeIn, noted, begun, IsTable, surveyedRefused, surveyedPoints, surveyed, Ready, AtGroups}
+use Rattle.layout.proofs.Standing as standing
+use Rattle.layout.proofs.AcceptedModels.{accepted-few, top-points-sound, top-groups-sound}
+use Rattle.layout.proofs.Sizes.{points-sized}
+use Rattle.layout.proofs.IntoGroups.{top-groups}
+use Rattle.layout.proofs.ReachOnly.{Agree, within-own}
+use Rattle.layout.proofs.NotedPoints.{noted-length, noted-scope, numbers-in-table, begun-all}
+use Rattle.layout.proofs.LeftOutPad.{but-one, left-out, no-fill}
 use Rattle.listing.specs.Answers.{surveyForm}
 use Rattle.listing.specs.Promises.{RunOf, ExtentOf, fittedBy, ReadyBy}
 use Rattle.listing.specs.declared.extents.Run.{Run}
 use Rattle.listing.specs.declared.extents.Extent.{Extent}
 use Rattle.listing.specs.declared.surveys.Survey.{Survey}
-use Rattle.listing.proofs.Standing as standing
-use Rattle.listing.proofs.AcceptedModels.{accepted-few, top-points-sound, top-groups-sound}
-use Rattle.listing.proofs.Sizes.{points-sized}
-use Rattle.listing.proofs.IntoGroups.{top-groups}
-use Rattle.listing.proofs.ReachOnly.{Agree, within-own}
-use Rattle.listing.proofs.NotedPoints.{noted-length, noted-scope, numbers-in-table, begun-all}
-use Rattle.listing.proofs.LeftOutPad.{but-one, left-out, no-fill}
 use Rattle.listing.proofs.SurveyedModels as models
 
 module _ {ws : List ℕ} (id : ℕ) {first : ℕ} (accepted : Accepted ws) (stands : Stands ws first)

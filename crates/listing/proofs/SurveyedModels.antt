@@ -16,21 +16,21 @@ use Rattle.lists.proofs.TestOutcomes.{by-test}
 use Rattle.catalog.specs.Frames.{Point, Head, fill}
 use Rattle.catalog.specs.Definitions.{Groups, noGroup, group, Content, pointsSize}
 use Rattle.catalog.specs.Soundness.{SoundGroups}
-use Rattle.listing.specs.Points.{Scope}
-use Rattle.listing.specs.Layout.{topScope, countOf, groupsSize, fillSize, countUnimplemented, fillSizeOf, fits, fillOf, pointsAt, noInstance, contentAt}
-use Rattle.listing.specs.Counts.{groupsPoints, fillPoints, sizeOr0}
-use Rattle.listing.specs.Reading.{faulty, points, belowTopPoints, countPointUnimplemented, notTheSize, allButLast, padLeftOut, laidOut, readBy}
-use Rattle.listing.specs.Walks.{surveyedRefused, surveyedPoints, surveyed, Ready}
+use Rattle.layout.specs.Points.{Scope}
+use Rattle.layout.specs.Layout.{topScope, countOf, groupsSize, fillSize, countUnimplemented, fillSizeOf, fits, fillOf, pointsAt, noInstance, contentAt}
+use Rattle.layout.specs.Counts.{groupsPoints, fillPoints, sizeOr0}
+use Rattle.layout.specs.Reading.{faulty, points, belowTopPoints, countPointUnimplemented, notTheSize, allButLast, padLeftOut, laidOut, readBy}
+use Rattle.layout.specs.Walks.{surveyedRefused, surveyedPoints, surveyed, Ready}
+use Rattle.layout.proofs.Sizes.{points-fit, fill-takes-registers}
+use Rattle.layout.proofs.PointCounts.{points-counted, content-counted, groups-fit, fill-adds-points}
+use Rattle.layout.proofs.Capping.{capped-remainder, capped-quotient}
+use Rattle.layout.proofs.LeftOutPad.{but-one, left-out}
+use Rattle.layout.proofs.CountsAgree.{sizes-agree, points-agree, fill-sizes-agree, fill-points-agree, unimplemented-agrees}
 use Rattle.listing.specs.Answers.{surveyForm}
 use Rattle.listing.specs.Promises.{ExtentOf, fittedBy, ReadyBy}
 use Rattle.listing.specs.declared.extents.Run.{Run}
 use Rattle.listing.specs.declared.extents.Extent.{Extent}
 use Rattle.listing.specs.declared.surveys.Survey.{Survey}
-use Rattle.listing.proofs.Sizes.{points-fit, fill-takes-registers}
-use Rattle.listing.proofs.PointCounts.{points-counted, content-counted, groups-fit, fill-adds-points}
-use Rattle.listing.proofs.Capping.{capped-remainder, capped-quotient}
-use Rattle.listing.proofs.LeftOutPad.{but-one, left-out}
-use Rattle.listing.proofs.CountsAgree.{sizes-agree, points-agree, fill-sizes-agree, fill-points-agree, unimplemented-agrees}
 
 -- An instance of the fill group has no more points than registers.
 fill-fits : (count : Head → ℕ) (top enclosing : List Point) (level : ℕ) (g : Groups) → SoundGroups top enclosing level g

@@ -11,10 +11,11 @@ use Rattle.catalog.specs.Checking.{accepted, checked}
 use Rattle.catalog.specs.Definitions.{Definition, definitions, modelIds}
 use Rattle.catalog.proofs.ModelIds.{ids-of-model-frames}
 use Rattle.register_map.specs.Scan.{Model, sizeOf, totalSize, scan}
-use Rattle.listing.specs.Points.{ModelPoint}
-use Rattle.listing.specs.Reading.{points, reading}
+use Rattle.layout.specs.Points.{ModelPoint}
+use Rattle.layout.specs.Reading.{points, reading}
+use Rattle.layout.specs.Tiling.{BodyTiled}
 use Rattle.listing.specs.Listing.{Record, listed, listing}
-use Rattle.listing.specs.Tiling.{BodyTiled, RecordsTiled, recordsWith}
+use Rattle.listing.specs.Tiling.{RecordsTiled, recordsWith}
 use Rattle.listing.proofs.RecordsTiling as steps
 
 module _ (catalog registers : List ℕ) (room : ℕ) (rs : List Record) (headers : ℕ)

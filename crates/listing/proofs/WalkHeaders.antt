@@ -6,7 +6,7 @@ use Prim.Native.Nat.{ℕ, suc, _+_, _≤_, _<_}
 use native.Mathlib.Omega.{arith}
 use lib.ListN.{length, take}
 use Rattle.register_map.specs.Scan.{Model, sizeOf, totalSize, Ending, marked, broken}
-use Rattle.listing.specs.Reading.{Reading, unknown, faulty, points}
+use Rattle.layout.specs.Reading.{Reading, unknown, faulty, points}
 use Rattle.listing.specs.Listing.{Record, recordOf, Answer, refused, listed, withRecords, walk}
 use Rattle.listing.proofs.WalkSteps.{walk-no-records, walk-faulty, walk-points}
 use Rattle.listing.proofs.RefusalNumbers.{Between, model-number}

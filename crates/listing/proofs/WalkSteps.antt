@@ -4,8 +4,8 @@ use mathlib.Core.List.{List, [], _∷_, _++_, map}
 use Prim.Native.Nat.{ℕ, _+_}
 use Rattle.lists.proofs.TestOutcomes.{impossible}
 use Rattle.register_map.specs.Scan.{Model, sizeOf, Ending}
-use Rattle.listing.specs.Points.{ModelPoint}
-use Rattle.listing.specs.Reading.{Reading, unknown, faulty, points, Fault, faultNumber}
+use Rattle.layout.specs.Points.{ModelPoint}
+use Rattle.layout.specs.Reading.{Reading, unknown, faulty, points, Fault, faultNumber}
 use Rattle.listing.specs.Listing.{Record, recordOf, Answer, refused, listed, withRecords, walk}
 
 -- With no records in front an answer is as it was.

@@ -10,7 +10,7 @@ use Rattle.lists.proofs.TestOutcomes.{impossible}
 use Rattle.catalog.specs.Definitions.{definitions}
 use Rattle.register_map.specs.Scan.{scan}
 use Rattle.register_map.proofs.MadeOfModels.{marked-count}
-use Rattle.listing.specs.Reading.{reading}
+use Rattle.layout.specs.Reading.{reading}
 use Rattle.listing.specs.Listing.{Record, recordWidth, Answer, refused, listed, listing}
 use Rattle.listing.proofs.RefusalNumbers.{Between, catalog-number, opening-number, ending-number}
 use Rattle.listing.proofs.WalkHeaders.{HeadersWalked, walk-headers}

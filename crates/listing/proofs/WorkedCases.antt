@@ -12,9 +12,9 @@ use Rattle.catalog.specs.Checking.{checkFrom, checked}
 use Rattle.catalog.specs.Definitions.{parsed}
 use Rattle.register_map.specs.Headers.{opening}
 use Rattle.register_map.specs.Scan.{scanFrom, scan}
-use Rattle.listing.specs.Points.{pointAt}
-use Rattle.listing.specs.Layout.{within, groupsSize, fillSize, countUnimplemented, fits, fillOf, pointsAt, instances, groupsAt, contentAt}
-use Rattle.listing.specs.Reading.{endsWithPad, allButLast, laidOut, readBy, topOf, reading}
+use Rattle.layout.specs.Points.{pointAt}
+use Rattle.layout.specs.Layout.{within, groupsSize, fillSize, countUnimplemented, fits, fillOf, pointsAt, instances, groupsAt, contentAt}
+use Rattle.layout.specs.Reading.{endsWithPad, allButLast, laidOut, readBy, topOf, reading}
 use Rattle.listing.specs.Listing as Listing
 use Rattle.listing.specs.Listing.{Told, listedTold, told, recordNumbers, walk, recordsBy, allRecords, withRoom, listing, entries, stored}
 

@@ -10,7 +10,7 @@ use borrow.Author.Tests.{leb-true}
 use lib.Dec.{eqb, leb}
 use lib.ListN.{length, getD, drop, set, length-append, length-map}
 use lib.Seq.{sets, drop-cons, length-sets}
-use Rattle.listing.specs.Points.{ModelPoint}
+use Rattle.layout.specs.Points.{ModelPoint}
 use Rattle.listing.specs.Listing.{Record, recordNumbers, recordWidth, entries}
 use Rattle.listing.specs.Finding.{isPoint}
 use Rattle.listing.specs.Promises.{recordAt, foundNumbers, foundWidth, seen, searched, visited, written, capacity}

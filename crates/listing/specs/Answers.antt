@@ -5,8 +5,8 @@ use Prim.Native.Nat.{ℕ}
 use Rattle.catalog.specs.Frames as Frames
 use Rattle.catalog.specs.Answers.{headForm, pointForm}
 use Rattle.catalog.specs.Definitions.{Content}
+use Rattle.layout.specs.Walks.{heldAt, Surveyed, surveyedUnknown, surveyedRefused, surveyedPoints}
 use Rattle.listing.specs.Listing as Listing
-use Rattle.listing.specs.Walks.{heldAt, Surveyed, surveyedUnknown, surveyedRefused, surveyedPoints}
 use Rattle.listing.specs.declared.Listing as Code
 use Rattle.listing.specs.Finding as Finding
 use Rattle.listing.specs.declared.search.Finding as CodeFinding

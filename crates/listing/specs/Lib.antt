@@ -1,12 +1,5 @@
-pub mod Points
-pub mod Layout
-pub mod Reading
 pub mod Listing
 pub mod Finding
-pub mod Counts
-pub mod Stability
-pub mod Removed
 pub mod Tiling
-pub mod Walks
 pub mod Answers
 pub mod Promises

@@ -9,8 +9,8 @@ use Rattle.catalog.specs.Checking as Checking
 use Rattle.catalog.specs.Definitions.{definitions}
 use Rattle.register_map.specs.Headers.{opening}
 use Rattle.register_map.specs.Scan.{Model, sizeOf, Ending, marked, broken, scan}
-use Rattle.listing.specs.Points.{ModelPoint}
-use Rattle.listing.specs.Reading.{Reading, unknown, faulty, points, faultNumber, reading}
+use Rattle.layout.specs.Points.{ModelPoint}
+use Rattle.layout.specs.Reading.{Reading, unknown, faulty, points, faultNumber, reading}
 
 -- A record: the model's index (unknown models counted), its id, the point's address (0 is that of the register 5375), and the
 -- point.

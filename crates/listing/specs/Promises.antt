@@ -14,14 +14,14 @@ use Rattle.values.specs.Classes.{classified}
 use Rattle.catalog.specs.Frames as Frames
 use Rattle.catalog.specs.Rules.{isSizeOf}
 use Rattle.catalog.specs.Definitions.{Groups, pointsSize}
-use Rattle.listing.specs.Points.{ModelPoint, Scope, statusOf, scaleOf}
-use Rattle.listing.specs.Layout.{countOf, groupsSize, fillSize, countUnimplemented}
-use Rattle.listing.specs.Counts.{groupsPoints, fillPoints, sizeOr0}
-use Rattle.listing.specs.Reading.{endsWithPad}
+use Rattle.layout.specs.Points.{ModelPoint, Scope, statusOf, scaleOf}
+use Rattle.layout.specs.Layout.{countOf, groupsSize, fillSize, countUnimplemented}
+use Rattle.layout.specs.Counts.{groupsPoints, fillPoints, sizeOr0}
+use Rattle.layout.specs.Reading.{endsWithPad}
+use Rattle.layout.specs.Walks.{heldAt, Stands, Ready, scopeIn, IsTable, AtGroups}
 use Rattle.listing.specs.Listing as Listing
 use Rattle.listing.specs.Finding as Finding
 use Rattle.listing.specs.Finding.{isPoint}
-use Rattle.listing.specs.Walks.{heldAt, Stands, Ready, scopeIn, IsTable, AtGroups}
 use Rattle.listing.specs.declared.frames.Found.{Found}
 use Rattle.listing.specs.declared.extents.Run.{Run}
 use Rattle.listing.specs.declared.extents.Extent.{Extent}

@@ -15,8 +15,8 @@ ghost use lib.Dec.{eqb};
 ghost use lib.ListN.{length};
 ghost use Rattle.catalog.specs.Frames.{countByPoint};
 ghost use Rattle.catalog.specs.Answers.{headForm};
-ghost use Rattle.listing.specs.Layout.{countOf};
-ghost use Rattle.listing.specs.Walks.{heldAt, Stands, pastEnd, scopeIn, IsTable, AtGroups};
+ghost use Rattle.layout.specs.Layout.{countOf};
+ghost use Rattle.layout.specs.Walks.{heldAt, Stands, pastEnd, scopeIn, IsTable, AtGroups};
 ghost use Rattle.listing.specs.Promises.{RunOf, ExtentOf, SameExtent, WithGroup};
 
 // Nested counts can make a size of more than 64 bits. No map has more registers than this, so sizes and

@@ -8,8 +8,8 @@ ghost use Prim.Native.Nat.{_+_, _/_, _≤_};
 ghost use lib.ListN.{length};
 ghost use Rattle.catalog.specs.Frames.{frameIn};
 ghost use Rattle.catalog.specs.Definitions.{definitions};
-ghost use Rattle.listing.specs.Reading.{topOf};
-ghost use Rattle.listing.specs.Walks.{Stands, pastEnd, Accepted, pointOf, headOf, openBehind, isModelOf};
+ghost use Rattle.layout.specs.Reading.{topOf};
+ghost use Rattle.layout.specs.Walks.{Stands, pastEnd, Accepted, pointOf, headOf, openBehind, isModelOf};
 ghost use Rattle.listing.specs.Answers.{pointOrForm, groupOrForm, foundForm};
 ghost use Rattle.listing.specs.Promises.{FoundStands};
 

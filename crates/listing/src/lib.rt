@@ -36,9 +36,9 @@ ghost use lib.ListN.{length};
 ghost use lib.ListN as Lists;
 ghost use Rattle.catalog.specs.Definitions.{definitions};
 ghost use Rattle.register_map.specs.Headers.{opening};
-ghost use Rattle.listing.specs.Reading.{reading};
+ghost use Rattle.layout.specs.Reading.{reading};
+ghost use Rattle.layout.specs.Walks.{Accepted, IsTable, pointsOf, readIn};
 ghost use Rattle.listing.specs.Listing as Listings;
-ghost use Rattle.listing.specs.Walks.{Accepted, IsTable, pointsOf, readIn};
 ghost use Rattle.listing.specs.Answers.{answer};
 ghost use Rattle.listing.specs.Promises.{capacity, written, bodyAt, passedOver, metBy, MapFits, behindMap};
 

@@ -17,7 +17,7 @@ ghost use Rattle.values.specs.Answers.{classAnswer, classifiedAnswer};
 ghost use Rattle.catalog.specs.Frames.{sunssf};
 ghost use Rattle.catalog.specs.Rules.{isSizeOf};
 ghost use Rattle.catalog.specs.Answers.{pointForm};
-ghost use Rattle.listing.specs.Points.{scaleStatus, statusOf, scaleOf};
+ghost use Rattle.layout.specs.Points.{scaleStatus, statusOf, scaleOf};
 ghost use Rattle.listing.specs.Promises.{ShownOf};
 
 // The status, raw value and scale of a point.

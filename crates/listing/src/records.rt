@@ -19,10 +19,10 @@ ghost use lib.Seq.{sets};
 ghost use Rattle.catalog.specs.Definitions.{groupFrames};
 ghost use Rattle.catalog.specs.Soundness as Soundness;
 ghost use Rattle.catalog.specs.Answers.{pointForm};
-ghost use Rattle.listing.specs.Points.{pointAt};
-ghost use Rattle.listing.specs.Layout.{within, nothing, countOf, pointsAt, groupsAt};
+ghost use Rattle.layout.specs.Points.{pointAt};
+ghost use Rattle.layout.specs.Layout.{within, nothing, countOf, pointsAt, groupsAt};
+ghost use Rattle.layout.specs.Walks.{heldAt, Accepted, levelOf, scopeIn, noted, IsTable, Elsewhere, pointsOf, HasPoints, Ready, readIn, begunAt};
 ghost use Rattle.listing.specs.Listing.{recordNumbers, recordWidth};
-ghost use Rattle.listing.specs.Walks.{heldAt, Accepted, levelOf, scopeIn, noted, IsTable, Elsewhere, pointsOf, HasPoints, Ready, readIn, begunAt};
 ghost use Rattle.listing.specs.Promises.{recordAt, foundWidth, isSamePath, seen, capacity, written, PointFits, RunAsks, BehindRun, GroupsAsk, BehindGroups};
 
 // The numbers of a record.

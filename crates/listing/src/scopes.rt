@@ -5,7 +5,7 @@ use crate::frames::point_at;
 ghost use mathlib.Core.Path.{_≡_};
 ghost use Prim.Native.Nat.{_/_, _≤_};
 ghost use lib.ListN.{length};
-ghost use Rattle.listing.specs.Walks.{Stands, IsTable, noted, begunAt};
+ghost use Rattle.layout.specs.Walks.{Stands, IsTable, noted, begunAt};
 
 // The entries of the table: a number is 16 bits.
 pub(crate) const NUMBERS: usize = 65536;

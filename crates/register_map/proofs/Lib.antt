@@ -3,6 +3,7 @@ pub mod ScanBack
 pub mod MadeOfModels
 pub mod BehindTheMarker
 pub mod Lengthened
+pub mod BodyReplaced
 pub mod Before
 -- Laws of the definitions
 pub mod HeaderLaws

@@ -2,3 +2,4 @@
 pub mod Joining
 pub mod Splitting
 pub mod RegisterParts
+pub mod StoredRegisters

@@ -12,9 +12,9 @@ use Rattle.catalog.specs.Checking.{checkFrom, checked}
 use Rattle.catalog.specs.Definitions as Definitions
 use Rattle.register_map.specs.Headers.{opening}
 use Rattle.register_map.specs.Scan.{scanFrom, scan}
-use Rattle.listing.specs.Points.{pointAt}
-use Rattle.listing.specs.Layout.{within, groupsSize, fillSize, countUnimplemented, fits, fillOf, pointsAt, instances, groupsAt, contentAt}
-use Rattle.listing.specs.Reading.{endsWithPad, allButLast, laidOut, readBy, topOf, reading}
+use Rattle.layout.specs.Points.{pointAt}
+use Rattle.layout.specs.Layout.{within, groupsSize, fillSize, countUnimplemented, fits, fillOf, pointsAt, instances, groupsAt, contentAt}
+use Rattle.layout.specs.Reading.{endsWithPad, allButLast, laidOut, readBy, topOf, reading}
 use Rattle.listing.specs.Listing.{recordNumbers, walk, recordsBy, allRecords, withRoom, listing}
 use Rattle.input.specs.Lines.{ascii, lines}
 use Rattle.input.specs.Digits.{digitValue, isDigit, digitOr0, wordsOf}

@@ -7,8 +7,8 @@ use Prim.Native.Nat.{ℕ}
 use borrow.Author.Tests.{eq-eqb, ne-eqb}
 use lib.Dec.{eqb}
 use Rattle.catalog.specs.Definitions.{Content, Definition}
-use Rattle.listing.specs.Points.{ModelPoint}
-use Rattle.listing.specs.Reading.{topOf}
+use Rattle.layout.specs.Points.{ModelPoint}
+use Rattle.layout.specs.Reading.{topOf}
 use Rattle.listing.specs.Listing.{Record}
 use Rattle.listing.specs.Finding.{isRecord}
 use Rattle.writing.specs.AfterWriting.{isScaleFactorOf, Holds, rescaled, PointAfter, PointBecomes, RecordAfter}

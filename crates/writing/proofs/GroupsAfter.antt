@@ -18,15 +18,16 @@ use Rattle.catalog.specs.Definitions.{Groups, noGroup, group, Content, pointsSi
 use Rattle.catalog.specs.Soundness.{numbersOf, SoundPoint, ScaleResolves}
 use Rattle.catalog.proofs.GroupSizes.{point-size}
 use Rattle.catalog.proofs.References.{points-resolve}
-use Rattle.listing.specs.Points.{ModelPoint, Scope}
-use Rattle.listing.specs.Layout.{withPoint, within, groupsSize, pointsAt, instances, groupsAt}
-use Rattle.listing.specs.Tiling.{lowerPoints}
-use Rattle.listing.proofs.InstancePairs.{pairwise-instances}
-use Rattle.listing.proofs.GroupNumbers.{point-among}
-use Rattle.listing.proofs.IntoGroups.{SoundBelow, below, beside}
-use Rattle.writing.specs.AfterWriting.{agreeTo, pathOf, PointAfter}
-use Rattle.writing.proofs.Places.{Place}
-use Rattle.writing.proofs.Depths.{levels, agree-behind, Deep, own-depth, inside-deep, behind-deep}
+use Rattle.catalog.proofs.GroupNumbers.{point-among}
+use Rattle.layout.specs.Points.{ModelPoint, Scope}
+use Rattle.layout.specs.Layout.{withPoint, within, groupsSize, pointsAt, instances, groupsAt}
+use Rattle.layout.specs.Tiling.{lowerPoints}
+use Rattle.layout.specs.Paths.{agreeTo, pathOf}
+use Rattle.layout.proofs.InstancePairs.{pairwise-instances}
+use Rattle.layout.proofs.IntoGroups.{SoundBelow, below, beside}
+use Rattle.layout.proofs.Places.{Place}
+use Rattle.layout.proofs.Depths.{levels, agree-behind, Deep, own-depth, inside-deep, behind-deep}
+use Rattle.writing.specs.AfterWriting.{PointAfter}
 use Rattle.writing.proofs.OnePointAfter as one
 use Rattle.writing.proofs.OnePointAfter.{Write}
 

@@ -5,24 +5,13 @@ pub mod NoSuchPoint
 pub mod SameValue
 pub mod WorkedWrites
 -- Laws of the definitions, and what the proofs of the functions cite
-pub mod StoredRegisters
-pub mod Places
-pub mod Depths
-pub mod PointAddresses
-pub mod PointPlaces
 pub mod ValueStatus
 pub mod OnePointAfter
 pub mod GroupsAfter
-pub mod ReadOnlyCounts
 pub mod ModelAfter
 pub mod WritingCases
 pub mod AfterCases
-pub mod WalkedModels
-pub mod ModelAnew
-pub mod RecordSources
-pub mod RawValues
 pub mod MapAfter
-pub mod OneRecord
 pub mod RefusalTests
 pub mod RegisterSteps
 pub mod FoundTargets

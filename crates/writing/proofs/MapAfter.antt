@@ -16,21 +16,21 @@ use Rattle.registers.specs.Registers.{split}
 use Rattle.registers.proofs.Splitting.{split-length}
 use Rattle.catalog.specs.Definitions.{Content, Definition, definitions}
 use Rattle.register_map.specs.Scan.{sizeOf, marked, scan}
-use Rattle.listing.specs.Points.{ModelPoint}
-use Rattle.listing.specs.Reading.{points, topOf, reading}
+use Rattle.register_map.proofs.BodyReplaced.{storedIn, scan-anew, opens-anew}
+use Rattle.layout.specs.Points.{ModelPoint}
+use Rattle.layout.specs.Reading.{points, topOf, reading}
+use Rattle.layout.proofs.PointPlaces.{point-inside}
 use Rattle.listing.specs.Listing.{Record, recordOf, listed, walk, allRecords}
 use Rattle.listing.specs.Finding.{isRecord, targetOf}
 use Rattle.listing.proofs.ListingCases.{records-walk, walk-records}
 use Rattle.listing.proofs.WalksBehind.{headers-walked}
+use Rattle.listing.proofs.WalkedModels.{records-anew}
+use Rattle.listing.proofs.RecordSources.{record-source, read-with}
 use Rattle.writing.specs.Writing.{refusal, rewritten}
 use Rattle.writing.specs.AfterWriting.{PointAfter, PointBecomes, RecordAfter}
-use Rattle.writing.proofs.PointPlaces.{point-inside}
 use Rattle.writing.proofs.ModelAfter.{model-after}
 use Rattle.writing.proofs.WritingCases.{Writable, refusal-none}
-use Rattle.writing.proofs.WalkedModels.{records-anew}
-use Rattle.writing.proofs.RecordSources.{record-source, read-with}
 use Rattle.writing.proofs.AfterCases.{point-place}
-use Rattle.writing.proofs.ModelAnew.{storedIn, scan-anew, opens-anew}
 
 module _ (ds : List Definition) (w : Record) (raw : ℕ) where
   -- A record of another model stays as it is.

@@ -21,25 +21,25 @@ use Rattle.catalog.specs.Rules.{isSizeOf}
 use Rattle.catalog.specs.Definitions.{Definition, pointsSize}
 use Rattle.catalog.specs.Soundness.{SoundPoint, SoundDefinition, ScaleResolves}
 use Rattle.catalog.proofs.References.{points-resolve}
-use Rattle.listing.specs.Points.{ModelPoint, Scope}
-use Rattle.listing.specs.Layout.{nothing, topScope, countsOf, noInstance, pointsAt, groupsAt, contentAt}
-use Rattle.listing.specs.Reading.{points, allButLast, padLeftOut, readBy}
-use Rattle.listing.specs.Tiling.{lowerPoints, definedPoints}
-use Rattle.listing.proofs.OnePoint.{one-point}
-use Rattle.listing.proofs.LeftOutPad.{each-but-last, left-out}
-use Rattle.listing.proofs.IntoGroups.{definition-below}
-use Rattle.listing.proofs.ModelWriting.{Full, resolves-left}
-use Rattle.listing.proofs.ListedPoints.{all-sized}
-use Rattle.listing.proofs.Readings.{pointsLeft, read-left, read-full, by-reading}
+use Rattle.layout.specs.Points.{ModelPoint, Scope}
+use Rattle.layout.specs.Layout.{nothing, topScope, countsOf, noInstance, pointsAt, groupsAt, contentAt}
+use Rattle.layout.specs.Reading.{points, allButLast, padLeftOut, readBy}
+use Rattle.layout.specs.Tiling.{lowerPoints, definedPoints}
+use Rattle.layout.specs.Paths.{depthIn, agreeTo, pathOf}
+use Rattle.layout.proofs.OnePoint.{one-point}
+use Rattle.layout.proofs.LeftOutPad.{each-but-last, left-out}
+use Rattle.layout.proofs.IntoGroups.{definition-below}
+use Rattle.layout.proofs.Readings.{Full, resolves-left, pointsLeft, read-left, read-full, by-reading}
+use Rattle.layout.proofs.ListedPoints.{all-sized}
+use Rattle.layout.proofs.Places.{Place}
+use Rattle.layout.proofs.PointPlaces.{in-but-last, point-defined, point-inside, point-places}
+use Rattle.layout.proofs.Depths.{levels, absent-depth}
+use Rattle.layout.proofs.ReadOnlyCounts as counts
 use Rattle.writing.specs.Writing.{canHold}
-use Rattle.writing.specs.AfterWriting.{depthIn, agreeTo, pathOf, PointAfter}
-use Rattle.writing.proofs.Places.{Place}
-use Rattle.writing.proofs.PointPlaces.{in-but-last, point-defined, point-inside, point-places}
-use Rattle.writing.proofs.Depths.{levels, absent-depth}
+use Rattle.writing.specs.AfterWriting.{PointAfter}
 use Rattle.writing.proofs.OnePointAfter as one
 use Rattle.writing.proofs.OnePointAfter.{fails, Write}
 use Rattle.writing.proofs.GroupsAfter as after
-use Rattle.writing.proofs.ReadOnlyCounts as counts
 
 -- ---- One model
 

@@ -8,16 +8,16 @@ use Rattle.lists.specs.Each.{Each}
 use Rattle.lists.specs.Members.{In}
 use Rattle.lists.proofs.TestOutcomes.{impossible}
 use Rattle.lists.proofs.FirstFound.{not-none, none-found}
+use Rattle.layout.specs.Paths.{pathOf}
 use Rattle.listing.specs.Listing.{Record, listed, allRecords, listing}
 use Rattle.listing.specs.Finding.{isRecord, finding, targetOf}
 use Rattle.listing.specs.Finding as Finding
 use Rattle.listing.proofs.WalkSteps.{not-listed}
 use Rattle.listing.proofs.WalksBehind.{listed-walks}
 use Rattle.listing.proofs.ListingCases.{walk-records}
+use Rattle.listing.proofs.OneRecord.{own-found}
 use Rattle.writing.specs.Writing.{Answer, refused, writing}
-use Rattle.writing.specs.AfterWriting.{pathOf}
 use Rattle.writing.proofs.WritingCases.{Case, listingRefused, noPoint, pointRefused, pointWritten, writing-case, finding-found, records-number, refusal-number}
-use Rattle.writing.proofs.OneRecord.{own-found}
 
 -- There is no such point: of all records that the map has, and so of those that a listing shows, none is that of the point asked for.
 pub record Missing (catalog map : List ℕ) (index number : ℕ) (path : List ℕ) : Type 0 where

@@ -14,19 +14,20 @@ use Rattle.lists.proofs.TestOutcomes.{both}
 use Rattle.registers.specs.Registers.{join, split, shownRaw, tooWide}
 use Rattle.registers.proofs.Joining.{shown}
 use Rattle.registers.proofs.Splitting.{split-length, join-split, one-register}
+use Rattle.registers.proofs.StoredRegisters.{stored-outside, run-stored, first-stored, part-stays}
 use Rattle.point_types.specs.Rows.{mayScale}
 use Rattle.values.specs.Classes.{value, ofClass, classified, isValue, isUnimplementedClass}
 use Rattle.catalog.specs.Frames.{Point, scaleByPoint, sunssf}
 use Rattle.catalog.specs.Rules.{isSizeOf}
 use Rattle.catalog.specs.Definitions.{Content}
 use Rattle.catalog.specs.Soundness.{SoundPoint, ScaleResolves}
-use Rattle.listing.specs.Points.{ModelPoint, Scope, statusOf, scaleOf, registersAt, pointAt}
-use Rattle.listing.proofs.ReachOnly.{same-status, same-scale, shownAs, shown-same}
+use Rattle.layout.specs.Points.{ModelPoint, Scope, statusOf, scaleOf, registersAt, pointAt}
+use Rattle.layout.specs.Paths.{depthIn, agreeTo, pathOf}
+use Rattle.layout.proofs.ReachOnly.{same-status, same-scale, shownAs, shown-same}
+use Rattle.layout.proofs.Places.{Place}
+use Rattle.layout.proofs.Depths.{levels, agree-itself}
 use Rattle.writing.specs.Writing.{canHold}
-use Rattle.writing.specs.AfterWriting.{depthIn, agreeTo, pathOf, Holds, rescaled, PointAfter}
-use Rattle.writing.proofs.Places.{Place}
-use Rattle.writing.proofs.StoredRegisters.{stored-outside, run-stored, first-stored, part-stays}
-use Rattle.writing.proofs.Depths.{levels, agree-itself}
+use Rattle.writing.specs.AfterWriting.{Holds, rescaled, PointAfter}
 use Rattle.writing.proofs.ValueStatus as status
 
 -- A test fails that leads to a contradiction.

@@ -17,13 +17,13 @@ use Rattle.lists.proofs.FirstFound.{found-in}
 use Rattle.lists.proofs.PairwiseLaws.{pairwise-at, pairwise-implied}
 use Rattle.catalog.specs.Definitions.{Content, Definition, definitions}
 use Rattle.register_map.specs.Scan.{totalSize, scan}
-use Rattle.listing.specs.Reading.{topOf}
+use Rattle.layout.specs.Reading.{topOf}
 use Rattle.listing.specs.Listing.{Record, listed, allRecords, listing}
 use Rattle.listing.specs.Finding.{isRecord}
+use Rattle.listing.proofs.RecordSources.{record-source}
 use Rattle.writing.specs.Writing.{written, writing}
 use Rattle.writing.specs.AfterWriting.{isScaleFactorOf, Holds, rescaled, RecordAfter}
 use Rattle.writing.proofs.AfterCases.{after-elsewhere, after-here, after-scaled, after-unscaled}
-use Rattle.writing.proofs.RecordSources.{record-source}
 use Rattle.writing.proofs.ReadBack.{read-back, shown-after}
 
 -- A record r has become s by writing a raw value to the point of the record w, in a model with this top group. It keeps its

@@ -12,6 +12,7 @@ use Rattle.lists.specs.Each.{Pairwise}
 use Rattle.lists.proofs.PairwiseLaws.{pairwise-length, pairwise-found}
 use Rattle.registers.specs.Registers.{split}
 use Rattle.registers.proofs.Splitting.{split-length}
+use Rattle.registers.proofs.StoredRegisters.{stored-outside}
 use Rattle.catalog.specs.Definitions.{definitions}
 use Rattle.listing.specs.Listing.{Record, listed, allRecords, withRoom, listing}
 use Rattle.listing.specs.Finding.{isRecord, targetOf}
@@ -20,7 +21,6 @@ use Rattle.listing.proofs.WalksBehind.{listed-walks}
 use Rattle.writing.specs.Writing.{refusal, rewritten, written, writing}
 use Rattle.writing.specs.AfterWriting.{RecordAfter}
 use Rattle.writing.proofs.WritingCases.{accepted-write}
-use Rattle.writing.proofs.StoredRegisters.{stored-outside}
 use Rattle.writing.proofs.AfterCases.{same-record, after-written}
 use Rattle.writing.proofs.MapAfter.{map-after}
 

@@ -7,16 +7,16 @@ use Rattle.lists.specs.Members.{In}
 use Rattle.lists.specs.Tests.{firstWith}
 use Rattle.lists.proofs.FirstFound.{found-in}
 use Rattle.registers.specs.Registers.{AreRegisters}
+use Rattle.registers.proofs.StoredRegisters.{shown-stored}
+use Rattle.layout.specs.Paths.{pathOf}
 use Rattle.listing.specs.Listing.{Record, listed, allRecords, listing}
 use Rattle.listing.specs.Finding.{isRecord, targetOf}
 use Rattle.listing.proofs.ListingCases.{walk-records}
 use Rattle.listing.proofs.WalksBehind.{listed-walks}
+use Rattle.listing.proofs.OneRecord.{own-found}
+use Rattle.listing.proofs.RawValues.{record-inside, record-raw}
 use Rattle.writing.specs.Writing.{rewritten, written, writing}
-use Rattle.writing.specs.AfterWriting.{pathOf}
-use Rattle.writing.proofs.StoredRegisters.{shown-stored}
 use Rattle.writing.proofs.WritingCases.{accepted-write, refusal-none}
-use Rattle.writing.proofs.OneRecord.{own-found}
-use Rattle.writing.proofs.RawValues.{record-inside, record-raw}
 
 -- In a map of 16-bit registers, an accepted write of the raw value that the point found has already gives the same map.
 pub same-value : (catalog map : List ℕ) (index number : ℕ) (path : List ℕ) (raw : ℕ) (new : List ℕ) → AreRegisters map

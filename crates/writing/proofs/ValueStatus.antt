@@ -10,9 +10,9 @@ use Rattle.point_types.proofs.Table.{listed, scalable-width}
 use Rattle.values.specs.Classes.{value, unimplemented, outOfRange, Classified, ofClass, tooWide, unknownType, classified, isValue, isUnimplementedClass}
 use Rattle.catalog.specs.Frames.{Point, scaleByPoint, sunssf}
 use Rattle.catalog.specs.Rules.{isSizeOf}
-use Rattle.listing.specs.Points.{statusOf, scaleStatus}
-use Rattle.listing.proofs.LeftOutPad.{one-register-size}
-use Rattle.listing.proofs.PointClasses.{row-of-size}
+use Rattle.layout.specs.Points.{statusOf, scaleStatus}
+use Rattle.layout.proofs.LeftOutPad.{one-register-size}
+use Rattle.layout.proofs.PointClasses.{row-of-size}
 
 -- ---- Classes
 

@@ -15,15 +15,16 @@ use Rattle.catalog.specs.Checking.{checkFrom, checked}
 use Rattle.catalog.specs.Definitions.{Content, parsed, definitions}
 use Rattle.register_map.specs.Headers.{opening}
 use Rattle.register_map.specs.Scan.{scanFrom, scan}
-use Rattle.listing.specs.Points.{pointAt}
-use Rattle.listing.specs.Layout.{within, groupsSize, fillSize, countUnimplemented, fits, fillOf, pointsAt, instances, groupsAt, contentAt}
-use Rattle.listing.specs.Reading.{endsWithPad, allButLast, laidOut, readBy, topOf, reading}
+use Rattle.layout.specs.Points.{pointAt}
+use Rattle.layout.specs.Layout.{within, groupsSize, fillSize, countUnimplemented, fits, fillOf, pointsAt, instances, groupsAt, contentAt}
+use Rattle.layout.specs.Reading.{endsWithPad, allButLast, laidOut, readBy, topOf, reading}
+use Rattle.layout.specs.Paths.{depthIn}
 use Rattle.listing.specs.Listing as Listing
 use Rattle.listing.specs.Listing.{Record, recordNumbers, walk, recordsBy, allRecords, withRoom, listing}
 use Rattle.listing.specs.Finding.{isRecord, finding}
 use Rattle.listing.proofs.WorkedCases.{Shown, listed, shown, model, times, point, uint16, scaled, sunssf, end, joined, body, row}
 use Rattle.writing.specs.Writing.{refusal, rewritten, Answer, refused, written, writing}
-use Rattle.writing.specs.AfterWriting.{depthIn, isScaleFactorOf}
+use Rattle.writing.specs.AfterWriting.{isScaleFactorOf}
 use Rattle.writing.proofs.OtherRecords.{OtherRecords, other-records}
 
 -- ---- The plant

@@ -1,44 +1,19 @@
 -- What an accepted write makes of the records of a map: the point written, the points that it scales, and all others.
 use mathlib.Core.Path.{_≡_}
 use mathlib.Core.Bool.{Bool, true, false, _&&_}
-use mathlib.Core.List.{List, [], _∷_}
+use mathlib.Core.List.{List}
 use mathlib.Core.Option.{Option, none, some}
-use Prim.Native.Nat.{ℕ, zero, suc}
+use Prim.Native.Nat.{ℕ}
 use lib.Dec.{eqb}
-use Rattle.lists.specs.Members.{among}
 use Rattle.values.specs.Classes.{value, ofClass, classified}
 use Rattle.catalog.specs.Frames.{scaleByPoint}
-use Rattle.catalog.specs.Definitions.{Groups, noGroup, group, Content, Definition, pointFrames, groupFrames}
-use Rattle.catalog.specs.Soundness.{numbersOf}
-use Rattle.listing.specs.Points.{ModelPoint, statusOf, scaleOf}
-use Rattle.listing.specs.Reading.{topOf}
+use Rattle.catalog.specs.Definitions.{Content, Definition}
+use Rattle.layout.specs.Points.{ModelPoint, statusOf, scaleOf}
+use Rattle.layout.specs.Paths.{depthIn, agreeTo, pathOf}
+use Rattle.layout.specs.Reading.{topOf}
 use Rattle.listing.specs.Listing.{Record}
 
 -- ---- Whose scale factor a point is
-
--- How many instance numbers lead to the point with a number: 0 for one that is in none of these groups, so for a point of the
--- top group.
-unfoldable pub depthIn : ℕ → Groups → ℕ
-depthIn number noGroup = 0
-depthIn number (group h ps inside behind) =
-    elim (among number (numbersOf (pointFrames ps))) [
-      | true ↦ 1
-      | false ↦ elim (among number (numbersOf (groupFrames inside))) [
-        | true ↦ suc (depthIn number inside)
-        | false ↦ depthIn number behind
-      ]
-    ]
-
--- Do two paths agree in their first so many numbers, as far as both go? (A path has three.)
-abbrev pub agreeTo : ℕ → List ℕ → List ℕ → Bool
-agreeTo zero xs ys = true
-agreeTo (suc n) [] ys = true
-agreeTo (suc n) (x ∷ xs) [] = true
-agreeTo (suc n) (x ∷ xs) (y ∷ ys) = eqb x y && agreeTo n xs ys
-
--- The instance numbers of a point.
-abbrev pub pathOf : ModelPoint → List ℕ
-pathOf p = p .level2 ∷ p .level3 ∷ p .level4 ∷ []
 
 -- Is the first point the scale factor of the second, in a model by the top group of its definition? The second names its number,
 -- and it is of the same instance or of one around it (document 01, "Status of a point").

@@ -5,16 +5,16 @@ use Prim.Native.Nat.{ℕ, _/_, _≤_}
 use native.Mathlib.Omega.{arith}
 use lib.ListN.{length}
 use Rattle.catalog.specs.Definitions.{definitions}
-use Rattle.listing.specs.Reading.{reading}
+use Rattle.layout.specs.Reading.{reading}
 use Rattle.listing.specs.Listing.{walked, allRecords, listedTold, told, stored, recordWidth}
 use Rattle.listing.specs.Promises.{WalkFits}
 use Rattle.listing.specs.Answers.{answer}
 use Rattle.listing.proofs.ListingCases.{Walks, records-walk, listing-records}
 use Rattle.listing.proofs.ToldAnswers.{told-listed}
 use Rattle.listing.proofs.WholeAnswer.{answered-by, no-room, has-room, before-room}
-use borrow.Author.Needs.{needs}
 use Rattle.listing.proofs.list.Statement.{statement}
 use Rattle.listing.proofs.list.Tie as tie
+use borrow.Author.Needs.{needs}
 
 -- A survey that counts points comes from a walk, whose records fit a list with room for as many.
 survey-walk : (catalog registers out : List ℕ) (points headers : ℕ) → listedTold points headers ≡ told (allRecords catalog registers)

@@ -6,17 +6,17 @@ use native.Mathlib.Omega.{arith}
 use lib.ListN.{length, take, drop, length-drop}
 use lib.Seq.{length-take-le}
 use Rattle.catalog.specs.Definitions.{definitions}
-use Rattle.listing.specs.Points.{ModelPoint}
-use Rattle.listing.specs.Reading.{Reading, reading}
+use Rattle.layout.specs.Points.{ModelPoint}
+use Rattle.layout.specs.Reading.{Reading, reading}
+use Rattle.layout.specs.Walks.{pointsOf}
 use Rattle.listing.specs.Listing.{recordWidth}
-use Rattle.listing.specs.Walks.{pointsOf}
 use Rattle.listing.specs.Answers.{surveyForm}
 use Rattle.listing.specs.Promises.{ReadyBy, capacity, written, metBy}
 use Rattle.listing.proofs.MapSurvey.{no-points-unknown, no-points-refused, has-points}
 use Rattle.listing.proofs.MapRecords.{met-none, met-all, nothing-written}
-use borrow.Author.Needs.{needs}
 use Rattle.listing.proofs.put_known.Statement.{statement}
 use Rattle.listing.proofs.put_known.Tie as tie
+use borrow.Author.Needs.{needs}
 
 is-passed-over-requires : tie.Need-is-passed-over-requires
 is-passed-over-requires c κs = search needs

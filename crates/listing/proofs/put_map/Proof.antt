@@ -10,13 +10,13 @@ use Rattle.catalog.specs.Definitions.{definitions}
 use Rattle.register_map.specs.Answers.{headerForm}
 use Rattle.register_map.proofs.HeaderLaws.{opening-none}
 use Rattle.register_map.proofs.HeaderCases.{model-ends}
-use Rattle.listing.specs.Reading.{reading}
-use Rattle.listing.specs.Walks.{IsTable}
-use Rattle.listing.proofs.PointsInside.{points-few}
+use Rattle.layout.specs.Reading.{reading}
+use Rattle.layout.specs.Walks.{IsTable}
+use Rattle.layout.proofs.PointsInside.{points-few}
 use Rattle.listing.proofs.MapRecords.{WalkingMap, walking-starts, walking-ends, walking-refused, walking-late, walking-goes-on, walking-at}
-use borrow.Author.Needs.{needs}
 use Rattle.listing.proofs.put_map.Statement.{statement}
 use Rattle.listing.proofs.put_map.Tie as tie
+use borrow.Author.Needs.{needs}
 
 abbrev Inv-loop : tie.InvT-loop
 Inv-loop catalog map table₀ out₀ task sought at₀ index₀ records₀ table out at index records =

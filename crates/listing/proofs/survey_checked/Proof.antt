@@ -2,12 +2,12 @@
 use mathlib.Core.Path.{sym, ap, _∙_}
 use Rattle.catalog.specs.Definitions.{definitions}
 use Rattle.register_map.specs.Answers.{openingForm}
-use Rattle.listing.specs.Reading.{reading}
+use Rattle.layout.specs.Reading.{reading}
 use Rattle.listing.specs.Listing.{told}
 use Rattle.listing.proofs.ListingCases.{opened, unopened}
-use borrow.Author.Needs.{needs}
 use Rattle.listing.proofs.survey_checked.Statement.{statement}
 use Rattle.listing.proofs.survey_checked.Tie as tie
+use borrow.Author.Needs.{needs}
 
 opened-requires : tie.Need-opened-requires
 opened-requires c κs = search needs

@@ -9,15 +9,15 @@ use Rattle.catalog.specs.Definitions.{definitions}
 use Rattle.register_map.specs.Answers.{headerForm}
 use Rattle.register_map.proofs.HeaderLaws.{opening-none}
 use Rattle.register_map.proofs.HeaderCases.{model-ends}
-use Rattle.listing.specs.Reading.{reading}
-use Rattle.listing.specs.Walks.{IsTable, surveyed}
+use Rattle.layout.specs.Reading.{reading}
+use Rattle.layout.specs.Walks.{IsTable, surveyed}
+use Rattle.layout.proofs.PointsInside.{points-few}
 use Rattle.listing.specs.Answers.{surveyForm}
 use Rattle.listing.proofs.MapSteps.{body-length}
 use Rattle.listing.proofs.MapSurvey.{Surveying, survey-starts, survey-ends, survey-refused, survey-late, survey-unknown, survey-faulty, more-fit, survey-points}
-use Rattle.listing.proofs.PointsInside.{points-few}
-use borrow.Author.Needs.{needs}
 use Rattle.listing.proofs.survey_map.Statement.{statement}
 use Rattle.listing.proofs.survey_map.Tie as tie
+use borrow.Author.Needs.{needs}
 
 abbrev Inv-loop : tie.InvT-loop
 Inv-loop catalog map table₀ at₀ headers₀ points₀ table at headers points =

@@ -3,15 +3,12 @@ use mathlib.Core.Path.{_≡_, refl, sym, ap, subst, _∙_}
 use Prim.Native.Nat.{ℕ, _-_, _/_, _<_}
 use native.Mathlib.Omega.{arith}
 use lib.ListN.{length}
-use Rattle.listing.specs.Walks.{heldAt, scopeIn, AtGroups}
+use Rattle.layout.specs.Walks.{heldAt, scopeIn, AtGroups}
+use Rattle.layout.proofs.Standing as standing
+use Rattle.layout.proofs.IntoGroups as groups
 use Rattle.listing.specs.Answers.{groupOrForm}
-use Rattle.listing.proofs.Standing as standing
-use Rattle.listing.proofs.IntoGroups as groups
 use Rattle.listing.proofs.ExtentSteps as steps
 use Rattle.listing.proofs.ExtentWalks as walks
-use borrow.Author.Needs.{needs}
-use borrow.Fn.Kinds.{In}
-use borrow.Fn.PlainCycle.{Measures, is, falls, and}
 use Rattle.listing.proofs.extents.groups_extent.Reads as reads
 use Rattle.listing.proofs.extents.groups_extent.Kinds as kinds
 use Rattle.listing.proofs.extents.+groups_extent.Lts-groups_extent as lts
@@ -21,6 +18,9 @@ use Rattle.listing.proofs.extents.with_group.Reads as with-group-reads
 use Rattle.listing.proofs.frames.group_at.Reads as group-at-reads
 use Rattle.listing.proofs.extents.+groups_extent.{statement}
 use Rattle.listing.proofs.extents.+groups_extent.Tie.{close}
+use borrow.Author.Needs.{needs}
+use borrow.Fn.Kinds.{In}
+use borrow.Fn.PlainCycle.{Measures, is, falls, and}
 
 -- The levels fall.
 abbrev μ : Measures 2 kinds.ps ℕ

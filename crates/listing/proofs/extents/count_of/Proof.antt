@@ -5,14 +5,14 @@ use Prim.Native.Nat.{ℕ}
 use native.Mathlib.Omega.{arith}
 use Rattle.catalog.specs.Frames.{Head, constantCount, countByPoint}
 use Rattle.catalog.specs.Answers.{headForm}
-use Rattle.listing.specs.Points.{Scope}
-use Rattle.listing.specs.Layout.{countOf}
-use Rattle.listing.specs.Walks.{scopeIn}
+use Rattle.layout.specs.Points.{Scope}
+use Rattle.layout.specs.Layout.{countOf}
+use Rattle.layout.specs.Walks.{scopeIn}
+use Rattle.listing.proofs.extents.count_of.Statement.{statement}
+use Rattle.listing.proofs.extents.count_of.Tie as tie
 use borrow.Author.Tests.{ne-eqb}
 use lib.Dec.{eqb}
 use borrow.Author.Needs.{needs}
-use Rattle.listing.proofs.extents.count_of.Statement.{statement}
-use Rattle.listing.proofs.extents.count_of.Tie as tie
 
 -- A count that is neither a constant nor that of a point is the fill.
 fills : (s : Scope) (f : ℕ) (h : Head) → (h .countKind ≡ constantCount → ⊥) → (h .countKind ≡ countByPoint → ⊥)

@@ -3,8 +3,8 @@ use mathlib.Core.Path.{sym, subst}
 use Prim.Native.Nat.{_+_, _-_, _/_}
 use native.Mathlib.Omega.{arith}
 use lib.ListN.{length}
-use Rattle.listing.proofs.Standing.{stands-within}
-use Rattle.listing.proofs.PassedFrames.{Passing, passing-start, passing-few, passing-next, passing-done}
+use Rattle.layout.proofs.Standing.{stands-within}
+use Rattle.layout.proofs.PassedFrames.{Passing, passing-start, passing-few, passing-next, passing-done}
 use Rattle.listing.proofs.frames.behind_group.Statement.{statement}
 use Rattle.listing.proofs.frames.behind_group.Tie as tie
 

@@ -2,7 +2,7 @@
 use mathlib.Core.Path.{sym, ap, _∙_}
 use borrow.Author.Needs.{needs}
 use Rattle.catalog.specs.Answers.{frameForm}
-use Rattle.listing.specs.Walks.{openBehind}
+use Rattle.layout.specs.Walks.{openBehind}
 use Rattle.listing.proofs.frames.depth_behind.Statement.{statement}
 use Rattle.listing.proofs.frames.depth_behind.Tie as tie
 

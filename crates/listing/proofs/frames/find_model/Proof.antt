@@ -3,7 +3,7 @@ use mathlib.Core.Path.{_≡_, refl, sym, _∙_}
 use Prim.Native.Nat.{_-_}
 use native.Mathlib.Omega.{arith}
 use borrow.Author.Needs.{needs}
-use Rattle.listing.proofs.ModelSearch.{topFrom, search-found, search-on, search-end, model-stands}
+use Rattle.layout.proofs.ModelSearch.{topFrom, search-found, search-on, search-end, model-stands}
 use Rattle.listing.proofs.frames.find_model.Statement.{statement}
 use Rattle.listing.proofs.frames.find_model.Tie as tie
 

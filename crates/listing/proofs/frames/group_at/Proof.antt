@@ -2,7 +2,7 @@
 use mathlib.Core.Path.{sym, ap, _∙_}
 use borrow.Author.Needs.{needs}
 use Rattle.catalog.specs.Answers.{frameForm}
-use Rattle.listing.specs.Walks.{headOf}
+use Rattle.layout.specs.Walks.{headOf}
 use Rattle.listing.proofs.frames.group_at.Statement.{statement}
 use Rattle.listing.proofs.frames.group_at.Tie as tie
 

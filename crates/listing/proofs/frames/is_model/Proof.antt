@@ -2,7 +2,7 @@
 use mathlib.Core.Path.{sym, ap, _∙_}
 use borrow.Author.Needs.{needs}
 use Rattle.catalog.specs.Answers.{frameForm}
-use Rattle.listing.specs.Walks.{isModelOf}
+use Rattle.layout.specs.Walks.{isModelOf}
 use Rattle.listing.proofs.frames.is_model.Statement.{statement}
 use Rattle.listing.proofs.frames.is_model.Tie as tie
 

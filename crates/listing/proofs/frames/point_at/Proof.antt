@@ -2,7 +2,7 @@
 use mathlib.Core.Path.{sym, ap, _∙_}
 use borrow.Author.Needs.{needs}
 use Rattle.catalog.specs.Answers.{frameForm}
-use Rattle.listing.specs.Walks.{pointOf}
+use Rattle.layout.specs.Walks.{pointOf}
 use Rattle.listing.proofs.frames.point_at.Statement.{statement}
 use Rattle.listing.proofs.frames.point_at.Tie as tie
 

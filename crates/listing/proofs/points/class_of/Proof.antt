@@ -8,7 +8,7 @@ use Rattle.registers.specs.Registers.{join}
 use Rattle.registers.proofs.Joining.{shown}
 use Rattle.registers.proofs.RegisterParts.{zero-joined}
 use Rattle.values.specs.Classes.{classified}
-use Rattle.listing.proofs.PointClasses.{each-register, wide-value}
+use Rattle.layout.proofs.PointClasses.{each-register, wide-value}
 use Rattle.listing.proofs.points.class_of.Statement.{statement}
 use Rattle.listing.proofs.points.class_of.Tie as tie
 

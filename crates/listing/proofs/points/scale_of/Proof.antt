@@ -2,7 +2,7 @@
 use mathlib.Core.Path.{sym}
 use borrow.Author.Needs.{needs}
 use Rattle.catalog.specs.Answers.{pointForm}
-use Rattle.listing.proofs.PointStatus.{no-value, scale-fixed, scale-by-point, no-scale}
+use Rattle.layout.proofs.PointStatus.{no-value, scale-fixed, scale-by-point, no-scale}
 use Rattle.listing.proofs.points.scale_of.Statement.{statement}
 use Rattle.listing.proofs.points.scale_of.Tie as tie
 

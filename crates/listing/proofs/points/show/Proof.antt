@@ -4,7 +4,7 @@ use Prim.Native.Nat.{ℕ}
 use borrow.Author.Needs.{needs}
 use Rattle.values.specs.Classes.{Classified}
 use Rattle.catalog.specs.Answers.{pointForm}
-use Rattle.listing.specs.Points.{statusOf, scaleOf}
+use Rattle.layout.specs.Points.{statusOf, scaleOf}
 use Rattle.listing.proofs.points.show.Statement.{statement}
 use Rattle.listing.proofs.points.show.Tie as tie
 

@@ -2,7 +2,7 @@
 use mathlib.Core.Path.{sym, _∙_}
 use borrow.Author.Needs.{needs}
 use Rattle.catalog.specs.Answers.{pointForm}
-use Rattle.listing.proofs.PointStatus.{value-alone, value-scaled, missing-mandatory, missing-optional}
+use Rattle.layout.proofs.PointStatus.{value-alone, value-scaled, missing-mandatory, missing-optional}
 use Rattle.listing.proofs.points.status_of_class.Statement.{statement}
 use Rattle.listing.proofs.points.status_of_class.Tie as tie
 

@@ -6,14 +6,12 @@ use mathlib.Core.List.{[]}
 use Prim.Native.Nat.{ℕ, _+_, _*_, _-_, _/_, _≤_, _<_}
 use lib.ListN.{length, getD, length-set}
 use Rattle.catalog.specs.Answers.{headForm}
-use Rattle.listing.specs.Walks.{heldAt, Stands, pastEnd, levelOf}
+use Rattle.layout.specs.Walks.{heldAt, Stands, pastEnd, levelOf}
+use Rattle.layout.proofs.Standing as standing
 use Rattle.listing.specs.Answers.{groupOrForm}
 use Rattle.listing.specs.declared.records.Progress.{Progress}
-use Rattle.listing.proofs.Standing as standing
 use Rattle.listing.proofs.InstanceSteps as steps
 use Rattle.listing.proofs.GroupsWriting.{Writing}
-use borrow.Fn.Kinds.{In}
-use borrow.Fn.PlainCycle.{Measures, is, falls, and}
 use Rattle.listing.proofs.records.put_groups.Reads as reads
 use Rattle.listing.proofs.records.put_groups.Kinds as kinds
 use Rattle.listing.proofs.records.+put_groups.Lts-put_groups as lts
@@ -25,6 +23,8 @@ use Rattle.listing.proofs.records.instance_path.Reads as instance-path-
 use Rattle.listing.proofs.records.put_own.Reads as put-own-reads
 use Rattle.listing.proofs.records.+put_groups.{statement}
 use Rattle.listing.proofs.records.+put_groups.Tie.{close}
+use borrow.Fn.Kinds.{In}
+use borrow.Fn.PlainCycle.{Measures, is, falls, and}
 
 abbrev μ : Measures 4 kinds.ps ℕ
 μ κs a = a .1 .1 .1 .1 .1 .0

@@ -4,7 +4,7 @@ use mathlib.Core.Path.{_≡_, ap}
 use Prim.Native.Nat.{_-_}
 use native.Mathlib.Omega.{arith}
 use lib.ListN.{set}
-use Rattle.listing.specs.Walks.{levelOf}
+use Rattle.layout.specs.Walks.{levelOf}
 use Rattle.listing.proofs.records.instance_path.Statement.{statement}
 use Rattle.listing.proofs.records.instance_path.Tie as tie
 

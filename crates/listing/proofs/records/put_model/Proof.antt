@@ -5,10 +5,10 @@ use Prim.Native.Nat.{ℕ, _<_}
 use native.Mathlib.Omega.{arith}
 use lib.ListN.{length, getD}
 use Rattle.catalog.specs.Definitions.{pointsSize}
-use Rattle.listing.specs.Layout.{noInstance}
-use Rattle.listing.specs.Walks.{heldAt, scopeIn, begun}
+use Rattle.layout.specs.Layout.{noInstance}
+use Rattle.layout.specs.Walks.{heldAt, scopeIn, begun}
+use Rattle.layout.proofs.PointCounts as counts
 use Rattle.listing.specs.Promises.{written}
-use Rattle.listing.proofs.PointCounts as counts
 use Rattle.listing.proofs.ModelWriting as model
 use Rattle.listing.proofs.records.put_model.Statement.{statement}
 use Rattle.listing.proofs.records.put_model.Tie as tie

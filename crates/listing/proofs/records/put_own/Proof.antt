@@ -6,12 +6,12 @@ use native.Mathlib.Omega.{arith}
 use borrow.Author.Needs.{needs}
 use lib.ListN.{length, getD}
 use Rattle.catalog.specs.Frames.{Point}
-use Rattle.listing.specs.Points.{ModelPoint}
-use Rattle.listing.specs.Walks.{heldAt, noted, begun}
+use Rattle.layout.specs.Points.{ModelPoint}
+use Rattle.layout.specs.Walks.{heldAt, noted, begun}
+use Rattle.layout.proofs.Standing.{stands-within}
+use Rattle.layout.proofs.NotedPoints.{noted-length, numbers-in-table, begun-all, own-points}
 use Rattle.listing.specs.Promises.{written, RunAsks, BehindRun}
 use Rattle.listing.specs.declared.records.Progress.{Progress}
-use Rattle.listing.proofs.Standing.{stands-within}
-use Rattle.listing.proofs.NotedPoints.{noted-length, numbers-in-table, begun-all, own-points}
 use Rattle.listing.proofs.records.put_own.Statement.{statement}
 use Rattle.listing.proofs.records.put_own.Tie as tie
 

@@ -4,14 +4,14 @@ use Prim.Native.Nat.{_+_, _*_, _≤_}
 use native.Mathlib.Omega.{arith}
 use lib.ListN.{length}
 use Rattle.catalog.specs.Answers.{pointForm}
+use Rattle.layout.specs.Walks.{scopeIn}
 use Rattle.listing.specs.Listing.{recordWidth}
-use Rattle.listing.specs.Walks.{scopeIn}
 use Rattle.listing.specs.Promises.{capacity}
 use Rattle.listing.proofs.WrittenRecords.{search-room}
 use Rattle.listing.proofs.SoughtPoints.{record-written, search-written}
-use borrow.Author.Needs.{needs}
 use Rattle.listing.proofs.records.put_point.Statement.{statement}
 use Rattle.listing.proofs.records.put_point.Tie as tie
+use borrow.Author.Needs.{needs}
 
 enum-told : tie.Need-enum-told
 enum-told c = search needs

@@ -8,16 +8,16 @@ use lib.ListN.{length, getD, drop, length-drop}
 use lib.Seq.{sets, length-take-le}
 use Rattle.catalog.specs.Rules.{isSizeOf}
 use Rattle.catalog.specs.Answers.{pointForm}
-use Rattle.listing.specs.Points.{registersAt}
+use Rattle.layout.specs.Points.{registersAt}
+use Rattle.layout.specs.Walks.{scopeIn}
 use Rattle.listing.specs.Listing.{recordWidth}
-use Rattle.listing.specs.Walks.{scopeIn}
 use Rattle.listing.specs.Promises.{ShownOf}
 use Rattle.listing.proofs.PointRuns.{shown-numbers}
+use Rattle.listing.proofs.records.put_record.Statement.{statement}
+use Rattle.listing.proofs.records.put_record.Tie as tie
 use mir.Syntax.{w16, w64}
 use mir.Val.{Fits}
 use borrow.Author.Needs.{needs, elem-fits-field}
-use Rattle.listing.proofs.records.put_record.Statement.{statement}
-use Rattle.listing.proofs.records.put_record.Tie as tie
 
 -- An instance number is 16 bits.
 instance-fits : (c : tie.Start) (k : ℕ) → Fits w64 (getD (c .args .t5 .instances) k 0)

@@ -2,9 +2,9 @@
 use mathlib.Core.Path.{sym, ap, _∙_}
 use borrow.Author.Needs.{needs}
 use borrow.Author.Tests.{ne-eqb, not-true, not-false}
-use Rattle.listing.specs.Walks.{heldAt}
+use Rattle.layout.specs.Walks.{heldAt}
+use Rattle.layout.proofs.LeftOutPad as pads
 use Rattle.listing.specs.Answers.{groupOrForm}
-use Rattle.listing.proofs.LeftOutPad as pads
 use Rattle.listing.proofs.surveys.is_pad_left_out.Statement.{statement}
 use Rattle.listing.proofs.surveys.is_pad_left_out.Tie as tie
 

@@ -4,13 +4,13 @@ use Prim.Native.Nat.{ℕ, _≤_, _<_}
 use native.Mathlib.Omega.{arith}
 use lib.ListN.{length, getD}
 use Rattle.catalog.specs.Definitions.{pointsSize}
-use Rattle.listing.specs.Walks.{heldAt}
-use Rattle.listing.proofs.AcceptedModels.{accepted-few}
+use Rattle.layout.specs.Walks.{heldAt}
+use Rattle.layout.proofs.AcceptedModels.{accepted-few}
 use Rattle.listing.proofs.SurveyedModels as models
 use Rattle.listing.proofs.SurveyedByFrames as laws
-use borrow.Author.Needs.{needs}
 use Rattle.listing.proofs.surveys.survey_known.Statement.{statement}
 use Rattle.listing.proofs.surveys.survey_known.Tie as tie
+use borrow.Author.Needs.{needs}
 
 run-extent-requires : tie.Need-run-extent-requires
 run-extent-requires c κs =

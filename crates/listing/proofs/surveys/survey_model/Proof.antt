@@ -1,13 +1,13 @@
 -- `listing::surveys::survey_model` meets its contract: it surveys by the definition that is found.
 use mathlib.Core.Path.{sym, ap, subst, _∙_}
 use Rattle.catalog.specs.Definitions.{definitions}
-use Rattle.listing.specs.Walks.{heldAt, surveyed}
+use Rattle.layout.specs.Walks.{heldAt, surveyed}
+use Rattle.layout.proofs.AcceptedModels.{read-known, read-unknown}
 use Rattle.listing.specs.Answers.{foundForm}
 use Rattle.listing.specs.Promises.{FoundStands}
-use Rattle.listing.proofs.AcceptedModels.{read-known, read-unknown}
-use borrow.Author.Needs.{needs}
 use Rattle.listing.proofs.surveys.survey_model.Statement.{statement}
 use Rattle.listing.proofs.surveys.survey_model.Tie as tie
+use borrow.Author.Needs.{needs}
 
 find-model-requires : tie.Need-find-model-requires
 find-model-requires c κs = search needs

@@ -1,0 +1,123 @@
+-- The numbers of groups: those of a group's head, its points, the groups in it and the groups behind it, all different.
+use mathlib.Core.Path.{_≡_, refl, sym, ap, subst, _∙_}
+use mathlib.Core.Bool.{Bool, true, false, _||_, or-true}
+use mathlib.Core.List.{List, [], _∷_, _++_}
+use Prim.Native.Nat.{ℕ}
+use borrow.Author.Tests.{eqb-true, eq-eqb}
+use lib.Dec.{eqb}
+use Rattle.lists.specs.Members.{among, Distinct, In, first, later}
+use Rattle.lists.proofs.TestOutcomes.{clash}
+use Rattle.lists.proofs.TestLaws.{neither}
+use Rattle.catalog.specs.Frames.{Point, Head, Frame, modelFrame, groupFrame, pointFrame, endFrame, malformed}
+use Rattle.catalog.specs.Definitions.{Groups, group, pointFrames, groupFrames}
+use Rattle.catalog.specs.Soundness.{numbersOf}
+
+-- ---- Lists of numbers
+
+-- A number that is among others is among them with one more in front.
+pub among-later : (n m : ℕ) (ns : List ℕ) → among n ns ≡ true → among n (m ∷ ns) ≡ true
+among-later n m ns e = rw e (or-true (eqb n m))
+
+-- A number among one of two lists.
+among-either : (n : ℕ) (ms ns : List ℕ) → among n (ms ++ ns) ≡ among n ms || among n ns
+among-either n [] ns = refl
+among-either n (m ∷ ms) ns = go (eqb n m) (among n (ms ++ ns)) (among n ms) (among n ns) (among-either n ms ns)
+  where
+    go : (b x y z : Bool) → x ≡ y || z → b || x ≡ (b || y) || z
+    go true x y z e = refl
+    go false x y z e = e
+
+-- A number among neither.
+among-neither : (n : ℕ) (ms ns : List ℕ) → among n (ms ++ ns) ≡ false → (among n ms ≡ false) × (among n ns ≡ false)
+among-neither n ms ns e = neither (among n ms) (among n ns) .0 (sym (among-either n ms ns) ∙ e)
+
+-- The numbers of two lists that are all different.
+distinct-parts : (ms ns : List ℕ) → Distinct (ms ++ ns)
+    → Distinct ms × Distinct ns × ((n : ℕ) → among n ms ≡ true → among n ns ≡ false)
+distinct-parts [] ns d = (tt, d, λ n e. clash (sym e))
+distinct-parts (m ∷ ms) ns d =
+    let r = distinct-parts ms ns (d .1) in
+    let a = among-neither m ms ns (d .0) in
+    ((a .0, r .0), r .1, λ n e. apart n (eqb n m) refl (a .1) (r .2 n) e)
+  where
+    apart : (n : ℕ) (b : Bool) → eqb n m ≡ b → among m ns ≡ false → (among n ms ≡ true → among n ns ≡ false)
+        → b || among n ms ≡ true → among n ns ≡ false
+    apart n true t q f e = let z = eqb-true n m t in rw z q
+    apart n false t q f e = f e
+
+-- ---- Frames
+
+-- The numbers of frames one behind the other.
+numbers-append : (fs gs : List Frame) → numbersOf (fs ++ gs) ≡ numbersOf fs ++ numbersOf gs
+numbers-append [] gs = refl
+numbers-append (modelFrame id ∷ fs) gs = numbers-append fs gs
+numbers-append (groupFrame h ∷ fs) gs = ap (λ ns. h .number ∷ ns) (numbers-append fs gs)
+numbers-append (pointFrame p ∷ fs) gs = ap (λ ns. p .number ∷ ns) (numbers-append fs gs)
+numbers-append (endFrame ∷ fs) gs = numbers-append fs gs
+numbers-append (malformed ∷ fs) gs = numbers-append fs gs
+
+-- The numbers in a group and of the groups behind it.
+part-numbers : (ps : List Point) (inside behind : Groups)
+    → numbersOf (pointFrames ps ++ (groupFrames inside ++ (endFrame ∷ groupFrames behind)))
+    ≡ numbersOf (pointFrames ps) ++ (numbersOf (groupFrames inside) ++ numbersOf (groupFrames behind))
+part-numbers ps inside behind =
+    numbers-append (pointFrames ps) (groupFrames inside ++ (endFrame ∷ groupFrames behind))
+    ∙ ap (λ ns. numbersOf (pointFrames ps) ++ ns) (numbers-append (groupFrames inside) (endFrame ∷ groupFrames behind))
+
+-- A point's number is among those of the points.
+pub point-among : (p : Point) (ps : List Point) → In p ps → among (p .number) (numbersOf (pointFrames ps)) ≡ true
+point-among p (q ∷ ps) first = rw (eq-eqb (p .number) (p .number) refl)
+point-among p (q ∷ ps) (later i) = among-later (p .number) (q .number) (numbersOf (pointFrames ps)) (point-among p ps i)
+
+-- Where a test excludes another, the other excludes it.
+excluded : (a b : Bool) → (a ≡ true → b ≡ false) → b ≡ true → a ≡ false
+excluded true b f e = clash (sym e ∙ f refl)
+excluded false b f e = refl
+
+-- What is known of the numbers of points, of the groups in their group and of those behind it, where all are different.
+pub record Apart (ps : List Point) (inside behind : Groups) : Type 0 where
+  pub pointsDistinct : Distinct (numbersOf (pointFrames ps))
+  pub insideDistinct : Distinct (numbersOf (groupFrames inside))
+  pub behindDistinct : Distinct (numbersOf (groupFrames behind))
+  pub pointsInside : (n : ℕ) → among n (numbersOf (pointFrames ps)) ≡ true → among n (numbersOf (groupFrames inside)) ≡ false
+  pub insidePoints : (n : ℕ) → among n (numbersOf (groupFrames inside)) ≡ true → among n (numbersOf (pointFrames ps)) ≡ false
+  pub behindPoints : (n : ℕ) → among n (numbersOf (groupFrames behind)) ≡ true → among n (numbersOf (pointFrames ps)) ≡ false
+  pub behindInside : (n : ℕ) → among n (numbersOf (groupFrames behind)) ≡ true → among n (numbersOf (groupFrames inside)) ≡ false
+
+-- So it is where the frames of a group, behind its first one, and those of the groups behind it have different numbers.
+pub apart : (ps : List Point) (inside behind : Groups)
+    → Distinct (numbersOf (pointFrames ps ++ (groupFrames inside ++ (endFrame ∷ groupFrames behind)))) → Apart ps inside behind
+apart ps inside behind d =
+    let A = numbersOf (pointFrames ps) in
+    let I = numbersOf (groupFrames inside) in
+    let B = numbersOf (groupFrames behind) in
+    let r = distinct-parts A (I ++ B) (subst (λ ns. Distinct ns) (part-numbers ps inside behind) d) in
+    let s = distinct-parts I B (r .1) in
+    record {
+      pointsDistinct = r .0;
+      insideDistinct = s .0;
+      behindDistinct = s .1;
+      pointsInside = λ n e. among-neither n I B (r .2 n e) .0;
+      insidePoints = λ n. excluded (among n A) (among n I) (λ e. among-neither n I B (r .2 n e) .0);
+      behindPoints = λ n. excluded (among n A) (among n B) (λ e. among-neither n I B (r .2 n e) .1);
+      behindInside = λ n. excluded (among n I) (among n B) (s .2 n);
+    }
+
+-- A number that is none of a group's and of those behind it is none of each part's.
+pub record NoneOf (n : ℕ) (ps : List Point) (inside behind : Groups) : Type 0 where
+  pub ofPoints : among n (numbersOf (pointFrames ps)) ≡ false
+  pub ofInside : among n (numbersOf (groupFrames inside)) ≡ false
+  pub ofBehind : among n (numbersOf (groupFrames behind)) ≡ false
+
+pub none-of-parts : (n : ℕ) (h : Head) (ps : List Point) (inside behind : Groups)
+    → among n (numbersOf (groupFrames (group h ps inside behind))) ≡ false → NoneOf n ps inside behind
+none-of-parts n h ps inside behind e =
+    let A = numbersOf (pointFrames ps) in
+    let I = numbersOf (groupFrames inside) in
+    let B = numbersOf (groupFrames behind) in
+    let frames = pointFrames ps ++ (groupFrames inside ++ (endFrame ∷ groupFrames behind)) in
+    let g = neither (eqb n (h .number)) (among n (numbersOf frames)) .0 e .1 in
+    let f = subst (λ ns. among n ns ≡ false) (part-numbers ps inside behind) g in
+    let r = among-neither n A (I ++ B) f in
+    let s = among-neither n I B (r .1) in
+    record { ofPoints = r .0; ofInside = s .0; ofBehind = s .1 }

@@ -1,0 +1,97 @@
+-- Scopes that agree on the points of the top group give sound groups the same sizes and points: a count point is one of those.
+use mathlib.Core.Path.{_≡_, refl, sym, ap, _∙_}
+use mathlib.Core.Bool.{Bool, true, false, _&&_}
+use mathlib.Core.List.{List, _++_}
+use mathlib.Core.Option.{Option, some}
+use Prim.Native.Nat.{ℕ, suc, _+_}
+use borrow.Author.Tests.{eqb-true}
+use lib.Dec.{eqb}
+use lib.ListN.{length}
+use Rattle.lists.specs.Members.{In}
+use Rattle.catalog.specs.Frames.{Point, Head, constantCount, countByPoint, fill}
+use Rattle.catalog.specs.Definitions.{Groups, noGroup, group, pointsSize}
+use Rattle.catalog.specs.Soundness.{SoundHead, SoundGroups}
+use Rattle.catalog.proofs.References.{count-point-found}
+use Rattle.layout.specs.Points.{Scope}
+use Rattle.layout.specs.Layout.{countOf, groupsSize, fillSize, countUnimplemented}
+use Rattle.layout.specs.Counts.{groupsPoints, fillPoints}
+
+module _ (s s′ : Scope) (top : List Point) (agree : (p : Point) → In p top → s (p .number) ≡ s′ (p .number)) where
+  -- They agree on a count point.
+  count-point-agrees : (level : ℕ) (h : Head) (behind : Groups) → SoundHead top level h behind → h .countKind ≡ countByPoint
+      → s (h .count) ≡ s′ (h .count)
+  count-point-agrees level h behind e k =
+      let r = count-point-found (h .count) top (e .counted k) in
+      ap s (sym (r .2)) ∙ agree (r .0) (r .1) ∙ ap s′ (r .2)
+
+  -- The count of a sound group.
+  pub count-agrees : (f level : ℕ) (h : Head) (behind : Groups) → SoundHead top level h behind → countOf s f h ≡ countOf s′ f h
+  count-agrees f level h behind e = go (eqb (h .countKind) constantCount) (eqb (h .countKind) countByPoint) refl
+    where
+      go : (a b : Bool) → eqb (h .countKind) countByPoint ≡ b
+          → _≡_ {A = ℕ} (elim a [ true ↦ h .count | false ↦ elim b [ true ↦ s (h .count) | false ↦ f ] ])
+          (elim a [ true ↦ h .count | false ↦ elim b [ true ↦ s′ (h .count) | false ↦ f ] ])
+      go true b q = refl
+      go false true q = count-point-agrees level h behind e (eqb-true (h .countKind) countByPoint q)
+      go false false q = refl
+
+  -- The registers of sound groups.
+  pub sizes-agree : (f : ℕ) (enclosing : List Point) (level : ℕ) (g : Groups) → SoundGroups top enclosing level g
+      → groupsSize (countOf s f) g ≡ groupsSize (countOf s′ f) g
+  unfolding groupsSize
+  sizes-agree f enclosing level noGroup e = refl
+  sizes-agree f enclosing level (group h ps inside behind) e =
+      let c = count-agrees f level h behind (e .0) in
+      let i = sizes-agree f (ps ++ enclosing) (suc level) inside (e .3) in
+      let b = sizes-agree f enclosing level behind (e .4) in
+      rw (c, i, b)
+
+  -- The points of sound groups.
+  pub points-agree : (f : ℕ) (enclosing : List Point) (level : ℕ) (g : Groups) → SoundGroups top enclosing level g
+      → groupsPoints (countOf s f) g ≡ groupsPoints (countOf s′ f) g
+  unfolding groupsPoints
+  points-agree f enclosing level noGroup e = refl
+  points-agree f enclosing level (group h ps inside behind) e =
+      let c = count-agrees f level h behind (e .0) in
+      let i = points-agree f (ps ++ enclosing) (suc level) inside (e .3) in
+      let b = points-agree f enclosing level behind (e .4) in
+      rw (c, i, b)
+
+  -- The registers of an instance of the fill group.
+  pub fill-sizes-agree : (f : ℕ) (enclosing : List Point) (level : ℕ) (g : Groups) → SoundGroups top enclosing level g
+      → fillSize (countOf s f) g ≡ fillSize (countOf s′ f) g
+  unfolding fillSize
+  fill-sizes-agree f enclosing level noGroup e = refl
+  fill-sizes-agree f enclosing level (group h ps inside behind) e =
+      let i = sizes-agree f (ps ++ enclosing) (suc level) inside (e .3) in
+      let b = fill-sizes-agree f enclosing level behind (e .4) in
+      let step : Option ℕ → ℕ → Option ℕ =
+      λ o n. elim (eqb (h .countKind) fill) [ true ↦ some (pointsSize ps + n) | false ↦ o ] in
+      ap (λ o. step o (groupsSize (countOf s f) inside)) b ∙ ap (step (fillSize (countOf s′ f) behind)) i
+
+  -- The points of an instance of the fill group.
+  pub fill-points-agree : (f : ℕ) (enclosing : List Point) (level : ℕ) (g : Groups) → SoundGroups top enclosing level g
+      → fillPoints (countOf s f) g ≡ fillPoints (countOf s′ f) g
+  unfolding fillPoints
+  fill-points-agree f enclosing level noGroup e = refl
+  fill-points-agree f enclosing level (group h ps inside behind) e =
+      let i = points-agree f (ps ++ enclosing) (suc level) inside (e .3) in
+      let b = fill-points-agree f enclosing level behind (e .4) in
+      let step : ℕ → ℕ → ℕ = λ o n. elim (eqb (h .countKind) fill) [ true ↦ length ps + n | false ↦ o ] in
+      ap (λ o. step o (groupsPoints (countOf s f) inside)) b ∙ ap (step (fillPoints (countOf s′ f) behind)) i
+
+  -- Whether a count point is unimplemented.
+  pub unimplemented-agrees : (enclosing : List Point) (level : ℕ) (g : Groups) → SoundGroups top enclosing level g
+      → countUnimplemented s g ≡ countUnimplemented s′ g
+  unfolding countUnimplemented
+  unimplemented-agrees enclosing level noGroup e = refl
+  unimplemented-agrees enclosing level (group h ps inside behind) e =
+      let i = unimplemented-agrees (ps ++ enclosing) (suc level) inside (e .3) in
+      let b = unimplemented-agrees enclosing level behind (e .4) in
+      rw (own (eqb (h .countKind) countByPoint) refl, i, b)
+    where
+      own : (k : Bool) → eqb (h .countKind) countByPoint ≡ k
+          → k && eqb (s (h .count)) 0xFFFF ≡ (k && eqb (s′ (h .count)) 0xFFFF)
+      own true q =
+          ap (λ n. eqb n 0xFFFF) (count-point-agrees level h behind (e .0) (eqb-true (h .countKind) countByPoint q))
+      own false q = refl

@@ -1,0 +1,150 @@
+-- A pad that is left out: what is known of the points without it, and which models leave it out.
+use mathlib.Core.Path.{_≡_, refl, sym, ap, _∙_}
+use mathlib.Core.Bool.{true, false, _&&_, and-false}
+use mathlib.Core.List.{List, [], _∷_}
+use mathlib.Core.Option.{none, some}
+use Prim.Native.Nat.{ℕ, _+_, _≤_, _<_}
+use native.Mathlib.Omega.{arith}
+use borrow.Author.Tests.{lt-ltb, le-ltb, eq-eqb, ne-eqb, eqb-true, leb-true}
+use lib.Dec.{eqb, leb}
+use lib.ListN.{length}
+use Rattle.lists.specs.Each.{Each}
+use Rattle.lists.proofs.TestOutcomes.{clash, both}
+use Rattle.point_types.specs.Rows.{rows, rowAmong, registersOf}
+use Rattle.catalog.specs.Frames.{Point, Head, frameIn, pad}
+use Rattle.catalog.specs.Rules.{isSizeOf}
+use Rattle.catalog.specs.Definitions.{Groups, noGroup, group, Content, pointsSize}
+use Rattle.catalog.specs.Soundness.{SoundPoint}
+use Rattle.catalog.proofs.GroupSizes.{point-size}
+use Rattle.layout.specs.Layout.{fillOf, fillSize}
+use Rattle.layout.specs.Reading.{endsWithPad, allButLast, hasNoGroup, padLeftOut}
+use Rattle.layout.specs.Walks.{heldAt, Stands, headOf, begun}
+use Rattle.layout.proofs.Standing as standing
+
+-- A type of one register has this size.
+pub one-register-size : (code size : ℕ) → registersOf code ≡ some (1, 1) → isSizeOf code size ≡ true → size ≡ 1
+unfolding isSizeOf
+one-register-size code size q e =
+    let s = both (leb 1 size) (leb size 1) (rw (isSizeOf, q) at e) in
+    let above = leb-true 1 size (s .0) in
+    let below = leb-true size 1 (s .1) in
+    omega arith
+
+-- So has a pad.
+pad-size : (size : ℕ) → isSizeOf pad size ≡ true → size ≡ 1
+unfolding registersOf rowAmong rows
+pad-size size = one-register-size pad size refl
+
+-- Points that end with a pad are one more than all but the last.
+pub but-one : (ps : List Point) → endsWithPad ps ≡ true → length ps ≡ length (allButLast ps) + 1
+unfolding endsWithPad allButLast
+but-one [] e = clash (sym e)
+but-one (p ∷ []) e = refl
+but-one (p ∷ q ∷ ps) e = let r = but-one (q ∷ ps) e in omega arith
+
+-- Without a pad at their end, points take one register less.
+pub without-pad : (reach ps : List Point) → Each (SoundPoint reach) ps → endsWithPad ps ≡ true
+    → pointsSize (allButLast ps) + 1 ≡ pointsSize ps
+unfolding endsWithPad allButLast
+without-pad reach [] e t = clash (sym t)
+without-pad reach (p ∷ []) e t =
+    let code = eqb-true (p .typeCode) pad t in
+    let one = pad-size (p .size) (rw code at (e .0 .sized)) in
+    omega arith
+without-pad reach (p ∷ q ∷ ps) e t = let r = without-pad reach (q ∷ ps) (e .1) t in omega (arith, r)
+
+-- What holds of each holds of all but the last.
+pub each-but-last : (P : Point → Type 0) (ps : List Point) → Each P ps → Each P (allButLast ps)
+unfolding allButLast
+each-but-last P [] e = tt
+each-but-last P (p ∷ []) e = tt
+each-but-last P (p ∷ q ∷ ps) e = (e .0, each-but-last P (q ∷ ps) (e .1))
+
+-- Where the length is one short of points that end with a pad, all but the pad begin before the end.
+begun-but-last : (reach : List Point) (len offset : ℕ) (ps : List Point) → Each (SoundPoint reach) ps → endsWithPad ps ≡ true
+    → len + 1 ≡ offset + pointsSize ps → begun len offset ps ≡ allButLast ps
+unfolding endsWithPad allButLast begun
+begun-but-last reach len offset [] s e q = clash (sym e)
+begun-but-last reach len offset (p ∷ []) s e q =
+    let t = eqb-true (p .typeCode) pad e in
+    let z : p .size ≡ 1 = pad-size (p .size) (rw t at (s .0 .sized)) in
+    let l : len ≤ offset = omega arith in
+    rw (le-ltb offset len l, begun)
+begun-but-last reach len offset (p ∷ r ∷ ps) s e q =
+    let a = point-size reach p (s .0) .0 in
+    let b = point-size reach r (s .1 .0) .0 in
+    let l : offset < len = omega arith in
+    let rest = begun-but-last reach len (offset + p .size) (r ∷ ps) (s .1) e (omega arith) in
+    rw (lt-ltb offset len l, begun) (ap (λ xs. p ∷ xs) rest)
+
+-- What a left out pad means.
+pub left-out : (id : ℕ) (c : Content) (len : ℕ) → padLeftOut id c len ≡ true
+    → (hasNoGroup (c .groups) ≡ true) × (endsWithPad (c .points) ≡ true) × (len + 1 ≡ pointsSize (c .points))
+left-out id c len e =
+    let a = both (eqb id 1)
+    (hasNoGroup (c .groups) && (endsWithPad (c .points) && eqb (len + 1) (pointsSize (c .points)))) e in
+    let b = both (hasNoGroup (c .groups)) (endsWithPad (c .points) && eqb (len + 1) (pointsSize (c .points))) (a .1) in
+    let d = both (endsWithPad (c .points)) (eqb (len + 1) (pointsSize (c .points))) (b .1) in
+    (b .0, d .0, eqb-true (len + 1) (pointsSize (c .points)) (d .1))
+
+-- The points that begin before the end of a body that lacks the pad.
+pub begun-but-pad : (reach : List Point) (id : ℕ) (c : Content) (len : ℕ) → Each (SoundPoint reach) (c .points)
+    → padLeftOut id c len ≡ true → begun len 0 (c .points) ≡ allButLast (c .points)
+begun-but-pad reach id c len s e =
+    let l = left-out id c len e in begun-but-last reach len 0 (c .points) s (l .1) (omega arith)
+
+-- A model without groups has no fill.
+pub no-fill : (c : Content) (body : List ℕ) → hasNoGroup (c .groups) ≡ true → fillOf c body ≡ 0
+unfolding fillOf fillSize
+no-fill c body e = go (c .groups) e
+  where
+    go : (g : Groups) → hasNoGroup g ≡ true → fillOf (record { points = c .points; groups = g }) body ≡ 0
+    go noGroup t = refl
+    go (group h ps inside behind) t = clash (sym t)
+
+-- ---- The test
+
+module _ (id : ℕ) (c : Content) (len : ℕ) where
+  -- No pad is left out of points that do not end with one,
+  pub kept-without-pad : endsWithPad (c .points) ≡ false → padLeftOut id c len ≡ false
+  kept-without-pad e =
+      let inner : endsWithPad (c .points) && eqb (len + 1) (pointsSize (c .points)) ≡ false = rw e in
+      ap (λ t. eqb id 1 && (hasNoGroup (c .groups) && t)) inner ∙ ap (λ t. eqb id 1 && t) (and-false (hasNoGroup (c .groups)))
+      ∙ and-false (eqb id 1)
+
+  -- nor at any other length,
+  pub kept-by-length : (len + 1 ≡ pointsSize (c .points) → ⊥) → padLeftOut id c len ≡ false
+  kept-by-length n =
+      ap (λ t. eqb id 1 && (hasNoGroup (c .groups) && (endsWithPad (c .points) && t)))
+      (ne-eqb (len + 1) (pointsSize (c .points)) n)
+      ∙ ap (λ t. eqb id 1 && (hasNoGroup (c .groups) && t)) (and-false (endsWithPad (c .points)))
+      ∙ ap (λ t. eqb id 1 && t) (and-false (hasNoGroup (c .groups)))
+      ∙ and-false (eqb id 1)
+
+  -- nor with groups.
+  pub kept-with-groups : hasNoGroup (c .groups) ≡ false → padLeftOut id c len ≡ false
+  kept-with-groups e =
+      ap (λ t. eqb id 1 && (t && (endsWithPad (c .points) && eqb (len + 1) (pointsSize (c .points))))) e ∙ and-false (eqb id 1)
+
+  -- In model 1 without groups, at this length, it is.
+  pub one-short : id ≡ 1 → hasNoGroup (c .groups) ≡ true → endsWithPad (c .points) ≡ true → len + 1 ≡ pointsSize (c .points)
+      → padLeftOut id c len ≡ true
+  one-short i g p l = simp (eq-eqb id 1 i, g, p, eq-eqb (len + 1) (pointsSize (c .points)) l)
+
+module _ (ws : List ℕ) (first next : ℕ) (s : Stands ws first) (n : next ≡ first + length (heldAt ws first .points)) where
+  -- Behind the points stands a group frame where there are groups,
+  pub group-behind : (h : Head) → headOf (frameIn ws next) ≡ some h → hasNoGroup (heldAt ws first .groups) ≡ false
+  group-behind h e =
+      let r = standing.behind-run ws first s in
+      let at = first + length (heldAt ws first .points) in
+      let f : headOf (frameIn ws at) ≡ some h = ap (λ i. headOf (frameIn ws i)) (sym n) ∙ e in
+      let g = standing.group-next ws at (r .2) (r .0) h f .0 in
+      ap hasNoGroup (sym (r .1) ∙ g)
+
+  -- and none where there are none.
+  pub no-group-behind : headOf (frameIn ws next) ≡ none → hasNoGroup (heldAt ws first .groups) ≡ true
+  no-group-behind e =
+      let r = standing.behind-run ws first s in
+      let at = first + length (heldAt ws first .points) in
+      let f : headOf (frameIn ws at) ≡ none = ap (λ i. headOf (frameIn ws i)) (sym n) ∙ e in
+      ap hasNoGroup (sym (r .1) ∙ standing.no-group ws at (r .2) (r .0) f)

@@ -1,0 +1,32 @@
+-- Sizes, counts and scopes
+pub mod Sizes
+pub mod Capping
+pub mod PointCounts
+pub mod InstancePairs
+pub mod CountsAgree
+pub mod ReachOnly
+pub mod ReadOnlyCounts
+-- One model as it is read
+pub mod LeftOutPad
+pub mod Readings
+pub mod ReadingSteps
+pub mod ListedPoints
+-- Where its points are
+pub mod BodyTiling
+pub mod TiledApart
+pub mod PointsInside
+pub mod OnePoint
+pub mod Depths
+pub mod Places
+pub mod PointAddresses
+pub mod PointPlaces
+-- What a record shows of a point
+pub mod PointClasses
+pub mod PointStatus
+-- The frames of a definition as a walk visits them
+pub mod Standing
+pub mod AcceptedModels
+pub mod PassedFrames
+pub mod ModelSearch
+pub mod IntoGroups
+pub mod NotedPoints

@@ -1,0 +1,132 @@
+-- A walk passes the frames of the groups that are open, one after the other.
+use mathlib.Core.Path.{_≡_, refl, sym, ap, _∙_}
+use mathlib.Core.Bool.{false}
+use mathlib.Core.List.{List, [], _∷_, _++_}
+use Prim.Native.Nat.{ℕ, _+_, _/_, _≤_, _<_}
+use native.Mathlib.Omega.{arith}
+use lib.ListN.{length, length-append}
+use Rattle.catalog.specs.Frames.{Point, Frame, endFrame, frameIn}
+use Rattle.catalog.specs.Definitions.{Groups, noGroup, group, Content, pointFrames, groupFrames}
+use Rattle.catalog.proofs.ModelFrames.{restFrames}
+use Rattle.layout.specs.Walks.{onward, heldAt, Stands, pastEnd, openBehind, isModelOf}
+use Rattle.layout.proofs.Standing.{length-onward, at-point, at-group, at-end, rest-there, rest-within}
+
+-- What open groups still hold, behind a frame that is passed: its frames stand there, and it is no model frame.
+pub record Passed (ws : List ℕ) (i : ℕ) (cs : List Content) (rest : List Frame) : Type 0 where
+  pub left : List Content
+  pub there : onward ws (i + 1) ≡ restFrames left rest
+  pub deep : length left ≡ openBehind (frameIn ws i) (length cs)
+  pub inModel : (id : ℕ) → isModelOf id (frameIn ws i) ≡ false
+
+-- Where a group is open, the frame is passed.
+pub passed : (ws : List ℕ) (i : ℕ) (c : Content) (cs : List Content) (rest : List Frame)
+    → onward ws i ≡ restFrames (c ∷ cs) rest → Passed ws i (c ∷ cs) rest
+passed ws i c cs rest e = go (c .points) (c .groups) e
+  where
+    behind : List Frame
+    behind = restFrames cs rest
+
+    go : (ps : List Point) (gs : Groups) → onward ws i ≡ pointFrames ps ++ (groupFrames gs ++ (endFrame ∷ behind))
+        → Passed ws i (c ∷ cs) rest
+    go (p ∷ ps) gs q =
+        let t = at-point ws i behind p ps gs q in
+        let f = t .0 in
+        record {
+          left = record { points = ps; groups = gs } ∷ cs;
+          there = t .1;
+          deep = rw f;
+          inModel = λ id. rw f;
+        }
+    go [] (group h ps inside after) q =
+        let t = at-group ws i behind h ps inside after q in
+        let f = t .0 in
+        record {
+          left = record { points = ps; groups = inside } ∷ record { points = []; groups = after } ∷ cs;
+          there = t .1;
+          deep = rw f (omega arith);
+          inModel = λ id. rw f;
+        }
+    go [] noGroup q =
+        let t = at-end ws i behind q in
+        let f = t .0 in
+        record { left = cs; there = t .1; deep = rw f (omega arith); inModel = λ id. rw f }
+
+-- Each open group has an end frame to come.
+ends-to-come : (cs : List Content) (rest : List Frame) → length cs ≤ length (restFrames cs rest)
+ends-to-come [] rest = omega arith
+ends-to-come (c ∷ cs) rest =
+    let gs = groupFrames (c .groups) in
+    let e = ends-to-come cs rest in
+    let a = length-append (pointFrames (c .points)) (gs ++ (endFrame ∷ restFrames cs rest)) in
+    let b = length-append gs (endFrame ∷ restFrames cs rest) in
+    omega arith
+
+-- ---- Passing a group
+
+-- On the way from a frame to the end of the group that is open there, so many groups are open.
+pub record Passing (ws : List ℕ) (first at depth : ℕ) : Type 0 where
+  pub left : List Content
+  pub behind : List Frame
+  pub here : onward ws at ≡ restFrames left behind
+  pub deep : length left ≡ depth
+  pub beyond : onward ws (pastEnd ws first) ≡ behind
+  pub inside : pastEnd ws first ≤ length ws / 8
+  pub within : at ≤ length ws / 8
+
+-- It begins with that group alone.
+pub passing-start : (ws : List ℕ) (first : ℕ) → Stands ws first → Passing ws first first 1
+passing-start ws first s =
+    let c = heldAt ws first in
+    let inside = rest-within ws first (c .points) (c .groups) (s .behind) (s .here) in
+    record {
+      left = c ∷ [];
+      behind = s .behind;
+      here = s .here;
+      deep = refl;
+      beyond = rest-there ws first (c .points) (c .groups) (s .behind) (s .here);
+      inside = inside;
+      within = omega arith;
+    }
+
+module _ (ws : List ℕ) (first at depth : ℕ) (p : Passing ws first at depth) where
+  -- No more groups are open than there are frames to come.
+  pub passing-few : depth + at ≤ length ws / 8
+  passing-few =
+      let e = ends-to-come (p .left) (p .behind) in
+      let l = sym (length-onward ws at) ∙ ap length (p .here) in
+      let d = p .deep in
+      let w = p .within in
+      omega arith
+
+  -- A frame is passed.
+  pub passing-next : 0 < depth → Passing ws first (at + 1) (openBehind (frameIn ws at) depth)
+  passing-next h = go (p .left) (p .deep) (p .here)
+    where
+      go : (cs : List Content) → length cs ≡ depth → onward ws at ≡ restFrames cs (p .behind)
+          → Passing ws first (at + 1) (openBehind (frameIn ws at) depth)
+      go [] d e = absurd (omega arith)
+      go (c ∷ cs) d e =
+          let n = passed ws at c cs (p .behind) e in
+          let few = passing-few in
+          record {
+            left = n .left;
+            behind = p .behind;
+            here = n .there;
+            deep = n .deep ∙ ap (openBehind (frameIn ws at)) d;
+            beyond = p .beyond;
+            inside = p .inside;
+            within = omega arith;
+          }
+
+  -- Where no group is open any more, all of the group is passed.
+  pub passing-done : depth ≤ 0 → at ≡ pastEnd ws first
+  passing-done h = go (p .left) (p .deep) (p .here)
+    where
+      go : (cs : List Content) → length cs ≡ depth → onward ws at ≡ restFrames cs (p .behind) → at ≡ pastEnd ws first
+      go (c ∷ cs) d e = absurd (omega arith)
+      go [] d e =
+          let here = sym (length-onward ws at) ∙ ap length e in
+          let beyond = sym (length-onward ws (pastEnd ws first)) ∙ ap length (p .beyond) in
+          let w = p .within in
+          let i = p .inside in
+          omega arith

@@ -1,0 +1,260 @@
+-- Where the points of one model lie: each is a point of the definition, lies in the body, and is apart from every other.
+use mathlib.Core.Path.{_≡_, refl, sym, ap, subst, _∙_}
+use mathlib.Core.Bool.{true, false}
+use mathlib.Core.List.{List, [], _∷_}
+use mathlib.Core.Logic.{_⊎_, inl, inr, ⊎-elim}
+use Prim.Native.Nat.{ℕ, _+_, _≤_}
+use native.Mathlib.Omega.{arith}
+use lib.Dec.{eqb}
+use lib.ListN.{length}
+use Rattle.lists.specs.Each.{Each}
+use Rattle.lists.specs.Members.{among, Distinct, In, first, later}
+use Rattle.lists.proofs.TestOutcomes.{by-same-test}
+use Rattle.lists.proofs.TestLaws.{neither}
+use Rattle.lists.proofs.EachLaws.{each-implied, each-append, each-one, each-any}
+use Rattle.lists.proofs.InLaws.{in-front, in-behind, all-in}
+use Rattle.catalog.specs.Frames.{Point, Head}
+use Rattle.catalog.specs.Definitions.{noGroup, Content, Definition, pointsSize, pointFrames}
+use Rattle.catalog.specs.Soundness.{SoundDefinition, numbersOf}
+use Rattle.catalog.proofs.GroupNumbers.{point-among, Apart, apart}
+use Rattle.layout.specs.Points.{ModelPoint}
+use Rattle.layout.specs.Layout.{topScope, countsOf, noInstance, pointsAt, groupsAt, contentAt}
+use Rattle.layout.specs.Reading.{points, allButLast, readBy}
+use Rattle.layout.specs.Tiling.{lowerPoints, definedPoints, Tiles}
+use Rattle.layout.specs.Paths.{depthIn, agreeTo, pathOf}
+use Rattle.layout.proofs.LeftOutPad.{each-but-last}
+use Rattle.layout.proofs.OnePoint.{one-point}
+use Rattle.layout.proofs.BodyTiling.{read-tiled}
+use Rattle.layout.proofs.Readings.{pointsLeft, by-reading}
+use Rattle.layout.proofs.Places.{Place}
+use Rattle.layout.proofs.PointAddresses.{offsetIn, addressIn, agree-address, Reads, Own, each-own, Lower, each-lower, lower-among}
+
+-- ---- One point behind the other
+
+-- Points that lie one behind the other, from an offset up to another, by their own sizes.
+abbrev Laid : ℕ → ℕ → List ModelPoint → Type 0
+Laid from to [] = from ≡ to
+Laid from to (p ∷ ps) = (p .offset ≡ from) × (1 ≤ p .definition .size) × Laid (from + p .definition .size) to ps
+
+-- p ends where w begins, or before it.
+abbrev Before : ModelPoint → ModelPoint → Type 0
+Before p w = p .offset + p .definition .size ≤ w .offset
+
+-- Points that lie so go upward,
+upward : (from to : ℕ) (ps : List ModelPoint) → Laid from to ps → from ≤ to
+upward from to [] t = omega (arith, t)
+upward from to (p ∷ ps) t = let r = upward (from + p .definition .size) to ps (t .2) in omega (arith, r)
+
+-- each takes a register or more, within the bounds,
+within-bounds : (from to : ℕ) (ps : List ModelPoint) → Laid from to ps → (p : ModelPoint) → In p ps
+    → (from ≤ p .offset) × (1 ≤ p .definition .size) × (p .offset + p .definition .size ≤ to)
+within-bounds from to (q ∷ ps) t p first =
+    let u = upward (from + p .definition .size) to ps (t .2) in (omega (arith, t .0), t .1, omega (arith, t .0, u))
+within-bounds from to (q ∷ ps) t p (later i) =
+    let r = within-bounds (from + q .definition .size) to ps (t .2) p i in (omega (arith, r .0), r .1, r .2)
+
+-- and of two, one ends before the other begins, or they are one.
+one-or-apart : (from to : ℕ) (ps : List ModelPoint) → Laid from to ps → (w p : ModelPoint) → In w ps → In p ps
+    → (p ≡ w) ⊎ (Before p w ⊎ Before w p)
+one-or-apart from to (q ∷ ps) t w p first first = inl refl
+one-or-apart from to (q ∷ ps) t w p first (later j) =
+    let r = within-bounds (from + q .definition .size) to ps (t .2) p j in inr (inr (omega (arith, t .0, r .0)))
+one-or-apart from to (q ∷ ps) t w p (later i) first =
+    let r = within-bounds (from + q .definition .size) to ps (t .2) w i in inr (inl (omega (arith, t .0, r .0)))
+one-or-apart from to (q ∷ ps) t w p (later i) (later j) = one-or-apart (from + q .definition .size) to ps (t .2) w p i j
+
+-- Points that tile by the points of a sound definition lie so: a number names one point of it.
+tiles-laid : (d : Definition) → SoundDefinition d → (from to : ℕ) (ps : List ModelPoint) (qs : List Point)
+    → Each (λ p. In (p .definition) (definedPoints d)) ps → Each (λ q. In q (definedPoints d)) qs
+    → Tiles (λ p. p .offset) (λ p. p .definition .number) from to ps qs → Laid from to ps
+tiles-laid d s from to [] [] e f t = t
+tiles-laid d s from to [] (q ∷ qs) e f t = absurd t
+tiles-laid d s from to (p ∷ ps) [] e f t = absurd t
+tiles-laid d s from to (p ∷ ps) (q ∷ qs) e f t =
+    let same : q .size ≡ p .definition .size = ap (λ r. r .size) (sym (one-point d s (p .definition) q (e .0) (f .0) (t .1))) in (
+      t .0,
+      subst (λ n. 1 ≤ n) same (t .2),
+      subst (λ n. Laid (from + n) to ps) same
+          (tiles-laid d s (from + q .size) to ps qs (e .1) (f .1) (t .3)),
+    )
+
+-- ---- The addresses of a model's points
+
+-- A point is one of a definition's, begins at the address by its number and its path, and shows what its registers hold.
+abbrev At : Definition → List ℕ → (ℕ → List ℕ → ℕ) → ModelPoint → Type 0
+At d body address p =
+    (In (p .definition) (definedPoints d)) × (p .offset ≡ address (p .definition .number) (pathOf p)) × Reads body p
+
+-- So is each point of a model, and the address looks only at the instance numbers that lead to the point.
+record Addressed (d : Definition) (body : List ℕ) (ps : List ModelPoint) : Type 0 where
+  address : ℕ → List ℕ → ℕ
+  near : (n : ℕ) (xs ys : List ℕ) → length xs ≡ length ys → agreeTo (depthIn n (d .top .groups)) xs ys ≡ true
+      → address n xs ≡ address n ys
+  each : Each (At d body address) ps
+
+-- The numbers of a sound definition's top points and groups are all different.
+top-apart : (d : Definition) → SoundDefinition d → Apart (d .top .points) (d .top .groups) noGroup
+top-apart d s = apart (d .top .points) (d .top .groups) noGroup (s .distinct)
+
+-- The registers before the point with a number, on a path into the groups of the top group.
+unfoldable addressOf : Content → (Head → ℕ) → ℕ → List ℕ → ℕ
+addressOf c count n path =
+    elim (among n (numbersOf (pointFrames (c .points)))) [
+      | true ↦ offsetIn n (c .points)
+      | false ↦ pointsSize (c .points) + addressIn count n path (c .groups)
+    ]
+
+module _ (d : Definition) (body : List ℕ) (count : Head → ℕ) where
+  -- It looks only at the instance numbers that lead to the point.
+  agree-top : (n : ℕ) (xs ys : List ℕ) → length xs ≡ length ys → agreeTo (depthIn n (d .top .groups)) xs ys ≡ true
+      → addressOf (d .top) count n xs ≡ addressOf (d .top) count n ys
+  unfolding addressOf
+  agree-top n xs ys l e =
+      by-same-test (λ a b. a ≡ b) (among n (numbersOf (pointFrames (d .top .points)))) (λ q. refl)
+      (λ q. ap (λ a. pointsSize (d .top .points) + a) (agree-address count n (d .top .groups) xs ys l e))
+
+  -- A top point has its address,
+  own-at : (p : ModelPoint) → Own body noInstance 0 (d .top .points) p → At d body (addressOf (d .top) count) p
+  unfolding addressOf
+  own-at p o =
+      let ps = d .top .points in
+      let a = o .addressed in (
+        in-front (p .definition) ps (lowerPoints (d .top .groups)) (o .defined),
+        rw (point-among (p .definition) ps (o .defined), addressOf) (omega (arith, a)),
+        o .reads,
+      )
+
+  -- and so has a point of the groups.
+  lower-at : SoundDefinition d → (p : ModelPoint)
+      → Lower body count 0 noInstance (pointsSize (d .top .points)) (d .top .groups) p → At d body (addressOf (d .top) count) p
+  unfolding addressOf
+  lower-at s p o =
+      let g = d .top .groups in
+      let n = p .definition .number in (
+        in-behind (p .definition) (d .top .points) (lowerPoints g) (o .defined),
+        rw (top-apart d s .insidePoints n (lower-among (p .definition) g (o .defined)), addressOf) (o .addressed),
+        o .reads,
+      )
+
+-- A model in full.
+content-addressed : (d : Definition) → SoundDefinition d → (body : List ℕ) → Addressed d body (contentAt (d .top) body)
+unfolding contentAt
+content-addressed d s body =
+    let ps = d .top .points in
+    let g = d .top .groups in
+    let count = countsOf (d .top) body in
+    let scope = topScope ps body in
+    let t = top-apart d s in
+    let own = pointsAt body scope noInstance 0 ps in
+    let lower = groupsAt body count 2 scope noInstance (pointsSize ps) g in
+    let P = At d body (addressOf (d .top) count) in
+    record {
+      address = addressOf (d .top) count;
+      near = agree-top d body count;
+      each = each-append P own lower
+          (each-implied (Own body noInstance 0 ps) P (own-at d body count) own
+          (each-own body scope noInstance 0 ps refl (t .pointsDistinct)))
+          (each-implied (Lower body count 0 noInstance (pointsSize ps) g) P (lower-at d body count s) lower
+          (each-lower body count 2 scope noInstance (pointsSize ps) ps ps g (s .groups) (omega arith) refl (t .insideDistinct)));
+    }
+
+-- All but the last of points are of them,
+pub in-but-last : (p : Point) (ps : List Point) → In p (allButLast ps) → In p ps
+in-but-last p ps = each-one (λ q. In q ps) (allButLast ps) (each-but-last (λ q. In q ps) ps (all-in ps)) p
+
+-- have none of the numbers that these have not,
+none-but-last : (n : ℕ) (ps : List Point) → among n (numbersOf (pointFrames ps)) ≡ false
+    → among n (numbersOf (pointFrames (allButLast ps))) ≡ false
+unfolding allButLast
+none-but-last n [] e = refl
+none-but-last n (p ∷ []) e = refl
+none-but-last n (p ∷ q ∷ ps) e =
+    let f = neither (eqb n (p .number)) (among n (numbersOf (pointFrames (q ∷ ps)))) .0 e in
+    neither (eqb n (p .number)) (among n (numbersOf (pointFrames (allButLast (q ∷ ps))))) .1
+    (f .0, none-but-last n (q ∷ ps) (f .1))
+
+-- and each its own where these have.
+distinct-but-last : (ps : List Point) → Distinct (numbersOf (pointFrames ps)) → Distinct (numbersOf (pointFrames (allButLast ps)))
+unfolding allButLast
+distinct-but-last [] d = tt
+distinct-but-last (p ∷ []) d = tt
+distinct-but-last (p ∷ q ∷ ps) d = (none-but-last (p .number) (q ∷ ps) (d .0), distinct-but-last (q ∷ ps) (d .1))
+
+-- A model whose last pad is left out.
+pad-addressed : (d : Definition) → SoundDefinition d → (id : ℕ) (body : List ℕ) → Addressed d body (pointsLeft id (d .top) body)
+pad-addressed d s id body =
+    let ps = d .top .points in
+    let qs = allButLast ps in
+    let by : ℕ → List ℕ → ℕ = λ n path. offsetIn n qs in
+    let own-at : (p : ModelPoint) → Own body noInstance 0 qs p → At d body by p = λ p o.
+    let a = o .addressed in
+    let one = in-but-last (p .definition) ps (o .defined) in
+    (in-front (p .definition) ps (lowerPoints (d .top .groups)) one, omega (arith, a), o .reads) in
+    record {
+      address = by;
+      near = λ n xs ys l e. refl;
+      each = each-implied (Own body noInstance 0 qs) (At d body by) own-at (pointsAt body (topScope qs body) noInstance 0 qs)
+          (each-own body (topScope qs body) noInstance 0 qs refl (distinct-but-last ps (top-apart d s .pointsDistinct)));
+    }
+
+-- A model that is read by a sound definition.
+read-addressed : (d : Definition) → SoundDefinition d → (id : ℕ) (body : List ℕ) (ps : List ModelPoint)
+    → readBy id (d .top) body ≡ points ps → Addressed d body ps
+read-addressed d s id body =
+    by-reading id (d .top) body (Addressed d body) (λ _. pad-addressed d s id body) (λ _ _. content-addressed d s body)
+
+-- ---- The points of a model that is read
+
+module _ (d : Definition) (sound : SoundDefinition d) (body : List ℕ) (ps : List ModelPoint)
+    (read : readBy (d .id) (d .top) body ≡ points ps) where
+  -- The addresses of the points.
+  addressed : Addressed d body ps
+  addressed = read-addressed d sound (d .id) body ps read
+
+  -- Each point is one of the definition's, begins at its address and shows what its registers hold.
+  point-at : (p : ModelPoint) → In p ps → At d body (addressed .address) p
+  point-at = each-one (At d body (addressed .address)) ps (addressed .each)
+
+  -- So each is one of the definition's,
+  pub point-defined : (p : ModelPoint) → In p ps → In (p .definition) (definedPoints d)
+  point-defined p i = point-at p i .0
+
+  -- its raw value is what its registers hold,
+  pub point-reads : (p : ModelPoint) → In p ps → Reads body p
+  point-reads p i = point-at p i .2
+
+  -- they lie one behind the other,
+  points-laid : Laid 0 (length body) ps
+  points-laid =
+      let b = read-tiled d sound (d .id) body ps read in
+      tiles-laid d sound 0 (length body) ps (b .by) (each-any (λ p. In (p .definition) (definedPoints d)) ps point-defined)
+      (b .defined) (b .tiles)
+
+  -- so each lies in the body,
+  pub point-inside : (p : ModelPoint) → In p ps → p .offset + p .definition .size ≤ length body
+  point-inside p i = within-bounds 0 (length body) ps points-laid p i .2
+
+  -- and is apart from another one.
+  pub point-places : (w : ModelPoint) → In w ps → Each (Place (d .top) w) ps
+  point-places w i = each-any (Place (d .top) w) ps place
+    where
+      -- Each takes a register or more.
+      sized : (p : ModelPoint) → In p ps → 1 ≤ p .definition .size
+      sized p j = within-bounds 0 (length body) ps points-laid p j .1
+
+      -- The place of each, by the order of the two and by their addresses.
+      place : (p : ModelPoint) → In p ps → Place (d .top) w p
+      place p j =
+          let order = one-or-apart 0 (length body) ps points-laid w p i j in
+          let m = sized p j in
+          let k = sized w i in
+          record {
+            same = λ e.
+                ⊎-elim (λ q. q) (⊎-elim (λ b. absurd (omega (arith, b, e, m))) (λ b. absurd (omega (arith, b, e, k)))) order;
+            apart = λ e. ⊎-elim (λ q. absurd (e (ap (λ r. r .offset) q))) (λ b. b) order;
+            found = λ e a.
+                point-at p j .1
+                ∙ ap (λ n. addressed .address n (pathOf p)) e
+                ∙ sym (addressed .near (w .definition .number) (pathOf w) (pathOf p) refl a)
+                ∙ sym (point-at w i .1);
+          }

@@ -1,0 +1,121 @@
+-- How a definition lays out a model (document 01, "The map"): sizes, counts, and where each point of each instance lies.
+use mathlib.Core.Bool.{Bool, true, false, _&&_, _||_}
+use mathlib.Core.List.{List, [], _∷_, _++_}
+use mathlib.Core.Option.{Option, none, some}
+use Prim.Native.Nat.{ℕ, zero, suc, _+_, _*_, _-_, _/_, _%_}
+use lib.Dec.{eqb, leb}
+use lib.ListN.{length, getD, set}
+use Rattle.catalog.specs.Frames.{Point, Head, constantCount, countByPoint, fill}
+use Rattle.catalog.specs.Definitions.{Groups, noGroup, group, Content, pointsSize}
+use Rattle.layout.specs.Points.{ModelPoint, Scope, pointAt}
+
+-- ---- Scopes
+
+-- A scope in which one more point is in reach.
+abbrev pub withPoint : ℕ → ℕ → Scope → Scope
+withPoint number register scope n = elim (eqb n number) [ true ↦ register | false ↦ scope n ]
+
+-- The scope within an instance: its own points, laid from an offset on, are in reach, and what was in reach around it. (In an
+-- accepted map every point lies in the body: `proofs/Tiling.antt`.)
+unfoldable pub within : List ℕ → ℕ → List Point → Scope → Scope
+within body offset [] scope = scope
+within body offset (p ∷ ps) scope =
+    within body (offset + p .size) ps (withPoint (p .number) (getD body offset 0) scope)
+
+-- Nothing is in reach. (In an accepted catalog no point outside reach is asked for: `proofs/ReachOnly.antt`. 8000 is no scale
+-- factor.)
+abbrev pub nothing : Scope
+nothing n = 0x8000
+
+-- The scope of the top group of a model.
+abbrev pub topScope : List Point → List ℕ → Scope
+topScope ps body = within body 0 ps nothing
+
+-- ---- Sizes
+
+-- How many instances a group has: the constant; the raw value of the count point, a point of the top group of the same model;
+-- or as many as fill the model (an accepted catalog has no other kind).
+abbrev pub countOf : Scope → ℕ → Head → ℕ
+countOf top filling h =
+    elim (eqb (h .countKind) constantCount) [
+      | true ↦ h .count
+      | false ↦ elim (eqb (h .countKind) countByPoint) [ true ↦ top (h .count) | false ↦ filling ]
+    ]
+
+-- The registers of groups side by side: of each, count × the size of an instance, which is its points and the groups in it.
+unfoldable pub groupsSize : (Head → ℕ) → Groups → ℕ
+groupsSize count noGroup = 0
+groupsSize count (group h ps inside behind) =
+    count h * (pointsSize ps + groupsSize count inside) + groupsSize count behind
+
+-- The size of an instance of the fill group, if one of these groups is it.
+unfoldable pub fillSize : (Head → ℕ) → Groups → Option ℕ
+fillSize count noGroup = none
+fillSize count (group h ps inside behind) =
+    elim (eqb (h .countKind) fill) [ true ↦ some (pointsSize ps + groupsSize count inside) | false ↦ fillSize count behind ]
+
+-- 28: a count point of one of these groups, or of a group in them, reads FFFF.
+unfoldable pub countUnimplemented : Scope → Groups → Bool
+countUnimplemented top noGroup = false
+countUnimplemented top (group h ps inside behind) =
+    (eqb (h .countKind) countByPoint && eqb (top (h .count)) 0xFFFF)
+    || (countUnimplemented top inside || countUnimplemented top behind)
+
+-- The size of the rest: all but the fill group.
+abbrev pub restSize : Content → List ℕ → ℕ
+restSize c body =
+    pointsSize (c .points) + groupsSize (countOf (topScope (c .points) body) 0) (c .groups)
+
+-- The size of an instance of the fill group, if the top group has one.
+abbrev pub fillSizeOf : Content → List ℕ → Option ℕ
+fillSizeOf c body = fillSize (countOf (topScope (c .points) body) 0) (c .groups)
+
+-- 29: the length is the size; with a fill group, it is not below the rest and leaves no remainder. (An instance of it takes a
+-- register or more: `proofs/Sizes.antt`.)
+unfoldable pub fits : Content → List ℕ → Bool
+fits c body =
+    elim (fillSizeOf c body) [
+      | none ↦ eqb (length body) (restSize c body)
+      | some size ↦ leb (restSize c body) (length body) && eqb ((length body - restSize c body) % size) 0
+    ]
+
+-- The fill: (length − the rest) / size.
+unfoldable pub fillOf : Content → List ℕ → ℕ
+fillOf c body = elim (fillSizeOf c body) [ none ↦ 0 | some size ↦ (length body - restSize c body) / size ]
+
+-- The count of each group of a model.
+abbrev pub countsOf : Content → List ℕ → Head → ℕ
+countsOf c body = countOf (topScope (c .points) body) (fillOf c body)
+
+-- ---- Points
+
+-- The points of an instance, laid from an offset on, with the instance numbers on the way to it.
+unfoldable pub pointsAt : List ℕ → Scope → List ℕ → ℕ → List Point → List ModelPoint
+pointsAt body scope path offset [] = []
+pointsAt body scope path offset (p ∷ ps) =
+    pointAt body scope path offset p ∷ pointsAt body scope path (offset + p .size) ps
+
+-- n instances of a size, one behind the other, from number j and an offset on.
+unfoldable pub instances : ℕ → ℕ → ℕ → ℕ → (ℕ → ℕ → List ModelPoint) → List ModelPoint
+instances zero j offset size one = []
+instances (suc n) j offset size one = one j offset ++ instances n (suc j) (offset + size) size one
+
+-- The points of groups side by side at a level, laid from an offset on: each group's instances in full, an instance's own
+-- points first. Number j at level 2, 3 or 4 stands at place 0, 1 or 2 of the path.
+unfoldable pub groupsAt : List ℕ → (Head → ℕ) → ℕ → Scope → List ℕ → ℕ → Groups → List ModelPoint
+groupsAt body count level scope path offset noGroup = []
+groupsAt body count level scope path offset (group h ps inside behind) =
+    instances (count h) 0 offset (pointsSize ps + groupsSize count inside) (λ j at.
+    pointsAt body (within body at ps scope) (set path (level - 2) j) at ps
+    ++ groupsAt body count (suc level) (within body at ps scope) (set path (level - 2) j) (at + pointsSize ps) inside)
+    ++ groupsAt body count level scope path (offset + count h * (pointsSize ps + groupsSize count inside)) behind
+
+-- The path of the top group: no instance number.
+abbrev pub noInstance : List ℕ
+noInstance = 0 ∷ 0 ∷ 0 ∷ []
+
+-- The points of a model: those of its top group, then those of its groups.
+unfoldable pub contentAt : Content → List ℕ → List ModelPoint
+contentAt c body =
+    pointsAt body (topScope (c .points) body) noInstance 0 (c .points)
+    ++ groupsAt body (countsOf c body) 2 (topScope (c .points) body) noInstance (pointsSize (c .points)) (c .groups)

@@ -1,0 +1,7 @@
+pub mod Points
+pub mod Layout
+pub mod Reading
+pub mod Counts
+pub mod Paths
+pub mod Tiling
+pub mod Walks

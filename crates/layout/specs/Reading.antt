@@ -1,0 +1,79 @@
+-- What a definition says of one model's body, alone (document 01, "Listing", 27 to 29): a fault, or its points.
+use mathlib.Core.Bool.{Bool, true, false, _&&_}
+use mathlib.Core.List.{List, [], _∷_}
+use mathlib.Core.Option.{Option, none, some}
+use Prim.Native.Nat.{ℕ, _+_}
+use lib.Dec.{eqb, ltb}
+use lib.ListN.{length}
+use Rattle.catalog.specs.Frames.{Point, pad}
+use Rattle.catalog.specs.Definitions.{Groups, noGroup, group, Content, Definition, pointsSize}
+use Rattle.register_map.specs.Scan.{Model}
+use Rattle.layout.specs.Points.{ModelPoint}
+use Rattle.layout.specs.Layout.{topScope, countUnimplemented, fits, noInstance, pointsAt, contentAt}
+
+-- 27: the length is under the top points. 28: a count point is unimplemented. 29: the length is not the size.
+pub data Fault : Type 0 where
+  belowTopPoints countPointUnimplemented notTheSize : Fault
+
+-- The number of the refusal.
+abbrev pub faultNumber : Fault → ℕ
+faultNumber belowTopPoints = 27
+faultNumber countPointUnimplemented = 28
+faultNumber notTheSize = 29
+
+-- What a catalog says of a model: nothing where it lacks its id; else a fault or the points.
+pub data Reading : Type 0 where
+  unknown : Reading
+  faulty : Fault → Reading
+  points : List ModelPoint → Reading
+
+-- Is the last of these points a pad?
+unfoldable pub endsWithPad : List Point → Bool
+endsWithPad [] = false
+endsWithPad (p ∷ []) = eqb (p .typeCode) pad
+endsWithPad (p ∷ q ∷ ps) = endsWithPad (q ∷ ps)
+
+-- All but the last.
+unfoldable pub allButLast : List Point → List Point
+allButLast [] = []
+allButLast (p ∷ []) = []
+allButLast (p ∷ q ∷ ps) = p ∷ allButLast (q ∷ ps)
+
+-- Is there no group?
+abbrev pub hasNoGroup : Groups → Bool
+hasNoGroup noGroup = true
+hasNoGroup (group h ps inside behind) = false
+
+-- Is the last pad left out? Document 01 allows it in a model of id 1 that has no groups and is one register shorter than its
+-- points.
+abbrev pub padLeftOut : ℕ → Content → ℕ → Bool
+padLeftOut id c len =
+    eqb id 1 && (hasNoGroup (c .groups) && (endsWithPad (c .points) && eqb (len + 1) (pointsSize (c .points))))
+
+-- 27, 28 and 29 in order, else the points.
+unfoldable pub laidOut : Content → List ℕ → Reading
+laidOut c body =
+    elim (ltb (length body) (pointsSize (c .points))) [
+      | true ↦ faulty belowTopPoints
+      | false ↦ elim (countUnimplemented (topScope (c .points) body) (c .groups)) [
+        | true ↦ faulty countPointUnimplemented
+        | false ↦ elim (fits c body) [ false ↦ faulty notTheSize | true ↦ points (contentAt c body) ]
+      ]
+    ]
+
+-- A model of an id by the top group of its definition. A pad that is left out has no record, and 27 and 29 do not arise.
+unfoldable pub readBy : ℕ → Content → List ℕ → Reading
+readBy id c body =
+    elim (padLeftOut id c (length body)) [
+      | true ↦ points (pointsAt body (topScope (allButLast (c .points)) body) noInstance 0 (allButLast (c .points)))
+      | false ↦ laidOut c body
+    ]
+
+-- The top group of the first definition of an id, if there is one.
+unfoldable pub topOf : ℕ → List Definition → Option Content
+topOf id [] = none
+topOf id (d ∷ ds) = elim (eqb (d .id) id) [ true ↦ some (d .top) | false ↦ topOf id ds ]
+
+-- A model by the definitions of a catalog.
+unfoldable pub reading : List Definition → Model → Reading
+reading ds m = elim (topOf (m .id) ds) [ none ↦ unknown | some c ↦ readBy (m .id) c (m .body) ]

@@ -1,0 +1,126 @@
+-- A model's index, a point's number and a path name one record: no two records have the same, and by its own a record is found.
+use mathlib.Core.Path.{_≡_, refl, sym, ap, subst, _∙_}
+use mathlib.Core.Bool.{Bool, true, false, _&&_}
+use mathlib.Core.List.{List, [], _∷_}
+use mathlib.Core.Option.{Option, none, some}
+use Prim.Native.Nat.{ℕ, _+_}
+use borrow.Author.Tests.{eq-eqb, eqb-true}
+use lib.Dec.{eqb}
+use lib.ListN.{take, drop}
+use lib.Seq.{take-at, drop-at}
+use Rattle.lists.specs.Members.{In}
+use Rattle.lists.specs.Tests.{firstWith}
+use Rattle.lists.proofs.TestOutcomes.{both, clash}
+use Rattle.lists.proofs.EachLaws.{each-one}
+use Rattle.lists.proofs.FirstFound.{found-in, none-found}
+use Rattle.catalog.specs.Definitions.{definitions}
+use Rattle.register_map.specs.Scan.{Model, scan, totalSize}
+use Rattle.layout.specs.Points.{ModelPoint}
+use Rattle.layout.specs.Reading.{reading, points}
+use Rattle.layout.specs.Paths.{depthIn, agreeTo, pathOf}
+use Rattle.layout.proofs.Depths.{agree-itself}
+use Rattle.layout.proofs.Places.{Place}
+use Rattle.layout.proofs.PointPlaces.{point-places}
+use Rattle.listing.specs.Listing.{Record, allRecords, listed}
+use Rattle.listing.specs.Finding.{isAt, isPoint, isRecord}
+use Rattle.listing.proofs.RecordSources.{record-source, Source}
+
+-- A record is the one with its own index, number and path.
+own-place : (r : Record) → isRecord (r .index) (r .point .definition .number) (pathOf (r .point)) r ≡ true
+own-place r =
+    simp (
+      eq-eqb (r .index) (r .index) refl,
+      eq-eqb (r .point .definition .number) (r .point .definition .number) refl,
+      eq-eqb (r .point .level2) (r .point .level2) refl,
+      eq-eqb (r .point .level3) (r .point .level3) refl,
+      eq-eqb (r .point .level4) (r .point .level4) refl,
+    )
+
+-- Where a record is that of an index, a number and a path, it has them.
+has-place : (r w : Record) → isRecord (r .index) (r .point .definition .number) (pathOf (r .point)) w ≡ true
+    → (w .index ≡ r .index)
+    × (w .point .definition .number ≡ r .point .definition .number)
+    × (pathOf (w .point) ≡ pathOf (r .point))
+has-place r w e =
+    let p = r .point in
+    let q = w .point in
+    let a = both (eqb (w .index) (r .index)) (isPoint (p .definition .number) (pathOf p) q) e in
+    let b = both (eqb (q .definition .number) (p .definition .number)) (isAt (pathOf p) q) (a .1) in
+    let c = both (eqb (q .level2) (p .level2)) (eqb (q .level3) (p .level3) && eqb (q .level4) (p .level4)) (b .1) in
+    let d = both (eqb (q .level3) (p .level3)) (eqb (q .level4) (p .level4)) (c .1) in
+    let two = eqb-true (q .level2) (p .level2) (c .0) in
+    let three = eqb-true (q .level3) (p .level3) (d .0) in
+    let four = eqb-true (q .level4) (p .level4) (d .1) in
+    let path : pathOf q ≡ pathOf p = λ k. two k ∷ three k ∷ four k ∷ [] in
+    (eqb-true (w .index) (r .index) (a .0), eqb-true (q .definition .number) (p .definition .number) (b .0), path)
+
+module _ (catalog map : List ℕ) (rs : List Record) (headers : ℕ) (all : allRecords catalog map ≡ listed rs headers) where
+  module _ (r w : Record) (i : In r rs) (j : In w rs) (index : w .index ≡ r .index) where
+    abbrev ofR : Source catalog map r
+    ofR = record-source catalog map rs headers all r i
+
+    abbrev ofW : Source catalog map w
+    ofW = record-source catalog map rs headers all w j
+
+    -- Records of one index are of one model.
+    same-front : ofW .front ≡ ofR .front
+    same-front =
+        let ms = scan map .models in
+        sym (ap (take (w .index)) (ofW .stands) ∙ take-at (ofW .front) (ofW .own ∷ ofW .behind) (w .index) (sym (ofW .index)))
+        ∙ ap (λ n. take n ms) index
+        ∙ ap (take (r .index)) (ofR .stands)
+        ∙ take-at (ofR .front) (ofR .own ∷ ofR .behind) (r .index) (sym (ofR .index))
+
+    same-model : ofW .own ≡ ofR .own
+    same-model =
+        let ms = scan map .models in
+        let rests : ofW .own ∷ ofW .behind ≡ ofR .own ∷ ofR .behind =
+        sym (ap (drop (w .index)) (ofW .stands) ∙ drop-at (ofW .front) (ofW .own ∷ ofW .behind) (w .index) (sym (ofW .index)))
+        ∙ ap (λ n. drop n ms) index
+        ∙ ap (drop (r .index)) (ofR .stands)
+        ∙ drop-at (ofR .front) (ofR .own ∷ ofR .behind) (r .index) (sym (ofR .index)) in
+        cc
+
+    -- So the one's point is one of the other's model.
+    point-there : In (w .point) (ofR .all)
+    point-there =
+        let same : points (ofW .all) ≡ points (ofR .all) =
+        sym (ofW .reads) ∙ ap (reading (definitions catalog)) same-model ∙ ofR .reads in
+        let alls : ofW .all ≡ ofR .all = cc in
+        subst (In (w .point)) alls (ofW .holds)
+
+    -- With the same point they are one.
+    same-record : w .point ≡ r .point → w ≡ r
+    same-record e =
+        let id = ofW .id ∙ ap (λ (m : Model). m .id) same-model ∙ sym (ofR .id) in
+        let address = ofW .address
+        ∙ ap (λ f. 2 + totalSize f + 2 + w .point .offset) same-front
+        ∙ ap (λ (p : ModelPoint). 2 + totalSize (ofR .front) + 2 + p .offset) e
+        ∙ sym (ofR .address) in
+        λ k. record { index = index k; id = id k; address = address k; point = e k }
+
+    -- No two records have the same index, number and path.
+    pub one-record : w .point .definition .number ≡ r .point .definition .number → pathOf (w .point) ≡ pathOf (r .point) → w ≡ r
+    one-record number path =
+        let d = ofR .by .definition in
+        let places = point-places d (ofR .by .sound) (ofR .own .body) (ofR .all) (ofR .by .reads) (r .point) (ofR .holds) in
+        let place = each-one (Place (d .top) (r .point)) (ofR .all) places (w .point) point-there in
+        let depth = depthIn (r .point .definition .number) (d .top .groups) in
+        let agrees : agreeTo depth (pathOf (r .point)) (pathOf (w .point)) ≡ true =
+        subst (λ p. agreeTo depth (pathOf (r .point)) p ≡ true) (sym path) (agree-itself depth (pathOf (r .point))) in
+        same-record (place .same (place .found number agrees))
+
+  -- By its own index, number and path a record is found.
+  pub own-found : (r : Record) → In r rs
+      → firstWith (isRecord (r .index) (r .point .definition .number) (pathOf (r .point))) rs ≡ some r
+  own-found r i = go (firstWith test rs) refl
+    where
+      test : Record → Bool
+      test = isRecord (r .index) (r .point .definition .number) (pathOf (r .point))
+
+      go : (o : Option Record) → firstWith test rs ≡ o → firstWith test rs ≡ some r
+      go none e = clash (sym (own-place r) ∙ each-one (λ s. test s ≡ false) rs (none-found test rs e) r i)
+      go (some w) e =
+          let f = found-in test rs w e in
+          let h = has-place r w (f .1) in
+          e ∙ ap some (one-record r w i (f .0) (h .0) (h .1) (h .2))

@@ -1,0 +1,118 @@
+-- Models inserted into a map (document 01, "The map", on models put in).
+--
+-- For every catalog, accepted or not, every map made of whole models, every list of well-formed unknown models for each of its
+-- gaps, and every length of the output list: where the lengthened map is within 65,536 registers, its answer is the answer for
+-- the map, moved (`movedAnswer`). So it is accepted just where the map is, and else refused by the same number; the count and
+-- order of the records stay, and so do each record's id, point number, instances, status, value and scale. Its address rises
+-- by exactly the sum of 2 + length over the models inserted before it, and its model's index by their number; and these are
+-- the models whose addresses in the lengthened map are lower (`MovedByLower`). It is one claim over all inserted models.
+use mathlib.Core.Path.{_≡_, refl, ap, _∙_}
+use mathlib.Core.Bool.{_&&_}
+use mathlib.Core.List.{List, [], _∷_}
+use mathlib.Core.Option.{some}
+use Prim.Native.Nat.{ℕ, _+_, _≤_}
+use lib.Dec.{eqb, leb}
+use lib.ListN.{length, length-map}
+use Rattle.lists.specs.Each.{Each}
+use Rattle.lists.proofs.TestOutcomes.{by-test}
+use Rattle.lists.proofs.EachLaws.{each-implied}
+use Rattle.register_map.specs.Scan.{Model, totalSize, scan, WellFormed}
+use Rattle.register_map.specs.Insertion.{placed, lengthened, gapsBefore}
+use Rattle.register_map.proofs.PlacedModels.{placed-length}
+use Rattle.register_map.proofs.Lengthened.{lengthened-scan, lengthened-length, lengthened-none}
+use Rattle.listing.specs.Listing.{Record, recordNumbers, Answer, refused, listed, listing, pointCount, stored, told}
+use Rattle.stability.specs.Stability.{MadeOfWholeModels, UnknownModel, shifted, movedAnswer, MovedByLower, refusalNumber}
+use Rattle.stability.proofs.WholeMaps.{whole-ends, whole-models, lengthened-models}
+use Rattle.stability.proofs.ListingMoved.{listing-moved}
+
+pub insertion : (catalog map : List ℕ) (gaps : List (List Model)) (room : ℕ)
+    → MadeOfWholeModels map
+    → Each (Each (UnknownModel catalog)) gaps
+    → length (lengthened map gaps) ≤ 65536
+    → (listing catalog (lengthened map gaps) room ≡ movedAnswer (length (scan map .models)) gaps (listing catalog map room))
+    × MovedByLower (placed (scan map .models) gaps) gaps (listing catalog map room)
+insertion catalog map gaps room whole unknown short =
+    let each = each-implied (UnknownModel catalog) WellFormed (λ m u. u .wellFormed) in
+    let wellFormed = each-implied (Each (UnknownModel catalog)) (Each WellFormed) each gaps unknown in
+    listing-moved catalog room map (lengthened map gaps) (scan map .models) gaps (whole-models map whole)
+    (lengthened-models map whole gaps wellFormed short) unknown
+
+-- So it is of what `list` answers, and of the output list behind it.
+pub insertion-told : (catalog map : List ℕ) (gaps : List (List Model)) (out : List ℕ)
+    → MadeOfWholeModels map
+    → Each (Each (UnknownModel catalog)) gaps
+    → length (lengthened map gaps) ≤ 65536
+    → (told (listing catalog (lengthened map gaps) (length out))
+    ≡ told (movedAnswer (length (scan map .models)) gaps (listing catalog map (length out))))
+    × (stored (listing catalog (lengthened map gaps) (length out)) out
+    ≡ stored (movedAnswer (length (scan map .models)) gaps (listing catalog map (length out))) out)
+insertion-told catalog map gaps out whole unknown short =
+    let moved = insertion catalog map gaps (length out) whole unknown short .0 in
+    (ap told moved, ap (λ a. stored a out) moved)
+
+-- ---- What it says, in part
+
+-- Of a record's ten numbers only the model's index and the address change.
+pub shifted-numbers : (ms : List Model) (r : Record) → recordNumbers (shifted ms r)
+    ≡ (r .index + length ms)
+    ∷ r .id
+    ∷ r .point .definition .number
+    ∷ r .point .level2
+    ∷ r .point .level3
+    ∷ r .point .level4
+    ∷ (r .address + totalSize ms)
+    ∷ r .point .status
+    ∷ r .point .raw
+    ∷ r .point .scale
+    ∷ []
+unfolding recordNumbers
+shifted-numbers ms r = refl
+
+-- The number of a refusal stays, and so does acceptance.
+moved-number : (n : ℕ) (gaps : List (List Model)) (a : Answer) → refusalNumber (movedAnswer n gaps a) ≡ refusalNumber a
+unfolding movedAnswer
+moved-number n gaps (listed rs headers) = refl
+moved-number n gaps (refused number place headers) =
+    let P : Answer → Type 0 = λ a. refusalNumber a ≡ some number in
+    by-test P (eqb number 30) (λ t. refl) (λ t. by-test P (leb 27 number && leb number 29) (λ u. refl) (λ u. refl))
+
+-- The count of points stays.
+moved-count : (n : ℕ) (gaps : List (List Model)) (a : Answer) → pointCount (movedAnswer n gaps a) ≡ pointCount a
+unfolding movedAnswer
+moved-count n gaps (listed rs headers) = length-map rs (λ r. shifted (gapsBefore (r .index) gaps) r)
+moved-count n gaps (refused number place headers) =
+    let P : Answer → Type 0 = λ a. pointCount a ≡ 0 in
+    by-test P (eqb number 30) (λ t. refl) (λ t. by-test P (leb 27 number && leb number 29) (λ u. refl) (λ u. refl))
+
+module _ (catalog map : List ℕ) (gaps : List (List Model)) (room : ℕ) (whole : MadeOfWholeModels map)
+    (unknown : Each (Each (UnknownModel catalog)) gaps) (short : length (lengthened map gaps) ≤ 65536) where
+  -- The lengthened map is accepted just where the map is, and otherwise both are refused by the same number.
+  pub same-number : refusalNumber (listing catalog (lengthened map gaps) room) ≡ refusalNumber (listing catalog map room)
+  same-number =
+      ap refusalNumber (insertion catalog map gaps room whole unknown short .0)
+      ∙ moved-number (length (scan map .models)) gaps (listing catalog map room)
+
+  pub same-count : pointCount (listing catalog (lengthened map gaps) room) ≡ pointCount (listing catalog map room)
+  same-count =
+      ap pointCount (insertion catalog map gaps room whole unknown short .0)
+      ∙ moved-count (length (scan map .models)) gaps (listing catalog map room)
+
+-- ---- The lengthened map
+
+module _ (map : List ℕ) (whole : MadeOfWholeModels map) where
+  -- It is longer by the sum of 2 + length over the inserted models.
+  pub lengthened-by : (gaps : List (List Model))
+      → length (lengthened map gaps) ≡ length map + totalSize (gapsBefore (length (scan map .models)) gaps)
+  lengthened-by gaps = lengthened-length map (whole-ends map whole) gaps
+
+  -- It has as many models more as are inserted.
+  pub models-more : (gaps : List (List Model)) → Each (Each WellFormed) gaps
+      → length (scan (lengthened map gaps) .models)
+      ≡ length (scan map .models) + length (gapsBefore (length (scan map .models)) gaps)
+  models-more gaps f =
+      ap {B = ℕ} (λ s. length (s .models)) (lengthened-scan map (whole-ends map whole) gaps f)
+      ∙ placed-length (scan map .models) gaps
+
+  -- With none inserted it is the map as it was.
+  pub none-inserted : lengthened map [] ≡ map
+  none-inserted = lengthened-none map (whole-ends map whole)

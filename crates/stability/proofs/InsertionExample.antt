@@ -1,0 +1,109 @@
+-- Insertion on an example.
+use mathlib.Core.Path.{_≡_, refl, sym, ap, _∙_}
+use mathlib.Core.List.{List, [], _∷_}
+use Prim.Native.Nat.{ℕ, _≤_}
+use native.Mathlib.Omega.{arith}
+use lib.ListN.{length}
+use Rattle.lists.specs.Each.{Each}
+use Rattle.registers.specs.Registers.{join, shownRaw, tooWide}
+use Rattle.point_types.specs.Rows.{rows, rowAmong, registersOf}
+use Rattle.values.specs.Classes.{inRange, classOf, classified}
+use Rattle.catalog.specs.Frames.{frameOf, framesFrom}
+use Rattle.catalog.specs.Rules.{isSizeOf}
+use Rattle.catalog.specs.Checking.{checkFrom, checked}
+use Rattle.catalog.specs.Definitions.{parsed}
+use Rattle.register_map.specs.Headers.{opening}
+use Rattle.register_map.specs.Scan as Scan
+use Rattle.register_map.specs.Scan.{Model, WellFormed, scanFrom, scan}
+use Rattle.register_map.specs.Insertion.{placed, lengthened, gapsBefore}
+use Rattle.layout.specs.Points.{ModelPoint, pointAt}
+use Rattle.layout.specs.Layout.{within, groupsSize, fillSize, countUnimplemented, fits, fillOf, pointsAt, groupsAt, contentAt}
+use Rattle.layout.specs.Reading.{endsWithPad, laidOut, readBy, topOf, reading}
+use Rattle.listing.specs.Listing.{Record, listed, walk, recordsBy, allRecords, withRoom, listing}
+use Rattle.stability.specs.Stability.{MadeOfWholeModels, UnknownModel, movedAnswer, MovedByLower}
+use Rattle.stability.proofs.Insertion.{insertion}
+
+abbrev catalog : List ℕ
+catalog =
+    1 ∷ 1 ∷ 0 ∷ 0 ∷ 0 ∷ 0 ∷ 0 ∷ 0
+    ∷ 3 ∷ 1 ∷ 2 ∷ 1 ∷ 0 ∷ 0 ∷ 0 ∷ 0
+    ∷ 4 ∷ 0 ∷ 0 ∷ 0 ∷ 0 ∷ 0 ∷ 0 ∷ 0
+    ∷ 1 ∷ 7 ∷ 0 ∷ 0 ∷ 0 ∷ 0 ∷ 0 ∷ 0
+    ∷ 3 ∷ 1 ∷ 2 ∷ 1 ∷ 0 ∷ 0 ∷ 0 ∷ 0
+    ∷ 4 ∷ 0 ∷ 0 ∷ 0 ∷ 0 ∷ 0 ∷ 0 ∷ 0
+    ∷ []
+
+-- Models 1 and 7, the marker and a register behind it.
+abbrev plant : List ℕ
+plant = 0x5375 ∷ 0x6E53 ∷ 1 ∷ 1 ∷ 40 ∷ 7 ∷ 1 ∷ 50 ∷ 0xFFFF ∷ 0 ∷ 77 ∷ []
+
+abbrev gaps : List (List Model)
+gaps =
+    (record { id = 9; body = 0 ∷ 0 ∷ [] } ∷ record { id = 10; body = 5 ∷ [] } ∷ [])
+    ∷ (record { id = 9; body = 1 ∷ 2 ∷ 3 ∷ [] } ∷ [])
+    ∷ []
+
+abbrev longer : List ℕ
+longer = 0x5375 ∷ 0x6E53 ∷ 1 ∷ 1 ∷ 40 ∷ 9 ∷ 2 ∷ 0 ∷ 0 ∷ 10 ∷ 1 ∷ 5 ∷ 7 ∷ 1 ∷ 50 ∷ 9 ∷ 3 ∷ 1 ∷ 2 ∷ 3 ∷ 0xFFFF ∷ 0 ∷ 77 ∷ []
+
+pub is-longer : lengthened plant gaps ≡ longer
+unfolding scanFrom scan placed lengthened Scan.modelRegisters
+is-longer = refl
+
+abbrev point : ℕ → ModelPoint
+point raw =
+    record {
+      offset = 0;
+      definition = record { number = 1; typeCode = 2; size = 1; scaleKind = 0; scale = 0; mandatory = 0; access = 0 };
+      level2 = 0;
+      level3 = 0;
+      level4 = 0;
+      status = 0;
+      raw = raw;
+      scale = 0;
+    }
+
+abbrev model1 : Record
+model1 = record { index = 0; id = 1; address = 4; point = point 40 }
+
+pub old : listing catalog plant 20
+    ≡ listed (model1 ∷ record { index = 1; id = 7; address = 7; point = point 50 } ∷ []) 3
+unfolding rows rowAmong registersOf join shownRaw tooWide inRange classOf classified
+    frameOf framesFrom isSizeOf checkFrom checked parsed opening scanFrom scan
+    pointAt within groupsSize fillSize countUnimplemented fits fillOf pointsAt groupsAt contentAt
+    endsWithPad laidOut readBy topOf reading walk recordsBy allRecords withRoom listing
+old = refl
+
+whole : MadeOfWholeModels plant
+unfolding MadeOfWholeModels frameOf framesFrom checkFrom checked parsed opening scanFrom scan topOf reading walk recordsBy allRecords withRoom listing
+whole = (3, refl)
+
+well : (id : ℕ) (x : ℕ) (xs : List ℕ) → (id ≡ 0 → ⊥) → (id ≡ 65535 → ⊥) → WellFormed (record { id = id; body = x ∷ xs })
+well id x xs a b = record { notZero = a; notMarker = b; notEmpty = omega arith }
+
+unknown : Each (Each (UnknownModel catalog)) gaps
+unfolding frameOf framesFrom
+unknown =
+    let one : UnknownModel catalog (record { id = 9; body = 0 ∷ 0 ∷ [] }) = record { wellFormed = well 9 0 (0 ∷ []) (λ q. omega arith) (λ q. omega arith); notKnown = refl } in
+    let two : UnknownModel catalog (record { id = 10; body = 5 ∷ [] }) = record { wellFormed = well 10 5 [] (λ q. omega arith) (λ q. omega arith); notKnown = refl } in
+    let three : UnknownModel catalog (record { id = 9; body = 1 ∷ 2 ∷ 3 ∷ [] }) = record { wellFormed = well 9 1 (2 ∷ 3 ∷ []) (λ q. omega arith) (λ q. omega arith); notKnown = refl } in
+    ((one, (two, tt)), ((three, tt), tt))
+
+short : length (lengthened plant gaps) ≤ 65536
+short = rw is-longer (omega arith)
+
+expected : movedAnswer (length (scan plant .models)) gaps
+    (listed (model1 ∷ record { index = 1; id = 7; address = 7; point = point 50 } ∷ []) 3)
+    ≡ listed (model1 ∷ record { index = 3; id = 7; address = 14; point = point 50 } ∷ []) 6
+unfolding scanFrom scan movedAnswer gapsBefore
+expected = refl
+
+pub new : listing catalog longer 20 ≡ listed (model1 ∷ record { index = 3; id = 7; address = 14; point = point 50 } ∷ []) 6
+new =
+    ap (λ m. listing catalog m 20) (sym is-longer)
+    ∙ (insertion catalog plant gaps 20 whole unknown short .0
+    ∙ (ap (λ a. movedAnswer (length (scan plant .models)) gaps a) old ∙ expected))
+
+-- Unmoved is no answer.
+pub lower : MovedByLower (placed (scan plant .models) gaps) gaps (listing catalog plant 20)
+lower = insertion catalog plant gaps 20 whole unknown short .1

@@ -1,0 +1,61 @@
+-- What models inserted into a map change of its listing (document 01, "The map", on models put in).
+use mathlib.Core.Path.{_≡_}
+use mathlib.Core.Bool.{true, false, _&&_}
+use mathlib.Core.List.{List, [], map}
+use mathlib.Core.Option.{Option, none, some}
+use Prim.Native.Nat.{ℕ, _+_}
+use lib.Dec.{eqb, leb}
+use lib.ListN.{length}
+use Rattle.lists.specs.Each.{Each}
+use Rattle.lists.specs.Members.{among}
+use Rattle.catalog.specs.Frames.{frames}
+use Rattle.catalog.specs.Definitions.{modelIds}
+use Rattle.register_map.specs.Scan.{Model, totalSize, WellFormed}
+use Rattle.register_map.specs.Insertion.{Placed, before, gapsBefore}
+use Rattle.listing.specs.Listing.{Record, Answer, refused, listed, listing}
+
+-- Whole models make up the map: listing it by an empty catalog meets none of 20 to 26.
+unfoldable pub MadeOfWholeModels : List ℕ → Type 0
+MadeOfWholeModels map = (headers : ℕ) × (listing [] map 0 ≡ listed [] headers)
+
+-- A well-formed unknown model: no model frame of the catalog has its id.
+pub record UnknownModel (catalog : List ℕ) (m : Model) : Type 0 where
+  pub wellFormed : WellFormed m
+  pub notKnown : among (m .id) (modelIds (frames catalog)) ≡ false
+
+-- A record behind inserted models: its model's index rises by their number, its address by the sum of 2 + length over them. Its
+-- id and its point (number, instances, status, raw value and scale) stay.
+abbrev pub shifted : List Model → Record → Record
+shifted ms r =
+    record { index = r .index + length ms; id = r .id; address = r .address + totalSize ms; point = r .point }
+
+-- The answer for the lengthened map, by the answer for the map, which has n models. Acceptance: each record is shifted by the
+-- models inserted before it, and the headers rise by the number inserted. 30: so do its headers, and its place stays. 27 to 29:
+-- the headers rise by the number inserted before that header, the place by the registers of these. Else both stay.
+unfoldable pub movedAnswer : ℕ → List (List Model) → Answer → Answer
+movedAnswer n gaps (listed rs headers) =
+    listed (map (λ r. shifted (gapsBefore (r .index) gaps) r) rs) (headers + length (gapsBefore n gaps))
+movedAnswer n gaps (refused number place headers) =
+    elim (eqb number 30) [
+      | true ↦ refused number place (headers + length (gapsBefore n gaps))
+      | false ↦ elim (leb 27 number && leb number 29) [
+        | true ↦ refused number (place + totalSize (gapsBefore headers gaps)) (headers + length (gapsBefore headers gaps))
+        | false ↦ refused number place headers
+      ]
+    ]
+
+-- What lay at an address, in the model with an index, has before it in the lengthened map (document 01: with lower addresses)
+-- just the models of the gaps in front of that model.
+abbrev pub AreLower : List Placed → List (List Model) → ℕ → ℕ → Type 0
+AreLower ps gaps index address = before 2 ps (address + totalSize (gapsBefore index gaps)) ≡ gapsBefore index gaps
+
+-- So it is of each record of an answer, and of the header refused by 27 to 29.
+unfoldable pub MovedByLower : List Placed → List (List Model) → Answer → Type 0
+MovedByLower ps gaps (listed rs headers) = Each (λ r. AreLower ps gaps (r .index) (r .address)) rs
+MovedByLower ps gaps (refused number place headers) =
+    leb 27 number && leb number 29 ≡ true → AreLower ps gaps headers place
+
+-- The number of a refusal; none on acceptance.
+abbrev pub refusalNumber : Answer → Option ℕ
+refusalNumber (refused number place headers) = some number
+refusalNumber (listed rs headers) = none
