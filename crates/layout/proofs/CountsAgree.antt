@@ -1,4 +1,4 @@
--- Scopes that agree on the points of the top group give sound groups the same sizes and points: a count point is one of those.
+-- Scopes that agree on the points of the top group give sound groups the same measures: a count point is one of those.
 use mathlib.Core.Path.{_≡_, refl, sym, ap, _∙_}
 use mathlib.Core.Bool.{Bool, true, false, _&&_}
 use mathlib.Core.List.{List, _++_}
@@ -6,15 +6,13 @@ use mathlib.Core.Option.{Option, some}
 use Prim.Native.Nat.{ℕ, suc, _+_}
 use borrow.Author.Tests.{eqb-true}
 use lib.Dec.{eqb}
-use lib.ListN.{length}
 use Rattle.lists.specs.Members.{In}
 use Rattle.catalog.specs.Frames.{Point, Head, constantCount, countByPoint, fill}
-use Rattle.catalog.specs.Definitions.{Groups, noGroup, group, pointsSize}
+use Rattle.catalog.specs.Definitions.{Groups, noGroup, group}
 use Rattle.catalog.specs.Soundness.{SoundHead, SoundGroups}
 use Rattle.catalog.proofs.References.{count-point-found}
 use Rattle.layout.specs.Points.{Scope}
-use Rattle.layout.specs.Layout.{countOf, groupsSize, fillSize, countUnimplemented}
-use Rattle.layout.specs.Counts.{groupsPoints, fillPoints}
+use Rattle.layout.specs.Layout.{countOf, measured, fillMeasured, countUnimplemented}
 
 module _ (s s′ : Scope) (top : List Point) (agree : (p : Point) → In p top → s (p .number) ≡ s′ (p .number)) where
   -- They agree on a count point.
@@ -35,50 +33,28 @@ module _ (s s′ : Scope) (top : List Point) (agree : (p : Point) → In p top �
       go false true q = count-point-agrees level h behind e (eqb-true (h .countKind) countByPoint q)
       go false false q = refl
 
-  -- The registers of sound groups.
-  pub sizes-agree : (f : ℕ) (enclosing : List Point) (level : ℕ) (g : Groups) → SoundGroups top enclosing level g
-      → groupsSize (countOf s f) g ≡ groupsSize (countOf s′ f) g
-  unfolding groupsSize
-  sizes-agree f enclosing level noGroup e = refl
-  sizes-agree f enclosing level (group h ps inside behind) e =
-      let c = count-agrees f level h behind (e .0) in
-      let i = sizes-agree f (ps ++ enclosing) (suc level) inside (e .3) in
-      let b = sizes-agree f enclosing level behind (e .4) in
+  -- What sound groups measure.
+  pub measures-agree : (weight : List Point → ℕ) (f : ℕ) (enclosing : List Point) (level : ℕ) (g : Groups)
+      → SoundGroups top enclosing level g → measured weight (countOf s f) g ≡ measured weight (countOf s′ f) g
+  unfolding measured
+  measures-agree weight f enclosing level noGroup e = refl
+  measures-agree weight f enclosing level (group h ps inside next) e =
+      let c = count-agrees f level h next (e .0) in
+      let i = measures-agree weight f (ps ++ enclosing) (suc level) inside (e .3) in
+      let b = measures-agree weight f enclosing level next (e .4) in
       rw (c, i, b)
 
-  -- The points of sound groups.
-  pub points-agree : (f : ℕ) (enclosing : List Point) (level : ℕ) (g : Groups) → SoundGroups top enclosing level g
-      → groupsPoints (countOf s f) g ≡ groupsPoints (countOf s′ f) g
-  unfolding groupsPoints
-  points-agree f enclosing level noGroup e = refl
-  points-agree f enclosing level (group h ps inside behind) e =
-      let c = count-agrees f level h behind (e .0) in
-      let i = points-agree f (ps ++ enclosing) (suc level) inside (e .3) in
-      let b = points-agree f enclosing level behind (e .4) in
-      rw (c, i, b)
-
-  -- The registers of an instance of the fill group.
-  pub fill-sizes-agree : (f : ℕ) (enclosing : List Point) (level : ℕ) (g : Groups) → SoundGroups top enclosing level g
-      → fillSize (countOf s f) g ≡ fillSize (countOf s′ f) g
-  unfolding fillSize
-  fill-sizes-agree f enclosing level noGroup e = refl
-  fill-sizes-agree f enclosing level (group h ps inside behind) e =
-      let i = sizes-agree f (ps ++ enclosing) (suc level) inside (e .3) in
-      let b = fill-sizes-agree f enclosing level behind (e .4) in
+  -- What an instance of the fill group measures.
+  pub fills-agree : (weight : List Point → ℕ) (f : ℕ) (enclosing : List Point) (level : ℕ) (g : Groups)
+      → SoundGroups top enclosing level g → fillMeasured weight (countOf s f) g ≡ fillMeasured weight (countOf s′ f) g
+  unfolding fillMeasured
+  fills-agree weight f enclosing level noGroup e = refl
+  fills-agree weight f enclosing level (group h ps inside next) e =
+      let i = measures-agree weight f (ps ++ enclosing) (suc level) inside (e .3) in
+      let b = fills-agree weight f enclosing level next (e .4) in
       let step : Option ℕ → ℕ → Option ℕ =
-      λ o n. elim (eqb (h .countKind) fill) [ true ↦ some (pointsSize ps + n) | false ↦ o ] in
-      ap (λ o. step o (groupsSize (countOf s f) inside)) b ∙ ap (step (fillSize (countOf s′ f) behind)) i
-
-  -- The points of an instance of the fill group.
-  pub fill-points-agree : (f : ℕ) (enclosing : List Point) (level : ℕ) (g : Groups) → SoundGroups top enclosing level g
-      → fillPoints (countOf s f) g ≡ fillPoints (countOf s′ f) g
-  unfolding fillPoints
-  fill-points-agree f enclosing level noGroup e = refl
-  fill-points-agree f enclosing level (group h ps inside behind) e =
-      let i = points-agree f (ps ++ enclosing) (suc level) inside (e .3) in
-      let b = fill-points-agree f enclosing level behind (e .4) in
-      let step : ℕ → ℕ → ℕ = λ o n. elim (eqb (h .countKind) fill) [ true ↦ length ps + n | false ↦ o ] in
-      ap (λ o. step o (groupsPoints (countOf s f) inside)) b ∙ ap (step (fillPoints (countOf s′ f) behind)) i
+      λ o n. elim (eqb (h .countKind) fill) [ true ↦ some (weight ps + n) | false ↦ o ] in
+      ap (λ o. step o (measured weight (countOf s f) inside)) b ∙ ap (step (fillMeasured weight (countOf s′ f) next)) i
 
   -- Whether a count point is unimplemented.
   pub unimplemented-agrees : (enclosing : List Point) (level : ℕ) (g : Groups) → SoundGroups top enclosing level g

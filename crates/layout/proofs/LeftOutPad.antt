@@ -16,7 +16,7 @@ use Rattle.catalog.specs.Rules.{isSizeOf}
 use Rattle.catalog.specs.Definitions.{Groups, noGroup, group, Content, pointsSize}
 use Rattle.catalog.specs.Soundness.{SoundPoint}
 use Rattle.catalog.proofs.GroupSizes.{point-size}
-use Rattle.layout.specs.Layout.{fillOf, fillSize}
+use Rattle.layout.specs.Layout.{fillMeasured, fillOf}
 use Rattle.layout.specs.Reading.{endsWithPad, allButLast, hasNoGroup, padLeftOut}
 use Rattle.layout.specs.Walks.{heldAt, Stands, headOf, begun}
 use Rattle.layout.proofs.Standing as standing
@@ -95,7 +95,7 @@ begun-but-pad reach id c len s e =
 
 -- A model without groups has no fill.
 pub no-fill : (c : Content) (body : List ℕ) → hasNoGroup (c .groups) ≡ true → fillOf c body ≡ 0
-unfolding fillOf fillSize
+unfolding fillOf fillMeasured
 no-fill c body e = go (c .groups) e
   where
     go : (g : Groups) → hasNoGroup g ≡ true → fillOf (record { points = c .points; groups = g }) body ≡ 0

@@ -2,7 +2,7 @@
 pub mod Sizes
 pub mod Capping
 pub mod PointCounts
-pub mod InstancePairs
+pub mod InstanceLaws
 pub mod CountsAgree
 pub mod ReachOnly
 pub mod ReadOnlyCounts

@@ -2,84 +2,51 @@
 use mathlib.Core.Path.{_≡_}
 use mathlib.Core.Bool.{true}
 use mathlib.Core.List.{List, [], _∷_, _++_}
-use Prim.Native.Nat.{ℕ, zero, suc, _+_, _*_, _-_}
-use lib.ListN.{set}
+use Prim.Native.Nat.{ℕ, suc, _+_, _-_}
 use Rattle.lists.specs.Each.{Each}
 use Rattle.lists.proofs.EachLaws.{each-implied, each-append, each-parts}
 use Rattle.catalog.specs.Frames.{Point, Head}
 use Rattle.catalog.specs.Rules.{isSizeOf}
 use Rattle.catalog.specs.Definitions.{Groups, noGroup, group, Definition, pointsSize}
 use Rattle.catalog.specs.Soundness.{SoundPoint, SoundGroups, SoundDefinition}
-use Rattle.layout.specs.Points.{ModelPoint, Scope, pointAt}
-use Rattle.layout.specs.Layout.{within, topScope, groupsSize, countsOf, noInstance, pointsAt, instances, groupsAt, contentAt}
+use Rattle.layout.specs.Points.{ModelPoint, Instance, pointAt}
+use Rattle.layout.specs.Layout.{countsOf, topInstance, pointsAt, Entering, groupsBy, groupsAt, entered, contentAt}
 use Rattle.layout.specs.Reading.{points, allButLast, readBy}
 use Rattle.layout.specs.Tiling.{lowerPoints, definedPoints}
+use Rattle.layout.proofs.InstanceLaws.{of-groups}
 use Rattle.layout.proofs.LeftOutPad.{each-but-last}
 use Rattle.layout.proofs.Readings.{by-reading}
 
 -- ---- The points of the definition
 
--- What holds of each point of every instance holds of each point of the instances.
-module _ (P : ModelPoint → Type 0) (one : ℕ → ℕ → List ModelPoint) (each : (j at : ℕ) → Each P (one j at)) where
-  pub each-instance : (n j offset size : ℕ) → Each P (instances n j offset size one)
-  unfolding instances
-  each-instance zero j offset size = tt
-  each-instance (suc n) j offset size =
-      each-append P (one j offset) (instances n (suc j) (offset + size) size one) (each j offset)
-      (each-instance n (suc j) (offset + size) size)
-
 module _ (P : Point → Type 0) (body : List ℕ) where
   -- What holds of each point of an instance holds of what the points listed are by,
-  points-by : (scope : Scope) (path : List ℕ) (a : ℕ) (ps : List Point) → Each P ps
-      → Each (λ q. P (q .definition)) (pointsAt body scope path a ps)
+  points-by : (i : Instance) (a : ℕ) (ps : List Point) → Each P ps → Each (λ q. P (q .definition)) (pointsAt body i a ps)
   unfolding pointsAt pointAt
-  points-by scope path a [] e = tt
-  points-by scope path a (p ∷ ps) e = (e .0, points-by scope path (a + p .size) ps (e .1))
+  points-by i a [] e = tt
+  points-by i a (p ∷ ps) e = (e .0, points-by i (a + p .size) ps (e .1))
 
   -- and so with groups.
-  groups-by : (count : Head → ℕ) (level : ℕ) (scope : Scope) (path : List ℕ) (offset : ℕ) (g : Groups) → Each P (lowerPoints g)
-      → Each (λ q. P (q .definition)) (groupsAt body count level scope path offset g)
-  unfolding groupsAt
-  groups-by count level scope path offset noGroup e = tt
-  groups-by count level scope path offset (group h ps inside behind) e =
-      let Q : ModelPoint → Type 0 = λ q. P (q .definition) in
-      let own = each-parts P ps (lowerPoints inside ++ lowerPoints behind) e in
-      let lower = each-parts P (lowerPoints inside) (lowerPoints behind) (own .1) in
-      let size = pointsSize ps + groupsSize count inside in
-      let mid = offset + count h * size in
-      let one : (ℕ → ℕ → List ModelPoint) = λ j at.
-      pointsAt body (within body at ps scope) (set path (level - 2) j) at ps
-      ++ groupsAt body count (suc level) (within body at ps scope) (set path (level - 2) j) (at + pointsSize ps) inside in
-      each-append Q (instances (count h) 0 offset size one) (groupsAt body count level scope path mid behind)
-      (each-instance Q one (λ j at.
-      let path′ = set path (level - 2) j in
-      each-append Q (pointsAt body (within body at ps scope) path′ at ps)
-      (groupsAt body count (suc level) (within body at ps scope) path′ (at + pointsSize ps) inside)
-      (points-by (within body at ps scope) path′ at ps (own .0))
-      (groups-by count (suc level) (within body at ps scope) path′ (at + pointsSize ps) inside (lower .0)))
-      (count h) 0 offset size)
-      (groups-by count level scope path mid behind (lower .1))
+  groups-by : (enter : Entering) (count : Head → ℕ) (level : ℕ) (i : Instance) (offset : ℕ) (g : Groups) → Each P (lowerPoints g)
+      → Each (λ q. P (q .definition)) (groupsBy enter body count level i offset g)
+  groups-by enter count =
+      of-groups (λ a b xs. Each (λ q. P (q .definition)) xs) (λ a. tt) (λ a b c xs ys. each-append (λ q. P (q .definition)) xs ys)
+      enter body count P points-by
 
   -- So what holds of each point of a definition holds of what each point listed is by.
   pub listed-by : (d : Definition) → Each P (definedPoints d) → (id : ℕ) (ps : List ModelPoint)
       → readBy id (d .top) body ≡ points ps → Each (λ q. P (q .definition)) ps
   unfolding contentAt
   listed-by d e id =
-      by-reading id (d .top) body (λ ps. Each (λ q. P (q .definition)) ps)
-      (λ t. points-by (topScope L body) noInstance 0 L (each-but-last P (d .top .points) (parts .0))) (λ t f.
-      each-append (λ q. P (q .definition)) (pointsAt body S noInstance 0 (d .top .points))
-      (groupsAt body (countsOf (d .top) body) 2 S noInstance (pointsSize (d .top .points)) (d .top .groups))
-      (points-by S noInstance 0 (d .top .points) (parts .0))
-      (groups-by (countsOf (d .top) body) 2 S noInstance (pointsSize (d .top .points)) (d .top .groups) (parts .1)))
-    where
-      parts : Each P (d .top .points) × Each P (lowerPoints (d .top .groups))
-      parts = each-parts P (d .top .points) (lowerPoints (d .top .groups)) e
-
-      L : List Point
-      L = allButLast (d .top .points)
-
-      S : Scope
-      S = topScope (d .top .points) body
+      let c = d .top in
+      let parts = each-parts P (c .points) (lowerPoints (c .groups)) e in
+      let L = allButLast (c .points) in
+      let top = topInstance (c .points) body in
+      by-reading id c body (λ ps. Each (λ q. P (q .definition)) ps)
+      (λ t. points-by (topInstance L body) 0 L (each-but-last P (c .points) (parts .0))) (λ t f.
+      each-append (λ q. P (q .definition)) (pointsAt body top 0 (c .points))
+      (groupsAt body (countsOf c body) 2 top (pointsSize (c .points)) (c .groups)) (points-by top 0 (c .points) (parts .0))
+      (groups-by (entered body) (countsOf c body) 2 top (pointsSize (c .points)) (c .groups) (parts .1)))
 
 -- ---- Sound points
 

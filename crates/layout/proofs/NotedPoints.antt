@@ -18,7 +18,7 @@ use Rattle.catalog.specs.Definitions.{pointsSize, pointFrames, groupFrames}
 use Rattle.catalog.proofs.GroupSizes.{type-size}
 use Rattle.layout.specs.Points.{Scope}
 use Rattle.layout.specs.Layout.{withPoint, within, pointsAt}
-use Rattle.layout.specs.Walks.{heldAt, Stands, scopeIn, noted, begun, IsTable}
+use Rattle.layout.specs.Walks.{heldAt, Stands, scopeIn, instanceIn, noted, begun, IsTable}
 
 -- ---- Noting
 
@@ -129,15 +129,15 @@ pub note-past : (body : List ℕ) (offset : ℕ) (ps : List Point) (table : List
 unfolding noted
 note-past body offset ps table h = rw (begun-past (length body) offset ps h)
 
--- The points of an instance that lies in the body, by a table in which they were noted.
+-- The points of an instance that is in the body, by a table in which they were recorded.
 pub own-points : (body : List ℕ) (offset : ℕ) (ps : List Point) (table path new : List ℕ) → IsTable table
     → Each (λ p. p .number < 65536) ps → begun (length body) offset ps ≡ ps
     → new ≡ noted body offset (begun (length body) offset ps) table
-    → pointsAt body (scopeIn new) path offset (begun (length body) offset ps)
-    ≡ pointsAt body (within body offset ps (scopeIn table)) path offset ps
+    → pointsAt body (instanceIn new path) offset (begun (length body) offset ps)
+    ≡ pointsAt body (record { scope = within body offset ps (scopeIn table); path = path }) offset ps
 own-points body offset ps table path new t numbers all e =
     let whole : new ≡ noted body offset ps table = e ∙ ap (λ (qs : List Point). noted body offset qs table) all in
     let scope : scopeIn new ≡ within body offset ps (scopeIn table) =
     ap (λ (l : List ℕ). scopeIn l) whole ∙ noted-scope body offset ps table t numbers in
-    ap (λ (qs : List Point). pointsAt body (scopeIn new) path offset qs) all
-    ∙ ap (λ (s : Scope). pointsAt body s path offset ps) scope
+    ap (pointsAt body (instanceIn new path) offset) all
+    ∙ ap (λ (s : Scope). pointsAt body (record { scope = s; path = path }) offset ps) scope

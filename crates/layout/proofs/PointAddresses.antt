@@ -2,8 +2,7 @@
 use mathlib.Core.Path.{_≡_, refl, sym, ap, subst, _∙_}
 use mathlib.Core.Bool.{Bool, true, false}
 use mathlib.Core.List.{List, [], _∷_, _++_, append-nil}
-use Prim.Native.Nat.{ℕ, zero, suc, _+_, _*_, _-_, _≤_, _<_}
-use native.Mathlib.Nat.{suc-mul}
+use Prim.Native.Nat.{ℕ, suc, _+_, _*_, _-_, _≤_, _<_}
 use native.Mathlib.Omega.{arith}
 use borrow.Author.Tests.{eq-eqb, ne-eqb}
 use lib.Dec.{eqb}
@@ -19,10 +18,11 @@ use Rattle.catalog.specs.Frames.{Point, Head}
 use Rattle.catalog.specs.Definitions.{Groups, noGroup, group, pointsSize, pointFrames, groupFrames}
 use Rattle.catalog.specs.Soundness.{SoundGroups, numbersOf}
 use Rattle.catalog.proofs.GroupNumbers.{point-among, Apart, apart}
-use Rattle.layout.specs.Points.{ModelPoint, Scope, registersAt, pointAt}
-use Rattle.layout.specs.Layout.{within, groupsSize, pointsAt, instances, groupsAt}
+use Rattle.layout.specs.Points.{ModelPoint, Instance, registersAt, pointAt}
+use Rattle.layout.specs.Layout.{groupsSize, pointsAt, instances, entered, groupsBy, groupsAt}
 use Rattle.layout.specs.Tiling.{lowerPoints}
 use Rattle.layout.specs.Paths.{depthIn, agreeTo, pathOf}
+use Rattle.layout.proofs.InstanceLaws.{each-instance}
 use Rattle.layout.proofs.OnePoint.{framePoints, of-groups, number-among}
 use Rattle.layout.proofs.Depths.{agree-first}
 
@@ -97,14 +97,17 @@ lower-among p g i =
 -- ---- The points of an instance
 
 -- A path of three numbers is that of a point on it.
-path-back : (body : List ℕ) (scope : Scope) (path : List ℕ) (offset : ℕ) (q : Point) → length path ≡ 3
-    → pathOf (pointAt body scope path offset q) ≡ path
+path-back : (body : List ℕ) (i : Instance) (offset : ℕ) (q : Point) → length (i .path) ≡ 3
+    → pathOf (pointAt body i offset q) ≡ i .path
 unfolding pointAt
-path-back body scope [] offset q l = absurd (omega (arith, l))
-path-back body scope (x ∷ []) offset q l = absurd (omega (arith, l))
-path-back body scope (x ∷ y ∷ []) offset q l = absurd (omega (arith, l))
-path-back body scope (x ∷ y ∷ z ∷ []) offset q l = refl
-path-back body scope (x ∷ y ∷ z ∷ u ∷ us) offset q l = absurd (omega (arith, l))
+path-back body i offset q l = three (i .path) l
+  where
+    three : (path : List ℕ) → length path ≡ 3 → getD path 0 0 ∷ getD path 1 0 ∷ getD path 2 0 ∷ [] ≡ path
+    three [] l = absurd (omega (arith, l))
+    three (x ∷ []) l = absurd (omega (arith, l))
+    three (x ∷ y ∷ []) l = absurd (omega (arith, l))
+    three (x ∷ y ∷ z ∷ []) l = refl
+    three (x ∷ y ∷ z ∷ u ∷ us) l = absurd (omega (arith, l))
 
 -- A point shows what its registers hold.
 abbrev pub Reads : List ℕ → ModelPoint → Type 0
@@ -118,24 +121,24 @@ pub record Own (body path : List ℕ) (offset : ℕ) (ps : List Point) (p : Mode
   pub reads : Reads body p
 
 -- Each point of an instance.
-pub each-own : (body : List ℕ) (scope : Scope) (path : List ℕ) (offset : ℕ) (ps : List Point) → length path ≡ 3
-    → Distinct (numbersOf (pointFrames ps)) → Each (Own body path offset ps) (pointsAt body scope path offset ps)
+pub each-own : (body : List ℕ) (i : Instance) (offset : ℕ) (ps : List Point) → length (i .path) ≡ 3
+    → Distinct (numbersOf (pointFrames ps)) → Each (Own body (i .path) offset ps) (pointsAt body i offset ps)
 unfolding pointsAt pointAt offsetIn
-each-own body scope path offset [] l d = tt
-each-own body scope path offset (q ∷ qs) l d =
-    let here : Own body path offset (q ∷ qs) (pointAt body scope path offset q) = record {
+each-own body i offset [] l d = tt
+each-own body i offset (q ∷ qs) l d =
+    let here : Own body (i .path) offset (q ∷ qs) (pointAt body i offset q) = record {
       defined = first;
-      onPath = path-back body scope path offset q l;
+      onPath = path-back body i offset q l;
       addressed = rw (eq-eqb (q .number) (q .number) refl, offsetIn) (omega arith);
       reads = refl;
     } in (
       here,
-      each-implied (Own body path (offset + q .size) qs) (Own body path offset (q ∷ qs)) later-own
-          (pointsAt body scope path (offset + q .size) qs) (each-own body scope path (offset + q .size) qs l (d .1)),
+      each-implied (Own body (i .path) (offset + q .size) qs) (Own body (i .path) offset (q ∷ qs)) later-own
+          (pointsAt body i (offset + q .size) qs) (each-own body i (offset + q .size) qs l (d .1)),
     )
   where
-    -- A point behind the first.
-    later-own : (p : ModelPoint) → Own body path (offset + q .size) qs p → Own body path offset (q ∷ qs) p
+    -- A point after the first.
+    later-own : (p : ModelPoint) → Own body (i .path) (offset + q .size) qs p → Own body (i .path) offset (q ∷ qs) p
     later-own p o =
         let other : p .definition .number ≡ q .number → ⊥ = λ e.
         clash (sym (point-among (p .definition) qs (o .defined)) ∙ ap (λ n. among n (numbersOf (pointFrames qs))) e ∙ d .0) in
@@ -148,17 +151,6 @@ each-own body scope path offset (q ∷ qs) l d =
         }
 
 -- ---- The points of groups
-
--- What holds of the points of each instance holds of all of them.
-each-instance : (P : ModelPoint → Type 0) (size : ℕ) (one : ℕ → ℕ → List ModelPoint) (from : ℕ)
-    → ((j : ℕ) → Each P (one j (from + j * size)))
-    → (n j offset : ℕ) → offset ≡ from + j * size → Each P (instances n j offset size one)
-unfolding instances
-each-instance P size one from each zero j offset e = tt
-each-instance P size one from each (suc n) j offset e =
-    let next : offset + size ≡ from + suc j * size = omega (arith, e, suc-mul j size) in
-    each-append P (one j offset) (instances n (suc j) (offset + size) size one)
-    (subst (λ o. Each P (one j o)) (sym e) (each j)) (each-instance P size one from each n (suc j) (offset + size) next)
 
 -- A point of groups that lie from an offset on, where k instance numbers of a path lead to them: one of theirs, whose path begins
 -- with these.
@@ -256,36 +248,37 @@ module _ (body : List ℕ) (count : Head → ℕ) (k : ℕ) (path : List ℕ) (o
       }
 
 -- Each point of groups at a level below the top.
-pub each-lower : (body : List ℕ) (count : Head → ℕ) (level : ℕ) (scope : Scope) (path : List ℕ) (offset : ℕ)
-    (top enclosing : List Point) (g : Groups) → SoundGroups top enclosing level g → 2 ≤ level → length path ≡ 3
+pub each-lower : (body : List ℕ) (count : Head → ℕ) (level : ℕ) (i : Instance) (offset : ℕ)
+    (top enclosing : List Point) (g : Groups) → SoundGroups top enclosing level g → 2 ≤ level → length (i .path) ≡ 3
     → Distinct (numbersOf (groupFrames g))
-    → Each (Lower body count (level - 2) path offset g) (groupsAt body count level scope path offset g)
-unfolding groupsAt
-each-lower body count level scope path offset top enclosing noGroup s below l d = tt
-each-lower body count level scope path offset top enclosing (group h ps inside behind) s below l d =
+    → Each (Lower body count (level - 2) (i .path) offset g) (groupsAt body count level i offset g)
+unfolding groupsBy entered
+each-lower body count level i offset top enclosing noGroup s below l d = tt
+each-lower body count level i offset top enclosing (group h ps inside next) s below l d =
     let k = level - 2 in
+    let path = i .path in
     let deeper : suc level - 2 ≡ suc k = omega (arith, below) in
-    let t = apart ps inside behind (d .1) in
+    let t = apart ps inside next (d .1) in
     let low : k < 3 = let r = s .0 .levelInRange in omega (arith, r) in
-    let P : ModelPoint → Type 0 = Lower body count k path offset (group h ps inside behind) in
+    let P : ModelPoint → Type 0 = Lower body count k path offset (group h ps inside next) in
     let size = pointsSize ps + groupsSize count inside in
-    let own : ℕ → ℕ → List ModelPoint = λ j o. pointsAt body (within body o ps scope) (set path k j) o ps in
+    let own : ℕ → ℕ → List ModelPoint = λ j o. pointsAt body (entered body level j o ps i) o ps in
     let lower : ℕ → ℕ → List ModelPoint = λ j o.
-    groupsAt body count (suc level) (within body o ps scope) (set path k j) (o + pointsSize ps) inside in
+    groupsAt body count (suc level) (entered body level j o ps i) (o + pointsSize ps) inside in
     let three : (j : ℕ) → length (set path k j) ≡ 3 = λ j. length-set path k j ∙ l in
     let each : (j : ℕ) → Each P (own j (offset + j * size) ++ lower j (offset + j * size)) = λ j.
     let o = offset + j * size in
     let L : ℕ → ModelPoint → Type 0 = λ m. Lower body count m (set path k j) (o + pointsSize ps) inside in
     each-append P (own j o) (lower j o)
-    (each-implied (Own body (set path k j) o ps) P (of-own body count k path offset h ps inside behind t l low j) (own j o)
-    (each-own body (within body o ps scope) (set path k j) o ps (three j) (t .pointsDistinct)))
+    (each-implied (Own body (set path k j) o ps) P (of-own body count k path offset h ps inside next t l low j) (own j o)
+    (each-own body (entered body level j o ps i) o ps (three j) (t .pointsDistinct)))
     (each-implied (L (suc level - 2)) P
-    (λ p q. of-lower body count k path offset h ps inside behind t l low j p (subst (λ m. L m p) deeper q)) (lower j o)
-    (each-lower body count (suc level) (within body o ps scope) (set path k j) (o + pointsSize ps) top (ps ++ enclosing) inside
+    (λ p q. of-lower body count k path offset h ps inside next t l low j p (subst (λ m. L m p) deeper q)) (lower j o)
+    (each-lower body count (suc level) (entered body level j o ps i) (o + pointsSize ps) top (ps ++ enclosing) inside
     (s .3) (omega arith) (three j) (t .insideDistinct))) in
     let mid = offset + count h * size in
-    let next = groupsAt body count level scope path mid behind in
-    each-append P (instances (count h) 0 offset size (λ j o. own j o ++ lower j o)) next
+    let rest = groupsAt body count level i mid next in
+    each-append P (instances (count h) 0 offset size (λ j o. own j o ++ lower j o)) rest
     (each-instance P size (λ j o. own j o ++ lower j o) offset each (count h) 0 offset (omega arith))
-    (each-implied (Lower body count k path mid behind) P (of-next body count k path offset h ps inside behind t l low) next
-    (each-lower body count level scope path mid top enclosing behind (s .4) below l (t .behindDistinct)))
+    (each-implied (Lower body count k path mid next) P (of-next body count k path offset h ps inside next t l low) rest
+    (each-lower body count level i mid top enclosing next (s .4) below l (t .behindDistinct)))

@@ -1,14 +1,14 @@
 -- Where the points of one model lie: each is a point of the definition, lies in the body, and is apart from every other.
-use mathlib.Core.Path.{_≡_, refl, sym, ap, subst, _∙_}
+use mathlib.Core.Path.{_≡_, refl, sym, ap, _∙_}
 use mathlib.Core.Bool.{true, false}
 use mathlib.Core.List.{List, [], _∷_}
-use mathlib.Core.Logic.{_⊎_, inl, inr, ⊎-elim}
+use mathlib.Core.Logic.{_⊎_, ⊎-elim}
 use Prim.Native.Nat.{ℕ, _+_, _≤_}
 use native.Mathlib.Omega.{arith}
 use lib.Dec.{eqb}
 use lib.ListN.{length}
 use Rattle.lists.specs.Each.{Each}
-use Rattle.lists.specs.Members.{among, Distinct, In, first, later}
+use Rattle.lists.specs.Members.{among, Distinct, In}
 use Rattle.lists.proofs.TestOutcomes.{by-same-test}
 use Rattle.lists.proofs.TestLaws.{neither}
 use Rattle.lists.proofs.EachLaws.{each-implied, each-append, each-one, each-any}
@@ -18,65 +18,17 @@ use Rattle.catalog.specs.Definitions.{noGroup, Content, Definition, pointsSize,
 use Rattle.catalog.specs.Soundness.{SoundDefinition, numbersOf}
 use Rattle.catalog.proofs.GroupNumbers.{point-among, Apart, apart}
 use Rattle.layout.specs.Points.{ModelPoint}
-use Rattle.layout.specs.Layout.{topScope, countsOf, noInstance, pointsAt, groupsAt, contentAt}
+use Rattle.layout.specs.Layout.{countsOf, noInstance, topInstance, pointsAt, groupsAt, contentAt}
 use Rattle.layout.specs.Reading.{points, allButLast, readBy}
-use Rattle.layout.specs.Tiling.{lowerPoints, definedPoints, Tiles}
+use Rattle.layout.specs.Tiling.{lowerPoints, definedPoints, PointsTile}
 use Rattle.layout.specs.Paths.{depthIn, agreeTo, pathOf}
 use Rattle.layout.proofs.LeftOutPad.{each-but-last}
-use Rattle.layout.proofs.OnePoint.{one-point}
 use Rattle.layout.proofs.BodyTiling.{read-tiled}
+use Rattle.layout.proofs.TiledApart.{inside}
+use Rattle.layout.proofs.TiledApart as tiled
 use Rattle.layout.proofs.Readings.{pointsLeft, by-reading}
 use Rattle.layout.proofs.Places.{Place}
 use Rattle.layout.proofs.PointAddresses.{offsetIn, addressIn, agree-address, Reads, Own, each-own, Lower, each-lower, lower-among}
-
--- ---- One point behind the other
-
--- Points that lie one behind the other, from an offset up to another, by their own sizes.
-abbrev Laid : ℕ → ℕ → List ModelPoint → Type 0
-Laid from to [] = from ≡ to
-Laid from to (p ∷ ps) = (p .offset ≡ from) × (1 ≤ p .definition .size) × Laid (from + p .definition .size) to ps
-
--- p ends where w begins, or before it.
-abbrev Before : ModelPoint → ModelPoint → Type 0
-Before p w = p .offset + p .definition .size ≤ w .offset
-
--- Points that lie so go upward,
-upward : (from to : ℕ) (ps : List ModelPoint) → Laid from to ps → from ≤ to
-upward from to [] t = omega (arith, t)
-upward from to (p ∷ ps) t = let r = upward (from + p .definition .size) to ps (t .2) in omega (arith, r)
-
--- each takes a register or more, within the bounds,
-within-bounds : (from to : ℕ) (ps : List ModelPoint) → Laid from to ps → (p : ModelPoint) → In p ps
-    → (from ≤ p .offset) × (1 ≤ p .definition .size) × (p .offset + p .definition .size ≤ to)
-within-bounds from to (q ∷ ps) t p first =
-    let u = upward (from + p .definition .size) to ps (t .2) in (omega (arith, t .0), t .1, omega (arith, t .0, u))
-within-bounds from to (q ∷ ps) t p (later i) =
-    let r = within-bounds (from + q .definition .size) to ps (t .2) p i in (omega (arith, r .0), r .1, r .2)
-
--- and of two, one ends before the other begins, or they are one.
-one-or-apart : (from to : ℕ) (ps : List ModelPoint) → Laid from to ps → (w p : ModelPoint) → In w ps → In p ps
-    → (p ≡ w) ⊎ (Before p w ⊎ Before w p)
-one-or-apart from to (q ∷ ps) t w p first first = inl refl
-one-or-apart from to (q ∷ ps) t w p first (later j) =
-    let r = within-bounds (from + q .definition .size) to ps (t .2) p j in inr (inr (omega (arith, t .0, r .0)))
-one-or-apart from to (q ∷ ps) t w p (later i) first =
-    let r = within-bounds (from + q .definition .size) to ps (t .2) w i in inr (inl (omega (arith, t .0, r .0)))
-one-or-apart from to (q ∷ ps) t w p (later i) (later j) = one-or-apart (from + q .definition .size) to ps (t .2) w p i j
-
--- Points that tile by the points of a sound definition lie so: a number names one point of it.
-tiles-laid : (d : Definition) → SoundDefinition d → (from to : ℕ) (ps : List ModelPoint) (qs : List Point)
-    → Each (λ p. In (p .definition) (definedPoints d)) ps → Each (λ q. In q (definedPoints d)) qs
-    → Tiles (λ p. p .offset) (λ p. p .definition .number) from to ps qs → Laid from to ps
-tiles-laid d s from to [] [] e f t = t
-tiles-laid d s from to [] (q ∷ qs) e f t = absurd t
-tiles-laid d s from to (p ∷ ps) [] e f t = absurd t
-tiles-laid d s from to (p ∷ ps) (q ∷ qs) e f t =
-    let same : q .size ≡ p .definition .size = ap (λ r. r .size) (sym (one-point d s (p .definition) q (e .0) (f .0) (t .1))) in (
-      t .0,
-      subst (λ n. 1 ≤ n) same (t .2),
-      subst (λ n. Laid (from + n) to ps) same
-          (tiles-laid d s (from + q .size) to ps qs (e .1) (f .1) (t .3)),
-    )
 
 -- ---- The addresses of a model's points
 
@@ -143,19 +95,18 @@ content-addressed d s body =
     let ps = d .top .points in
     let g = d .top .groups in
     let count = countsOf (d .top) body in
-    let scope = topScope ps body in
+    let top = topInstance ps body in
     let t = top-apart d s in
-    let own = pointsAt body scope noInstance 0 ps in
-    let lower = groupsAt body count 2 scope noInstance (pointsSize ps) g in
+    let own = pointsAt body top 0 ps in
+    let lower = groupsAt body count 2 top (pointsSize ps) g in
     let P = At d body (addressOf (d .top) count) in
     record {
       address = addressOf (d .top) count;
       near = agree-top d body count;
       each = each-append P own lower
-          (each-implied (Own body noInstance 0 ps) P (own-at d body count) own
-          (each-own body scope noInstance 0 ps refl (t .pointsDistinct)))
+          (each-implied (Own body noInstance 0 ps) P (own-at d body count) own (each-own body top 0 ps refl (t .pointsDistinct)))
           (each-implied (Lower body count 0 noInstance (pointsSize ps) g) P (lower-at d body count s) lower
-          (each-lower body count 2 scope noInstance (pointsSize ps) ps ps g (s .groups) (omega arith) refl (t .insideDistinct)));
+          (each-lower body count 2 top (pointsSize ps) ps ps g (s .groups) (omega arith) refl (t .insideDistinct)));
     }
 
 -- All but the last of points are of them,
@@ -193,8 +144,8 @@ pad-addressed d s id body =
     record {
       address = by;
       near = λ n xs ys l e. refl;
-      each = each-implied (Own body noInstance 0 qs) (At d body by) own-at (pointsAt body (topScope qs body) noInstance 0 qs)
-          (each-own body (topScope qs body) noInstance 0 qs refl (distinct-but-last ps (top-apart d s .pointsDistinct)));
+      each = each-implied (Own body noInstance 0 qs) (At d body by) own-at (pointsAt body (topInstance qs body) 0 qs)
+          (each-own body (topInstance qs body) 0 qs refl (distinct-but-last ps (top-apart d s .pointsDistinct)));
     }
 
 -- A model that is read by a sound definition.
@@ -223,16 +174,13 @@ module _ (d : Definition) (sound : SoundDefinition d) (body : List ℕ) (ps : Li
   pub point-reads : (p : ModelPoint) → In p ps → Reads body p
   point-reads p i = point-at p i .2
 
-  -- they lie one behind the other,
-  points-laid : Laid 0 (length body) ps
-  points-laid =
-      let b = read-tiled d sound (d .id) body ps read in
-      tiles-laid d sound 0 (length body) ps (b .by) (each-any (λ p. In (p .definition) (definedPoints d)) ps point-defined)
-      (b .defined) (b .tiles)
+  -- they tile the body,
+  points-tile : PointsTile 0 (length body) ps
+  points-tile = read-tiled d sound (d .id) body ps read .tiles
 
   -- so each lies in the body,
   pub point-inside : (p : ModelPoint) → In p ps → p .offset + p .definition .size ≤ length body
-  point-inside p i = within-bounds 0 (length body) ps points-laid p i .2
+  point-inside p i = inside (λ p. p .offset) (λ p. p .definition .size) 0 (length body) ps points-tile p i .2
 
   -- and is apart from another one.
   pub point-places : (w : ModelPoint) → In w ps → Each (Place (d .top) w) ps
@@ -240,12 +188,12 @@ module _ (d : Definition) (sound : SoundDefinition d) (body : List ℕ) (ps : Li
     where
       -- Each takes a register or more.
       sized : (p : ModelPoint) → In p ps → 1 ≤ p .definition .size
-      sized p j = within-bounds 0 (length body) ps points-laid p j .1
+      sized p j = inside (λ p. p .offset) (λ p. p .definition .size) 0 (length body) ps points-tile p j .1
 
       -- The place of each, by the order of the two and by their addresses.
       place : (p : ModelPoint) → In p ps → Place (d .top) w p
       place p j =
-          let order = one-or-apart 0 (length body) ps points-laid w p i j in
+          let order = tiled.apart (λ p. p .offset) (λ p. p .definition .size) 0 (length body) ps points-tile w p i j in
           let m = sized p j in
           let k = sized w i in
           record {

@@ -1,13 +1,13 @@
 -- The points of a model, as an accepted catalog reads them, lie in the model and are no more than its registers.
 use mathlib.Core.Path.{_≡_, sym, _∙_}
 use mathlib.Core.List.{List, [], _∷_}
-use Prim.Native.Nat.{ℕ, _+_, _≤_}
+use Prim.Native.Nat.{ℕ, _≤_}
 use native.Mathlib.Omega.{arith}
 use lib.Dec.{eqb}
 use lib.ListN.{length}
 use Rattle.lists.specs.Each.{Each}
 use Rattle.lists.proofs.TestOutcomes.{impossible, by-test}
-use Rattle.catalog.specs.Frames.{Point}
+use Rattle.lists.proofs.EachLaws.{each-any}
 use Rattle.catalog.specs.Checking.{accepted, checked}
 use Rattle.catalog.specs.Definitions.{Definition, definitions}
 use Rattle.catalog.specs.Soundness.{SoundDefinition}
@@ -16,10 +16,10 @@ use Rattle.register_map.specs.Scan.{Model}
 use Rattle.layout.specs.Points.{ModelPoint}
 use Rattle.layout.specs.Reading.{Reading, points, reading}
 use Rattle.layout.specs.Walks.{Accepted}
-use Rattle.layout.specs.Tiling.{Tiles, BodyTiled}
+use Rattle.layout.specs.Tiling.{BodyTiled}
 use Rattle.layout.proofs.ReadingSteps.{reading-none, reading-first}
 use Rattle.layout.proofs.BodyTiling.{read-tiled}
-use Rattle.layout.proofs.TiledApart.{upward}
+use Rattle.layout.proofs.TiledApart.{few, inside}
 
 -- What sound definitions read fills the body, by one of them.
 reading-tiled : (ds : List Definition) → Each SoundDefinition ds → (m : Model) (ps : List ModelPoint)
@@ -34,35 +34,19 @@ accepted-tiled : (catalog : List ℕ) (n : ℕ) → checked catalog ≡ accepted
     → reading (definitions catalog) m ≡ points ps → (d : Definition) × BodyTiled d (length (m .body)) ps
 accepted-tiled catalog n e = reading-tiled (definitions catalog) (accepted-is-sound catalog n e .0 .each)
 
--- Points that fill the registers up to an end begin there at the latest,
-tiled-inside : (from end : ℕ) (ps : List ModelPoint) (qs : List Point) → Tiles (λ p. p .offset) (λ p. p .definition .number) from end ps qs
-    → Each (λ p. p .offset ≤ end) ps
-tiled-inside from end [] [] t = tt
-tiled-inside from end [] (q ∷ qs) t = absurd t
-tiled-inside from end (p ∷ ps) [] t = absurd t
-tiled-inside from end (p ∷ ps) (q ∷ qs) t =
-    let u = upward (λ p. p .offset) (λ p. p .definition .number) (from + q .size) end ps qs (t .3) in
-    (omega (arith, t .0, u), tiled-inside (from + q .size) end ps qs (t .3))
-
--- and are no more than these registers.
-tiled-few : (from end : ℕ) (ps : List ModelPoint) (qs : List Point) → Tiles (λ p. p .offset) (λ p. p .definition .number) from end ps qs
-    → from + length ps ≤ end
-tiled-few from end [] [] t = omega arith
-tiled-few from end [] (q ∷ qs) t = absurd t
-tiled-few from end (p ∷ ps) [] t = absurd t
-tiled-few from end (p ∷ ps) (q ∷ qs) t = let r = tiled-few (from + q .size) end ps qs (t .3) in omega (arith, t .2, r)
-
 -- The points of a reading lie in the model: behind none lies the model's end.
 abbrev pub Inside : (Model → Reading) → Type 0
 Inside read = (m : Model) (ps : List ModelPoint) → read m ≡ points ps → Each (λ p. p .offset ≤ length (m .body)) ps
 
 pub accepted-inside : (catalog : List ℕ) (n : ℕ) → checked catalog ≡ accepted n → Inside (reading (definitions catalog))
 accepted-inside catalog n e m ps r =
-    let b = accepted-tiled catalog n e m ps r .1 in tiled-inside 0 (length (m .body)) ps (b .by) (b .tiles)
+    let b = accepted-tiled catalog n e m ps r .1 in
+    each-any (λ p. p .offset ≤ length (m .body)) ps (λ p i.
+    let k = inside (λ p. p .offset) (λ p. p .definition .size) 0 (length (m .body)) ps (b .tiles) p i in omega (arith, k .2))
 
 -- A model has no more points than registers.
 pub points-few : (ws : List ℕ) → Accepted ws → (m : Model) (ps : List ModelPoint) → reading (definitions ws) m ≡ points ps
     → length ps ≤ length (m .body)
 points-few ws a m ps r =
     let b = accepted-tiled ws (a .0) (a .1) m ps r .1 in
-    omega (arith, tiled-few 0 (length (m .body)) ps (b .by) (b .tiles))
+    omega (arith, few (λ p. p .offset) (λ p. p .definition .size) 0 (length (m .body)) ps (b .tiles))

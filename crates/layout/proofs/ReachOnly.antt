@@ -3,7 +3,7 @@
 use mathlib.Core.Path.{_≡_, refl, sym, ap, _∙_}
 use mathlib.Core.Bool.{Bool, true, false, _||_}
 use mathlib.Core.List.{List, [], _∷_, _++_}
-use Prim.Native.Nat.{ℕ, zero, suc, _+_, _*_, _-_}
+use Prim.Native.Nat.{ℕ, suc, _+_, _*_, _-_}
 use borrow.Author.Tests.{eqb-true}
 use lib.Dec.{eqb}
 use lib.ListN.{getD, set}
@@ -13,14 +13,15 @@ use Rattle.lists.proofs.TestOutcomes.{clash}
 use Rattle.lists.proofs.InLaws.{in-either}
 use Rattle.registers.specs.Registers.{join, shownRaw}
 use Rattle.values.specs.Classes.{value, unimplemented, outOfRange, Classified, ofClass, tooWide, unknownType, classified}
-use Rattle.catalog.specs.Frames.{Point, fixedScale, scaleByPoint, sunssf}
+use Rattle.catalog.specs.Frames.{Point, Head, fixedScale, scaleByPoint, sunssf}
 use Rattle.catalog.specs.Definitions.{Groups, noGroup, group, pointsSize, pointFrames}
 use Rattle.catalog.specs.Soundness.{numbersOf, SoundGroups, ScaleResolves}
 use Rattle.catalog.proofs.References.{points-resolve}
 use Rattle.catalog.proofs.GroupNumbers.{point-among}
-use Rattle.layout.specs.Points.{ModelPoint, Scope, statusOf, scaleOf, scaleStatus, registersAt, pointAt}
-use Rattle.layout.specs.Layout.{withPoint, within, countOf, groupsSize, pointsAt, instances, groupsAt}
-use Rattle.layout.proofs.CountsAgree.{count-agrees, sizes-agree}
+use Rattle.layout.specs.Points.{ModelPoint, Scope, Instance, statusOf, scaleOf, scaleStatus, registersAt, pointAt}
+use Rattle.layout.specs.Layout.{withPoint, within, countOf, groupsSize, pointsAt, entered, groupsBy, groupsAt}
+use Rattle.layout.proofs.CountsAgree.{count-agrees, measures-agree}
+use Rattle.layout.proofs.InstanceLaws.{instances-agree}
 
 -- Two scopes agree on these points.
 abbrev pub Agree : List Point → Scope → Scope → Type 0
@@ -118,64 +119,67 @@ shown-same path offset p whole raw r s same =
     ap (λ x. show x (scaleOf p x r)) (same-status p r s same c)
     ∙ ap (show (statusOf p c s)) (same-scale p r s same (statusOf p c s))
 
--- A point whose scale factor resolves is the same in scopes that agree.
-point-agrees : (body path : List ℕ) (offset : ℕ) (reach : List Point) (p : Point) (s t : Scope) → ScaleResolves reach p
-    → Agree reach s t → pointAt body s path offset p ≡ pointAt body t path offset p
+-- Instances that agree: the same path, and scopes that agree on these points.
+pub record Alike (ps : List Point) (i j : Instance) : Type 0 where
+  pub samePath : i .path ≡ j .path
+  pub agree : Agree ps (i .scope) (j .scope)
+
+-- A point whose scale factor resolves is the same in instances that agree.
+point-agrees : (body : List ℕ) (offset : ℕ) (around : List Point) (p : Point) (i j : Instance) → ScaleResolves around p
+    → Alike around i j → pointAt body i offset p ≡ pointAt body j offset p
 unfolding pointAt
-point-agrees body path offset reach p s t r h =
+point-agrees body offset around p i j r h =
     let registers = registersAt body offset p in
-    shown-same path offset p (join registers) (shownRaw registers) (s (p .scale)) (t (p .scale)) (λ k.
-    let f = r k in ap s (sym (f .2)) ∙ h (f .0) (f .1) ∙ ap t (f .2))
+    ap (λ path. shownAs path offset p (join registers) (shownRaw registers) (i .scope (p .scale))) (h .samePath)
+    ∙ shown-same (j .path) offset p (join registers) (shownRaw registers) (i .scope (p .scale)) (j .scope (p .scale)) (λ k.
+    let f = r k in ap (i .scope) (sym (f .2)) ∙ h .agree (f .0) (f .1) ∙ ap (j .scope) (f .2))
 
 -- Points whose scale factors resolve.
-pub points-agree : (body path : List ℕ) (offset : ℕ) (reach ps : List Point) (s t : Scope) → Each (ScaleResolves reach) ps
-    → Agree reach s t → pointsAt body s path offset ps ≡ pointsAt body t path offset ps
+pub points-agree : (body : List ℕ) (offset : ℕ) (around ps : List Point) (i j : Instance) → Each (ScaleResolves around) ps
+    → Alike around i j → pointsAt body i offset ps ≡ pointsAt body j offset ps
 unfolding pointsAt
-points-agree body path offset reach [] s t r h = refl
-points-agree body path offset reach (p ∷ ps) s t r h =
-    rw (point-agrees body path offset reach p s t (r .0) h, points-agree body path (offset + p .size) reach ps s t (r .1) h)
-
--- Instances that are the same one by one.
-instances-agree : (one other : ℕ → ℕ → List ModelPoint) → ((j at : ℕ) → one j at ≡ other j at)
-    → (n j offset size : ℕ) → instances n j offset size one ≡ instances n j offset size other
-unfolding instances
-instances-agree one other h zero j offset size = refl
-instances-agree one other h (suc n) j offset size =
-    rw (h j offset, instances-agree one other h n (suc j) (offset + size) size)
+points-agree body offset around [] i j r h = refl
+points-agree body offset around (p ∷ ps) i j r h =
+    rw (point-agrees body offset around p i j (r .0) h, points-agree body (offset + p .size) around ps i j (r .1) h)
 
 -- ---- Groups
 
+-- Instances of a group within instances that agree agree on its points too.
+pub alike-entered : (body : List ℕ) (level n at : ℕ) (ps enclosing : List Point) (i j : Instance) → Alike enclosing i j
+    → Alike (ps ++ enclosing) (entered body level n at ps i) (entered body level n at ps j)
+unfolding entered
+alike-entered body level n at ps enclosing i j h =
+    record {
+      samePath = ap (λ path. set path (level - 2) n) (h .samePath);
+      agree = reach-agrees body at ps enclosing (i .scope) (j .scope) (h .agree);
+    }
+
 module _ (body : List ℕ) (fill : ℕ) (top : List Point) (s s′ : Scope) (counts : Agree top s s′) where
-  -- The points of sound groups, in scopes that agree on the points around them, by counts that agree on the top group.
-  pub groups-agree : (path : List ℕ) (offset : ℕ) (enclosing : List Point) (level : ℕ) (g : Groups)
-      → SoundGroups top enclosing level g → (t t′ : Scope) → Agree enclosing t t′
-      → groupsAt body (countOf s fill) level t path offset g ≡ groupsAt body (countOf s′ fill) level t′ path offset g
-  unfolding groupsAt
-  groups-agree path offset enclosing level noGroup e t t′ h = refl
-  groups-agree path offset enclosing level (group head ps inside behind) e t t′ h =
-      let c = count-agrees s s′ top counts fill level head behind (e .0) in
-      let z = sizes-agree s s′ top counts fill (ps ++ enclosing) (suc level) inside (e .3) in
-      let one : (ℕ → ℕ → List ModelPoint) = λ j at.
-      pointsAt body (within body at ps t) (set path (level - 2) j) at ps
-      ++ groupsAt body (countOf s fill) (suc level) (within body at ps t) (set path (level - 2) j) (at + pointsSize ps) inside in
-      let other : (ℕ → ℕ → List ModelPoint) = λ j at.
-      pointsAt body (within body at ps t′) (set path (level - 2) j) at ps
-      ++ groupsAt body (countOf s′ fill) (suc level) (within body at ps t′) (set path (level - 2) j) (at + pointsSize ps)
-      inside in
-      let each : (j at : ℕ) → one j at ≡ other j at = λ j at.
-      let a = reach-agrees body at ps enclosing t t′ h in
+  -- The points of sound groups, in instances that agree on the points around them, by counts that agree on the top group.
+  pub groups-agree : (offset : ℕ) (enclosing : List Point) (level : ℕ) (g : Groups) → SoundGroups top enclosing level g
+      → (i j : Instance) → Alike enclosing i j
+      → groupsAt body (countOf s fill) level i offset g ≡ groupsAt body (countOf s′ fill) level j offset g
+  unfolding groupsBy
+  groups-agree offset enclosing level noGroup e i j h = refl
+  groups-agree offset enclosing level (group head ps inside next) e i j h =
+      let c = count-agrees s s′ top counts fill level head next (e .0) in
+      let z = measures-agree s s′ top counts pointsSize fill (ps ++ enclosing) (suc level) inside (e .3) in
+      let size = pointsSize ps + groupsSize (countOf s′ fill) inside in
+      let part : Instance → (Head → ℕ) → ℕ → ℕ → List ModelPoint = λ around count n at.
+      pointsAt body (entered body level n at ps around) at ps
+      ++ groupsAt body count (suc level) (entered body level n at ps around) (at + pointsSize ps) inside in
+      let each : (n at : ℕ) → part i (countOf s fill) n at ≡ part j (countOf s′ fill) n at = λ n at.
+      let a = alike-entered body level n at ps enclosing i j h in
       rw (
-        points-agree body (set path (level - 2) j) at (ps ++ enclosing) ps (within body at ps t) (within body at ps t′)
+        points-agree body at (ps ++ enclosing) ps (entered body level n at ps i) (entered body level n at ps j)
             (points-resolve (ps ++ enclosing) ps (e .2)) a,
-        groups-agree (set path (level - 2) j) (at + pointsSize ps) (ps ++ enclosing) (suc level) inside (e .3)
-            (within body at ps t) (within body at ps t′) a,
+        groups-agree (at + pointsSize ps) (ps ++ enclosing) (suc level) inside (e .3) (entered body level n at ps i)
+            (entered body level n at ps j) a,
       ) in
-      let b = groups-agree path (offset + countOf s′ fill head * (pointsSize ps + groupsSize (countOf s′ fill) inside)) enclosing
-      level behind (e .4) t t′ h in
+      let b = groups-agree (offset + countOf s′ fill head * size) enclosing level next (e .4) i j h in
       rw (
         c,
         z,
-        instances-agree one other each (countOf s′ fill head) 0 offset
-            (pointsSize ps + groupsSize (countOf s′ fill) inside),
+        instances-agree (part i (countOf s fill)) (part j (countOf s′ fill)) each (countOf s′ fill head) 0 offset size,
         b,
       )

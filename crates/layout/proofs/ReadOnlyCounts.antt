@@ -12,9 +12,9 @@ use Rattle.catalog.specs.Frames.{Point, uint16, readOnly}
 use Rattle.catalog.specs.Rules.{hasCountPoint}
 use Rattle.catalog.specs.Definitions.{Groups, noGroup, group, Content, pointsSize}
 use Rattle.catalog.specs.Soundness.{SoundGroups}
-use Rattle.layout.specs.Points.{Scope}
+use Rattle.layout.specs.Points.{Scope, Instance}
 use Rattle.layout.specs.Layout.{topScope, countOf, fillSizeOf, restSize, countUnimplemented, fits, fillOf, countsOf, groupsAt}
-use Rattle.layout.proofs.CountsAgree.{sizes-agree, fill-sizes-agree, unimplemented-agrees}
+use Rattle.layout.proofs.CountsAgree.{measures-agree, fills-agree, unimplemented-agrees}
 use Rattle.layout.proofs.ReachOnly.{Agree, groups-agree}
 
 -- ---- The points of access R
@@ -106,11 +106,11 @@ module _ (c : Content) (sound : SoundGroups (c .points) (c .points) 2 (c .groups
   same-rest : restSize c after ≡ restSize c body
   same-rest =
       ap (λ (n : ℕ). pointsSize (c .points) + n)
-      (sizes-agree now old (readOnlyPoints (c .points)) scopes 0 (c .points) 2 (c .groups) below)
+      (measures-agree now old (readOnlyPoints (c .points)) scopes pointsSize 0 (c .points) 2 (c .groups) below)
 
   -- and so has an instance of the fill group,
   same-fill-size : fillSizeOf c after ≡ fillSizeOf c body
-  same-fill-size = fill-sizes-agree now old (readOnlyPoints (c .points)) scopes 0 (c .points) 2 (c .groups) below
+  same-fill-size = fills-agree now old (readOnlyPoints (c .points)) scopes pointsSize 0 (c .points) 2 (c .groups) below
 
   -- so the one fits where the other does,
   pub same-fit : fits c after ≡ fits c body
@@ -132,10 +132,9 @@ module _ (c : Content) (sound : SoundGroups (c .points) (c .points) 2 (c .groups
       ∙ ap (by (length body) (restSize c body)) same-fill-size
 
   -- The points of the groups are as by the counts of the other.
-  pub same-groups : (path : List ℕ) (offset : ℕ)
-      → groupsAt after (countsOf c after) 2 now path offset (c .groups)
-      ≡ groupsAt after (countsOf c body) 2 now path offset (c .groups)
-  same-groups path offset =
-      ap (λ (n : ℕ). groupsAt after (countOf now n) 2 now path offset (c .groups)) same-fill
-      ∙ groups-agree after (fillOf c body) (readOnlyPoints (c .points)) now old scopes path offset (c .points) 2 (c .groups) below
-      now now (λ p i. refl)
+  pub same-groups : (i : Instance) (offset : ℕ)
+      → groupsAt after (countsOf c after) 2 i offset (c .groups) ≡ groupsAt after (countsOf c body) 2 i offset (c .groups)
+  same-groups i offset =
+      ap (λ (n : ℕ). groupsAt after (countOf now n) 2 i offset (c .groups)) same-fill
+      ∙ groups-agree after (fillOf c body) (readOnlyPoints (c .points)) now old scopes offset (c .points) 2 (c .groups) below i i
+      (record { samePath = refl; agree = λ p k. refl })

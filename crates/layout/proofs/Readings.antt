@@ -13,7 +13,7 @@ use Rattle.catalog.specs.Frames.{Point, sunssf, pad}
 use Rattle.catalog.specs.Definitions.{Content, pointsSize}
 use Rattle.catalog.specs.Soundness.{ScaleResolves}
 use Rattle.layout.specs.Points.{ModelPoint}
-use Rattle.layout.specs.Layout.{topScope, countUnimplemented, fits, noInstance, pointsAt, contentAt}
+use Rattle.layout.specs.Layout.{topScope, countUnimplemented, fits, topInstance, pointsAt, contentAt}
 use Rattle.layout.specs.Reading.{Reading, faulty, points, belowTopPoints, countPointUnimplemented, notTheSize, endsWithPad, allButLast, padLeftOut, laidOut, readBy}
 use Rattle.layout.specs.Walks.{HasPoints}
 
@@ -27,7 +27,7 @@ pub record Full (c : Content) (body : List ℕ) : Type 0 where
 pub data HowRead (id : ℕ) (c : Content) (body : List ℕ) : Reading → Type 0 where
   leftOut : padLeftOut id c (length body) ≡ true
       → HowRead id c body
-      (points (pointsAt body (topScope (allButLast (c .points)) body) noInstance 0 (allButLast (c .points))))
+      (points (pointsAt body (topInstance (allButLast (c .points)) body) 0 (allButLast (c .points))))
   full : padLeftOut id c (length body) ≡ false → Full c body → HowRead id c body (points (contentAt c body))
 
 laid-out : (id : ℕ) (c : Content) (body : List ℕ) → padLeftOut id c (length body) ≡ false → HasPoints (laidOut c body)
@@ -65,11 +65,11 @@ how-read id c body = go (padLeftOut id c (length body)) refl
   where
     go : (b : Bool) → padLeftOut id c (length body) ≡ b
         → HasPoints (elim b [
-          | true ↦ points (pointsAt body (topScope (allButLast (c .points)) body) noInstance 0 (allButLast (c .points)))
+          | true ↦ points (pointsAt body (topInstance (allButLast (c .points)) body) 0 (allButLast (c .points)))
           | false ↦ laidOut c body
         ])
         → HowRead id c body (elim b [
-          | true ↦ points (pointsAt body (topScope (allButLast (c .points)) body) noInstance 0 (allButLast (c .points)))
+          | true ↦ points (pointsAt body (topInstance (allButLast (c .points)) body) 0 (allButLast (c .points)))
           | false ↦ laidOut c body
         ])
     go true e h = leftOut e
@@ -78,7 +78,7 @@ how-read id c body = go (padLeftOut id c (length body)) refl
 module _ (id : ℕ) (c : Content) (body : List ℕ) where
   -- The points of a model whose last pad is left out.
   abbrev pub pointsLeft : List ModelPoint
-  pointsLeft = pointsAt body (topScope (allButLast (c .points)) body) noInstance 0 (allButLast (c .points))
+  pointsLeft = pointsAt body (topInstance (allButLast (c .points)) body) 0 (allButLast (c .points))
 
   -- What is read in the one way,
   pub read-left : padLeftOut id c (length body) ≡ true → readBy id c body ≡ points pointsLeft

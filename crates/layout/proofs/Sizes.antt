@@ -21,8 +21,8 @@ use Rattle.catalog.specs.Soundness.{SoundPoint, SoundGroups}
 use Rattle.catalog.proofs.GroupSizes.{point-size}
 use Rattle.catalog.proofs.EveryGroup.{of-models}
 use Rattle.layout.specs.Points.{Scope}
-use Rattle.layout.specs.Layout.{topScope, countOf, groupsSize, fillSize, restSize, fillSizeOf, fits, fillOf, countsOf}
-use Rattle.layout.specs.Counts.{sizeOr0}
+use Rattle.layout.specs.Layout.{topScope, countOf, measured, fillMeasured, groupsSize, fillSize, restSize, fillSizeOf, fits, fillOf, countsOf}
+use Rattle.layout.specs.Counts.{or0}
 
 -- ---- Sound points
 
@@ -67,64 +67,66 @@ module _ (s : Scope) (f : ℕ) where
           let y = eqb-false (h .countKind) countByPoint q in
           absurd (n (omega arith))
 
-  -- No group below level 2 is the fill group, so the size of such groups does not depend on it either.
-  lower-size : (top enclosing : List Point) (level : ℕ) (g : Groups) → 3 ≤ level → SoundGroups top enclosing level g
-      → groupsSize (countOf s f) g ≡ groupsSize (countOf s 0) g
-  unfolding groupsSize
-  lower-size top enclosing level noGroup l e = refl
-  lower-size top enclosing level (group h ps inside behind) l e =
+  -- No group below level 2 is the fill group, so what such groups measure does not depend on it either.
+  lower-measure : (weight : List Point → ℕ) (top enclosing : List Point) (level : ℕ) (g : Groups) → 3 ≤ level
+      → SoundGroups top enclosing level g → measured weight (countOf s f) g ≡ measured weight (countOf s 0) g
+  unfolding measured
+  lower-measure weight top enclosing level noGroup l e = refl
+  lower-measure weight top enclosing level (group h ps inside next) l e =
       let c = count-of-other h (e .0 .countKnown) (λ k. let two = e .0 .filling k .0 in absurd (omega arith)) in
-      let i = lower-size top (ps ++ enclosing) (suc level) inside (omega arith) (e .3) in
-      let b = lower-size top enclosing level behind l (e .4) in
+      let i = lower-measure weight top (ps ++ enclosing) (suc level) inside (omega arith) (e .3) in
+      let b = lower-measure weight top enclosing level next l (e .4) in
       rw (c, i, b)
 
-module _ (s : Scope) (f : ℕ) (top enclosing : List Point) where
-  -- Each instance of the fill group adds its size to the rest.
-  pub counts-differ-only-at-fill : (g : Groups) → SoundGroups top enclosing 2 g
-      → groupsSize (countOf s f) g ≡ groupsSize (countOf s 0) g + f * sizeOr0 (fillSize (countOf s 0) g)
-  unfolding groupsSize fillSize
-  counts-differ-only-at-fill noGroup e = omega arith
-  counts-differ-only-at-fill (group h ps inside behind) e =
-      let i = lower-size s f top (ps ++ enclosing) 3 inside (omega arith) (e .3) in
-      go (eqb (h .countKind) fill) refl i (counts-differ-only-at-fill behind (e .4))
+module _ (weight : List Point → ℕ) (s : Scope) (f : ℕ) (top enclosing : List Point) where
+  -- Each instance of the fill group adds its measure to the rest.
+  pub fill-adds : (g : Groups) → SoundGroups top enclosing 2 g
+      → measured weight (countOf s f) g
+      ≡ measured weight (countOf s 0) g + f * or0 (fillMeasured weight (countOf s 0) g)
+  unfolding measured fillMeasured
+  fill-adds noGroup e = omega arith
+  fill-adds (group h ps inside next) e =
+      let i = lower-measure s f weight top (ps ++ enclosing) 3 inside (omega arith) (e .3) in
+      go (eqb (h .countKind) fill) refl i (fill-adds next (e .4))
     where
       R : ℕ → ℕ
-      R n = groupsSize (countOf s n) behind
+      R n = measured weight (countOf s n) next
 
       I : ℕ → ℕ
-      I n = pointsSize ps + groupsSize (countOf s n) inside
+      I n = weight ps + measured weight (countOf s n) inside
 
       go : (b : Bool) → eqb (h .countKind) fill ≡ b
-          → groupsSize (countOf s f) inside ≡ groupsSize (countOf s 0) inside
-          → R f ≡ R 0 + f * sizeOr0 (fillSize (countOf s 0) behind)
+          → measured weight (countOf s f) inside ≡ measured weight (countOf s 0) inside
+          → R f ≡ R 0 + f * or0 (fillMeasured weight (countOf s 0) next)
           → countOf s f h * I f + R f
-          ≡ countOf s 0 h * I 0 + R 0 + f * sizeOr0 (elim b [ true ↦ some (I 0) | false ↦ fillSize (countOf s 0) behind ])
+          ≡ countOf s 0 h * I 0 + R 0 + f * or0 (elim b [ true ↦ some (I 0) | false ↦ fillMeasured weight (countOf s 0) next ])
       go true k i r =
           let q = eqb-true (h .countKind) fill k in
           let c = count-of-fill s f h q in
           let d = count-of-fill s 0 h q in
-          let z : behind ≡ noGroup = e .0 .filling q .1 in
+          let z : next ≡ noGroup = e .0 .filling q .1 in
           rw (c, d, i, z) (omega arith)
       go false k i r =
           let n = eqb-false (h .countKind) fill k in
           let c = count-of-other s f h (e .0 .countKnown) n in
           rw (c, i) (omega arith)
 
--- Whatever fills the model, an instance of the fill group has one size.
-pub fill-size-same : (s : Scope) (f : ℕ) (top enclosing : List Point) (g : Groups) → SoundGroups top enclosing 2 g
-    → fillSize (countOf s f) g ≡ fillSize (countOf s 0) g
-unfolding fillSize
-fill-size-same s f top enclosing noGroup e = refl
-fill-size-same s f top enclosing (group h ps inside behind) e =
-    let i = lower-size s f top (ps ++ enclosing) 3 inside (omega arith) (e .3) in
-    let b = fill-size-same s f top enclosing behind (e .4) in
-    let step : Option ℕ → ℕ → Option ℕ = λ o n. elim (eqb (h .countKind) fill) [ true ↦ some (pointsSize ps + n) | false ↦ o ] in
-    ap (λ o. step o (groupsSize (countOf s f) inside)) b ∙ ap (step (fillSize (countOf s 0) behind)) i
+  -- Whatever fills the model, an instance of the fill group has one measure.
+  pub fill-same : (g : Groups) → SoundGroups top enclosing 2 g
+      → fillMeasured weight (countOf s f) g ≡ fillMeasured weight (countOf s 0) g
+  unfolding fillMeasured
+  fill-same noGroup e = refl
+  fill-same (group h ps inside next) e =
+      let i = lower-measure s f weight top (ps ++ enclosing) 3 inside (omega arith) (e .3) in
+      let step : Option ℕ → ℕ → Option ℕ =
+      λ o n. elim (eqb (h .countKind) fill) [ true ↦ some (weight ps + n) | false ↦ o ] in
+      ap (λ o. step o (measured weight (countOf s f) inside)) (fill-same next (e .4))
+      ∙ ap (step (fillMeasured weight (countOf s 0) next)) i
 
 -- An instance of the fill group takes at least one register.
 pub fill-takes-registers : (count : Head → ℕ) (top enclosing : List Point) (level : ℕ) (g : Groups)
     → SoundGroups top enclosing level g → (size : ℕ) → fillSize count g ≡ some size → 1 ≤ size
-unfolding fillSize
+unfolding fillMeasured
 fill-takes-registers count top enclosing level noGroup e size q = impossible (cc)
 fill-takes-registers count top enclosing level (group h ps inside behind) e size q =
     go (eqb (h .countKind) fill) (fill-takes-registers count top enclosing level behind (e .4) size) q
@@ -168,8 +170,8 @@ module _ (top enclosing : List Point) (c : Content) (body : List ℕ) (e : Sound
           → (fitsBy o ≡ true) ↔ (L ≡ pointsSize (c .points) + groupsSize (countOf s (fillBy o)) (c .groups))
       go none q = (λ t. eqb-true L rest t, λ t. eq-eqb L rest t)
       go (some size) q =
-          let a = counts-differ-only-at-fill s ((L - rest) / size) top enclosing (c .groups) e in
-          let z : sizeOr0 (fillSize (countOf s 0) (c .groups)) ≡ size = ap sizeOr0 q in
+          let a = fill-adds pointsSize s ((L - rest) / size) top enclosing (c .groups) e in
+          let z : or0 (fillSize (countOf s 0) (c .groups)) ≡ size = ap or0 q in
           let b : groupsSize (countOf s ((L - rest) / size)) (c .groups)
           ≡ groupsSize (countOf s 0) (c .groups) + (L - rest) / size * size =
           a ∙ ap (λ n. groupsSize (countOf s 0) (c .groups) + (L - rest) / size * n) z in

@@ -1,45 +1,47 @@
--- What tiling means for one and for two: none lies outside, and no two overlap.
-use mathlib.Core.Path.{_≡_}
+-- What tiling means for one element and for two: none is outside the bounds, and no two overlap.
+use mathlib.Core.Path.{_≡_, refl}
 use mathlib.Core.List.{List, [], _∷_, _++_}
+use mathlib.Core.Logic.{_⊎_, inl, inr}
 use Prim.Native.Nat.{ℕ, _+_, _≤_}
 use native.Mathlib.Omega.{arith}
+use lib.ListN.{length}
 use Rattle.lists.specs.Members.{In, first, later}
-use Rattle.catalog.specs.Frames.{Point}
+use Rattle.lists.proofs.InLaws.{in-behind}
 use Rattle.layout.specs.Tiling.{Tiles}
 
-module _ {A : Type 0} (at number : A → ℕ) where
-  -- Tiling goes upward.
-  pub upward : (from to : ℕ) (xs : List A) (qs : List Point) → Tiles at number from to xs qs → from ≤ to
-  upward from to [] [] t = omega arith
-  upward from to [] (q ∷ qs) t = absurd t
-  upward from to (x ∷ xs) [] t = absurd t
-  upward from to (x ∷ xs) (q ∷ qs) t = let r = upward (from + q .size) to xs qs (t .3) in omega arith
+module _ {A : Type 0} (at size : A → ℕ) where
+  -- Tiling goes upward,
+  pub upward : (from to : ℕ) (xs : List A) → Tiles at size from to xs → from ≤ to
+  upward from to [] t = omega (arith, t)
+  upward from to (x ∷ xs) t = let r = upward (from + size x) to xs (t .2) in omega arith
 
-  -- The registers of each lie within the bounds.
-  pub inside : (from to : ℕ) (front : List A) (x : A) (behind : List A) (qs : List Point)
-      → Tiles at number from to (front ++ x ∷ behind) qs
-      → (q : Point) × (In q qs) × (number x ≡ q .number) × (from ≤ at x) × (at x + q .size ≤ to)
-  inside from to [] x behind [] t = absurd t
-  inside from to [] x behind (q ∷ qs) t =
-      let begins = t .0 in
-      let up = upward (from + q .size) to behind qs (t .3) in
-      (q, first, t .1, omega arith, omega arith)
-  inside from to (f ∷ front) x behind [] t = absurd t
-  inside from to (f ∷ front) x behind (q ∷ qs) t =
-      let r = inside (from + q .size) to front x behind qs (t .3) in
-      let above = r .3 in
-      (r .0, later (r .1), r .2, omega arith, r .4)
+  -- with no more elements than registers.
+  pub few : (from to : ℕ) (xs : List A) → Tiles at size from to xs → from + length xs ≤ to
+  few from to [] t = omega (arith, t)
+  few from to (x ∷ xs) t = let r = few (from + size x) to xs (t .2) in omega (arith, t .1, r)
 
-  -- Of two, the registers of the first end before those of the second begin.
-  pub apart : (from to : ℕ) (front : List A) (x : A) (between : List A) (y : A) (behind : List A) (qs : List Point)
-      → Tiles at number from to (front ++ x ∷ (between ++ y ∷ behind)) qs
-      → (q : Point) × (In q qs) × (number x ≡ q .number) × (at x + q .size ≤ at y)
-  apart from to [] x between y behind [] t = absurd t
-  apart from to [] x between y behind (q ∷ qs) t =
-      let begins = t .0 in
-      let above = inside (from + q .size) to between y behind qs (t .3) .3 in
-      (q, first, t .1, omega arith)
-  apart from to (f ∷ front) x between y behind [] t = absurd t
-  apart from to (f ∷ front) x between y behind (q ∷ qs) t =
-      let r = apart (from + q .size) to front x between y behind qs (t .3) in
-      (r .0, later (r .1), r .2, r .3)
+  -- Each takes a register or more, within the bounds.
+  pub inside : (from to : ℕ) (xs : List A) → Tiles at size from to xs → (x : A) → In x xs
+      → (from ≤ at x) × (1 ≤ size x) × (at x + size x ≤ to)
+  inside from to (y ∷ xs) t x first =
+      let u = upward (from + size x) to xs (t .2) in (omega (arith, t .0), t .1, omega (arith, t .0, u))
+  inside from to (y ∷ xs) t x (later i) =
+      let r = inside (from + size y) to xs (t .2) x i in (omega (arith, r .0), r .1, r .2)
+
+  -- Of two, one ends before the other begins, or they are the same.
+  pub apart : (from to : ℕ) (xs : List A) → Tiles at size from to xs → (x y : A) → In x xs → In y xs
+      → (y ≡ x) ⊎ ((at y + size y ≤ at x) ⊎ (at x + size x ≤ at y))
+  apart from to (z ∷ xs) t x y first first = inl refl
+  apart from to (z ∷ xs) t x y first (later j) =
+      let r = inside (from + size z) to xs (t .2) y j in inr (inr (omega (arith, t .0, r .0)))
+  apart from to (z ∷ xs) t x y (later i) first =
+      let r = inside (from + size z) to xs (t .2) x i in inr (inl (omega (arith, t .0, r .0)))
+  apart from to (z ∷ xs) t x y (later i) (later j) = apart (from + size z) to xs (t .2) x y i j
+
+  -- They are in the order of their addresses.
+  pub in-order : (from to : ℕ) (front : List A) (x : A) (between : List A) (y : A) (rest : List A)
+      → Tiles at size from to (front ++ x ∷ (between ++ y ∷ rest)) → at x + size x ≤ at y
+  in-order from to [] x between y rest t =
+      let r = inside (from + size x) to (between ++ y ∷ rest) (t .2) y (in-behind y between (y ∷ rest) first) in
+      omega (arith, t .0, r .0)
+  in-order from to (z ∷ front) x between y rest t = in-order (from + size z) to front x between y rest (t .2)

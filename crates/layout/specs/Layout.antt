@@ -7,7 +7,7 @@ use lib.Dec.{eqb, leb}
 use lib.ListN.{length, getD, set}
 use Rattle.catalog.specs.Frames.{Point, Head, constantCount, countByPoint, fill}
 use Rattle.catalog.specs.Definitions.{Groups, noGroup, group, Content, pointsSize}
-use Rattle.layout.specs.Points.{ModelPoint, Scope, pointAt}
+use Rattle.layout.specs.Points.{ModelPoint, Scope, Instance, pointAt}
 
 -- ---- Scopes
 
@@ -42,17 +42,29 @@ countOf top filling h =
       | false ↦ elim (eqb (h .countKind) countByPoint) [ true ↦ top (h .count) | false ↦ filling ]
     ]
 
--- The registers of groups side by side: of each, count × the size of an instance, which is its points and the groups in it.
-unfoldable pub groupsSize : (Head → ℕ) → Groups → ℕ
-groupsSize count noGroup = 0
-groupsSize count (group h ps inside behind) =
-    count h * (pointsSize ps + groupsSize count inside) + groupsSize count behind
+-- What sibling groups measure, by a weight of points: of each group, count × an instance, which is its points and the groups in
+-- it.
+unfoldable pub measured : (List Point → ℕ) → (Head → ℕ) → Groups → ℕ
+measured weight count noGroup = 0
+measured weight count (group h ps inside next) =
+    count h * (weight ps + measured weight count inside) + measured weight count next
+
+-- What an instance of the fill group measures, if one of these groups is it.
+unfoldable pub fillMeasured : (List Point → ℕ) → (Head → ℕ) → Groups → Option ℕ
+fillMeasured weight count noGroup = none
+fillMeasured weight count (group h ps inside next) =
+    elim (eqb (h .countKind) fill) [
+      | true ↦ some (weight ps + measured weight count inside)
+      | false ↦ fillMeasured weight count next
+    ]
+
+-- The registers of sibling groups.
+abbrev pub groupsSize : (Head → ℕ) → Groups → ℕ
+groupsSize = measured pointsSize
 
 -- The size of an instance of the fill group, if one of these groups is it.
-unfoldable pub fillSize : (Head → ℕ) → Groups → Option ℕ
-fillSize count noGroup = none
-fillSize count (group h ps inside behind) =
-    elim (eqb (h .countKind) fill) [ true ↦ some (pointsSize ps + groupsSize count inside) | false ↦ fillSize count behind ]
+abbrev pub fillSize : (Head → ℕ) → Groups → Option ℕ
+fillSize = fillMeasured pointsSize
 
 -- 28: a count point of one of these groups, or of a group in them, reads FFFF.
 unfoldable pub countUnimplemented : Scope → Groups → Bool
@@ -89,33 +101,51 @@ countsOf c body = countOf (topScope (c .points) body) (fillOf c body)
 
 -- ---- Points
 
--- The points of an instance, laid from an offset on, with the instance numbers on the way to it.
-unfoldable pub pointsAt : List ℕ → Scope → List ℕ → ℕ → List Point → List ModelPoint
-pointsAt body scope path offset [] = []
-pointsAt body scope path offset (p ∷ ps) =
-    pointAt body scope path offset p ∷ pointsAt body scope path (offset + p .size) ps
+-- The points of an instance, placed from an offset on.
+unfoldable pub pointsAt : List ℕ → Instance → ℕ → List Point → List ModelPoint
+pointsAt body i offset [] = []
+pointsAt body i offset (p ∷ ps) = pointAt body i offset p ∷ pointsAt body i (offset + p .size) ps
 
--- n instances of a size, one behind the other, from number j and an offset on.
+-- n consecutive instances of a size, from number j and an offset on.
 unfoldable pub instances : ℕ → ℕ → ℕ → ℕ → (ℕ → ℕ → List ModelPoint) → List ModelPoint
 instances zero j offset size one = []
 instances (suc n) j offset size one = one j offset ++ instances n (suc j) (offset + size) size one
 
--- The points of groups side by side at a level, laid from an offset on: each group's instances in full, an instance's own
--- points first. Number j at level 2, 3 or 4 stands at place 0, 1 or 2 of the path.
-unfoldable pub groupsAt : List ℕ → (Head → ℕ) → ℕ → Scope → List ℕ → ℕ → Groups → List ModelPoint
-groupsAt body count level scope path offset noGroup = []
-groupsAt body count level scope path offset (group h ps inside behind) =
+-- How instance j of a group of a level comes about, by the offset and the group's own points that are placed there, within the
+-- instance around it.
+abbrev pub Entering : Type 0
+Entering = ℕ → ℕ → ℕ → List Point → Instance → Instance
+
+-- The points of sibling groups of a level, placed from an offset on: each group's instances in full, an instance's own points
+-- first. Where they are depends in no way on what an instance is.
+unfoldable pub groupsBy : Entering → List ℕ → (Head → ℕ) → ℕ → Instance → ℕ → Groups → List ModelPoint
+groupsBy enter body count level i offset noGroup = []
+groupsBy enter body count level i offset (group h ps inside next) =
     instances (count h) 0 offset (pointsSize ps + groupsSize count inside) (λ j at.
-    pointsAt body (within body at ps scope) (set path (level - 2) j) at ps
-    ++ groupsAt body count (suc level) (within body at ps scope) (set path (level - 2) j) (at + pointsSize ps) inside)
-    ++ groupsAt body count level scope path (offset + count h * (pointsSize ps + groupsSize count inside)) behind
+    pointsAt body (enter level j at ps i) at ps
+    ++ groupsBy enter body count (suc level) (enter level j at ps i) (at + pointsSize ps) inside)
+    ++ groupsBy enter body count level i (offset + count h * (pointsSize ps + groupsSize count inside)) next
+
+-- Within an instance its own points come into scope, and its number is that of its level (place 0, 1 or 2 of the path for level
+-- 2, 3 or 4).
+unfoldable pub entered : List ℕ → Entering
+entered body level j offset ps around =
+    record { scope = within body offset ps (around .scope); path = set (around .path) (level - 2) j }
+
+-- The points of sibling groups.
+abbrev pub groupsAt : List ℕ → (Head → ℕ) → ℕ → Instance → ℕ → Groups → List ModelPoint
+groupsAt body = groupsBy (entered body) body
 
 -- The path of the top group: no instance number.
 abbrev pub noInstance : List ℕ
 noInstance = 0 ∷ 0 ∷ 0 ∷ []
 
+-- The top group of a model, of which there is one instance.
+abbrev pub topInstance : List Point → List ℕ → Instance
+topInstance ps body = record { scope = topScope ps body; path = noInstance }
+
 -- The points of a model: those of its top group, then those of its groups.
 unfoldable pub contentAt : Content → List ℕ → List ModelPoint
 contentAt c body =
-    pointsAt body (topScope (c .points) body) noInstance 0 (c .points)
-    ++ groupsAt body (countsOf c body) 2 (topScope (c .points) body) noInstance (pointsSize (c .points)) (c .groups)
+    pointsAt body (topInstance (c .points) body) 0 (c .points)
+    ++ groupsAt body (countsOf c body) 2 (topInstance (c .points) body) (pointsSize (c .points)) (c .groups)

@@ -20,10 +20,16 @@ pub record ModelPoint : Type 0 where
   pub raw : ℕ
   pub scale : ℕ
 
--- The first register of the point with a number, for the points in reach: those of the same instance and of the instances
+-- The first register of the point with a number, for the points in scope: those of the same instance and of the instances
 -- around it.
 abbrev pub Scope : Type 0
 Scope = ℕ → ℕ
+
+-- An instance of a group, as its points see it: what is in scope, and the instance numbers at levels 2, 3 and 4 on the way to it
+-- (three numbers, 0 where absent).
+pub record Instance : Type 0 where
+  pub scope : Scope
+  pub path : List ℕ
 
 -- The status of a value by its scale factor: 3 where the scale point is unimplemented, 4 where it is out of range, else 0.
 abbrev pub scaleStatus : Classified → ℕ
@@ -65,16 +71,16 @@ abbrev pub statusAt : List ℕ → Scope → ℕ → Point → ℕ
 statusAt body scope offset p =
     statusOf p (classified (p .typeCode) (join (registersAt body offset p))) (scope (p .scale))
 
--- A point at an offset, with what is in reach and the instance numbers on the way to it.
-unfoldable pub pointAt : List ℕ → Scope → List ℕ → ℕ → Point → ModelPoint
-pointAt body scope path offset p =
+-- A point of an instance, at an offset.
+unfoldable pub pointAt : List ℕ → Instance → ℕ → Point → ModelPoint
+pointAt body i offset p =
     record {
       offset = offset;
       definition = p;
-      level2 = getD path 0 0;
-      level3 = getD path 1 0;
-      level4 = getD path 2 0;
-      status = statusAt body scope offset p;
+      level2 = getD (i .path) 0 0;
+      level3 = getD (i .path) 1 0;
+      level4 = getD (i .path) 2 0;
+      status = statusAt body (i .scope) offset p;
       raw = shownRaw (registersAt body offset p);
-      scale = scaleOf p (statusAt body scope offset p) (scope (p .scale));
+      scale = scaleOf p (statusAt body (i .scope) offset p) (i .scope (p .scale));
     }

@@ -9,7 +9,7 @@ use Rattle.catalog.specs.Frames.{Point, pad}
 use Rattle.catalog.specs.Definitions.{Groups, noGroup, group, Content, Definition, pointsSize}
 use Rattle.register_map.specs.Scan.{Model}
 use Rattle.layout.specs.Points.{ModelPoint}
-use Rattle.layout.specs.Layout.{topScope, countUnimplemented, fits, noInstance, pointsAt, contentAt}
+use Rattle.layout.specs.Layout.{topScope, countUnimplemented, fits, topInstance, pointsAt, contentAt}
 
 -- 27: the length is under the top points. 28: a count point is unimplemented. 29: the length is not the size.
 pub data Fault : Type 0 where
@@ -65,7 +65,7 @@ laidOut c body =
 unfoldable pub readBy : ℕ → Content → List ℕ → Reading
 readBy id c body =
     elim (padLeftOut id c (length body)) [
-      | true ↦ points (pointsAt body (topScope (allButLast (c .points)) body) noInstance 0 (allButLast (c .points)))
+      | true ↦ points (pointsAt body (topInstance (allButLast (c .points)) body) 0 (allButLast (c .points)))
       | false ↦ laidOut c body
     ]
 

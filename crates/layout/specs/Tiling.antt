@@ -1,4 +1,4 @@
--- A model's points lie one behind the other, from the register behind its length to its last.
+-- A model's points fill its body: they are consecutive, from the register after its length to its last.
 use mathlib.Core.Path.{_≡_}
 use mathlib.Core.List.{List, [], _∷_, _++_}
 use Prim.Native.Nat.{ℕ, _+_, _≤_}
@@ -21,17 +21,17 @@ definedPoints d = d .top .points ++ lowerPoints (d .top .groups)
 
 -- ---- Tiling
 
--- What lies one behind the other without gap or overlap, from an address up to another: each is a point of the catalog by its
--- number, takes that point's registers, one or more, and the next begins right behind it.
-abbrev pub Tiles : {A : Type 0} → (A → ℕ) → (A → ℕ) → ℕ → ℕ → List A → List Point → Type 0
-Tiles at number from to [] [] = from ≡ to
-Tiles at number from to [] (q ∷ qs) = ⊥
-Tiles at number from to (x ∷ xs) [] = ⊥
-Tiles at number from to (x ∷ xs) (q ∷ qs) =
-    (at x ≡ from) × (number x ≡ q .number) × (1 ≤ q .size) × Tiles at number (from + q .size) to xs qs
+-- Consecutive elements without gap or overlap, from an address up to another: each takes one register or more, and the next begins
+-- where it ends.
+abbrev pub Tiles : {A : Type 0} → (A → ℕ) → (A → ℕ) → ℕ → ℕ → List A → Type 0
+Tiles at size from to [] = from ≡ to
+Tiles at size from to (x ∷ xs) = (at x ≡ from) × (1 ≤ size x) × Tiles at size (from + size x) to xs
 
--- The points of a model, by the points of its definition, fill its body of a length.
+-- Points tile the registers of a body from an offset up to another, each by its own definition.
+abbrev pub PointsTile : ℕ → ℕ → List ModelPoint → Type 0
+PointsTile = Tiles (λ p. p .offset) (λ p. p .definition .size)
+
+-- The points of a model are points of its definition, and fill its body of a length.
 pub record BodyTiled (d : Definition) (len : ℕ) (ps : List ModelPoint) : Type 0 where
-  pub by : List Point
-  pub defined : Each (λ q. In q (definedPoints d)) by
-  pub tiles : Tiles (λ p. p .offset) (λ p. p .definition .number) 0 len ps by
+  pub defined : Each (λ p. In (p .definition) (definedPoints d)) ps
+  pub tiles : PointsTile 0 len ps

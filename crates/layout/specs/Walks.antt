@@ -11,7 +11,7 @@ use Rattle.catalog.specs.Frames.{Point, Head, Frame, modelFrame, groupFrame, po
 use Rattle.catalog.specs.Checking as Checking
 use Rattle.catalog.specs.Definitions.{Content, pointFrames, groupFrames, parsed, inner, definitions}
 use Rattle.catalog.specs.Soundness.{numbersOf, SoundGroups}
-use Rattle.layout.specs.Points.{ModelPoint, Scope}
+use Rattle.layout.specs.Points.{ModelPoint, Scope, Instance}
 use Rattle.layout.specs.Layout.{fillOf}
 use Rattle.layout.specs.Reading.{topOf, Reading, unknown, faulty, points, faultNumber, reading}
 
@@ -77,7 +77,11 @@ isModelOf id malformed = false
 abbrev pub scopeIn : List ℕ → Scope
 scopeIn table n = getD table n 0
 
--- A table behind points that are laid from an offset on.
+-- The instance whose scope a table holds, with a path.
+abbrev pub instanceIn : List ℕ → List ℕ → Instance
+instanceIn table path = record { scope = scopeIn table; path = path }
+
+-- The table after recording the points that are placed from an offset on.
 unfoldable pub noted : List ℕ → ℕ → List Point → List ℕ → List ℕ
 noted body offset [] table = table
 noted body offset (p ∷ ps) table = noted body (offset + p .size) ps (set table (p .number) (getD body offset 0))

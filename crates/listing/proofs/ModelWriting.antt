@@ -37,8 +37,8 @@ use Rattle.listing.proofs.WrittenRecords as lists
 
 -- The points of a model in full.
 content-parts : (c : Content) (body : List ℕ) → contentAt c body
-    ≡ pointsAt body (topScope (c .points) body) noInstance 0 (c .points)
-    ++ groupsAt body (countsOf c body) 2 (topScope (c .points) body) noInstance (pointsSize (c .points)) (c .groups)
+    ≡ pointsAt body (topInstance (c .points) body) 0 (c .points)
+    ++ groupsAt body (countsOf c body) 2 (topInstance (c .points) body) (pointsSize (c .points)) (c .groups)
 unfolding contentAt
 content-parts c body = refl
 
@@ -113,7 +113,7 @@ module _ {ws : List ℕ} {id : ℕ} {body table : List ℕ} {first fill : ℕ} (
         ∙ within-own body 0 qs (scopeIn (ready .before)) nothing p i
 
     same-points : Each (ScaleResolves qs) qs
-        → pointsAt body (scopeIn table) noInstance 0 laid ≡ pointsAt body (topScope qs body) noInstance 0 qs
+        → pointsAt body (scopeIn table) noInstance 0 laid ≡ pointsAt body (topInstance qs body) 0 qs
     same-points r =
         ap (pointsAt body (scopeIn table) noInstance 0) e
         ∙ points-agree body noInstance 0 qs qs (scopeIn table) (topScope qs body) r agree-laid
@@ -144,22 +144,22 @@ module _ {ws : List ℕ} {id : ℕ} {body table : List ℕ} {first fill : ℕ} (
     in-full = laid-size ps ps top body sound-groups (f .fitting)
 
     same-groups : (offset : ℕ) → groupsAt body (countOf (scopeIn table) fill) 2 (scopeIn table) noInstance offset (top .groups)
-        ≡ groupsAt body (countsOf top body) 2 (topScope ps body) noInstance offset (top .groups)
+        ≡ groupsAt body (countsOf top body) 2 (topInstance ps body) offset (top .groups)
     same-groups offset =
         groups-agree body fill ps (scopeIn table) (topScope ps body) agree-top noInstance offset ps 2 (top .groups) sound-groups
         (scopeIn table)
         (topScope ps body) agree-top
-        ∙ ap (λ n. groupsAt body (countOf (topScope ps body) n) 2 (topScope ps body) noInstance offset (top .groups))
+        ∙ ap (λ n. groupsAt body (countOf (topScope ps body) n) 2 (topInstance ps body) offset (top .groups))
         (ready .filling)
 
     -- Where the top points fill the body, no group has a point.
     no-lower : pointsSize ps ≡ length body
-        → groupsAt body (countsOf top body) 2 (topScope ps body) noInstance (pointsSize ps) (top .groups) ≡ []
+        → groupsAt body (countsOf top body) 2 (topInstance ps body) (pointsSize ps) (top .groups) ≡ []
     no-lower e =
         let g = pointCounts.groups-fit (countsOf top body) ps ps 2 (top .groups) sound-groups in
-        let n = pointCounts.groups-counted body (countsOf top body) 2 (topScope ps body) noInstance (pointsSize ps)
+        let n = pointCounts.groups-counted body (countsOf top body) 2 (topInstance ps body) (pointsSize ps)
         (top .groups) in
-        none-left (groupsAt body (countsOf top body) 2 (topScope ps body) noInstance (pointsSize ps) (top .groups))
+        none-left (groupsAt body (countsOf top body) 2 (topInstance ps body) (pointsSize ps) (top .groups))
         (omega (arith, g, n, in-full, e))
       where
         none-left : (xs : List ModelPoint) → length xs ≡ 0 → xs ≡ []
@@ -194,7 +194,7 @@ module _ {ws : List ℕ} {id : ℕ} {body table : List ℕ} {first fill : ℕ} (
             let b = pads.begun-but-pad ps id top (length body) sound-points e in
             let z = pads.without-pad ps ps sound-points (l .1) in
             let n = ap (λ x. length (pointsOf x)) q
-            ∙ pointCounts.points-counted body (topScope (allButLast ps) body) noInstance 0 (allButLast ps) in
+            ∙ pointCounts.points-counted body (topInstance (allButLast ps) body) 0 (allButLast ps) in
             asks (omega (arith, ap pointsSize b, z, l .2)) (omega (arith, ap length b, n))
         go r q (full kept f) =
             let b = all-laid f in
@@ -213,7 +213,7 @@ module _ {ws : List ℕ} {id : ℕ} {body table : List ℕ} {first fill : ℕ} (
             ∙ sym (ap pointsOf q)
         go r q (full kept f) =
             let z = ap pointsSize (all-laid f) in
-            let P = pointsAt body (topScope ps body) noInstance 0 ps in
+            let P = pointsAt body (topInstance ps body) 0 ps in
             same-points ps (all-laid f) resolved
             ∙ sym (append-nil P)
             ∙ ap (λ xs. P ++ xs) (sym (no-lower f (omega (arith, z, e))))
@@ -297,12 +297,12 @@ module _ {ws : List ℕ} {id : ℕ} {body table : List ℕ} {first fill : ℕ} (
           (heldAt ws (at₁ .frame) .groups)) out₁
           → out₂ ≡ written visit records (pointsOf read) out
       list-behind e =
-          let P = pointsAt body (topScope ps body) noInstance 0 ps in
-          let Q = groupsAt body (countsOf top body) 2 (topScope ps body) noInstance (pointsSize ps) (top .groups) in
+          let P = pointsAt body (topInstance ps body) 0 ps in
+          let Q = groupsAt body (countsOf top body) 2 (topInstance ps body) (pointsSize ps) (top .groups) in
           let W : ℕ → ℕ → Groups → List ℕ → List ℕ = λ r a g l.
           written visit r (groupsAt body (countOf (scopeIn table) fill) 2 (scopeIn table) noInstance a g) l in
           let b = all-laid f in
-          let n = pointCounts.points-counted body (topScope ps body) noInstance 0 ps in
+          let n = pointCounts.points-counted body (topInstance ps body) 0 ps in
           let r : at₁ .records ≡ records + length P = omega (arith, run .records, ap length b, n) in
           let a : at₁ .offset ≡ pointsSize ps = omega (arith, run .offset, ap pointsSize b) in
           let o : out₁ ≡ written visit records P out =

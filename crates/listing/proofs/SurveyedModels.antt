@@ -264,9 +264,9 @@ module _ (id : ℕ) (c : Content) (body : List ℕ) where
   pad-surveyed e =
       let l = left-out id c (length body) e in
       let b = but-one (c .points) (l .1) in
-      let p = points-counted body (topScope (allButLast (c .points)) body) noInstance 0 (allButLast (c .points)) in
+      let p = points-counted body (topInstance (allButLast (c .points)) body) 0 (allButLast (c .points)) in
       let k : length (c .points) - 1
-      ≡ length (pointsAt body (topScope (allButLast (c .points)) body) noInstance 0 (allButLast (c .points))) =
+      ≡ length (pointsAt body (topInstance (allButLast (c .points)) body) 0 (allButLast (c .points))) =
       omega (arith, b, p) in
       rw (e, readBy) (ap surveyedPoints k)
 

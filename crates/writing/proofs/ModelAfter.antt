@@ -105,7 +105,7 @@ module _ (d : Definition) (sound : SoundDefinition d) (body : List ℕ) (ps : Li
 
   -- In a model that is read in full, by the places of its top points and of those of its groups.
   module _ (ownPlaces : Each (Place (d .top) w)
-      (pointsAt body (topScope (d .top .points) body) noInstance 0 (d .top .points))) where
+      (pointsAt body (topInstance (d .top .points) body) 0 (d .top .points))) where
     -- The scope of its top group before the write,
     abbrev old : Scope
     old = topScope (d .top .points) body
