@@ -39,9 +39,12 @@ points-tile : (body : List ℕ) (i : Instance) (offset : ℕ) (ps : List Point) 
 unfolding pointsAt pointAt
 points-tile body i offset [] e = omega arith
 points-tile body i offset (p ∷ ps) e =
-    let q : offset + p .size + pointsSize ps ≡ offset + (p .size + pointsSize ps) = omega arith in
-    (refl, e .0, subst (λ to. PointsTile (offset + p .size) to (pointsAt body i (offset + p .size) ps)) q
-    (points-tile body i (offset + p .size) ps (e .1)))
+    let q : offset + p .size + pointsSize ps ≡ offset + (p .size + pointsSize ps) = omega arith in (
+      refl,
+      e .0,
+      subst (λ to. PointsTile (offset + p .size) to (pointsAt body i (offset + p .size) ps)) q
+          (points-tile body i (offset + p .size) ps (e .1)),
+    )
 
 -- The points of groups.
 groups-tile : (enter : Entering) (body : List ℕ) (count : Head → ℕ) (level : ℕ) (i : Instance) (offset : ℕ) (g : Groups)

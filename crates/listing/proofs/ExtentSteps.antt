@@ -12,8 +12,8 @@ use Rattle.lists.proofs.TestOutcomes.{impossible, clash}
 use Rattle.catalog.specs.Frames.{Point, Head, countByPoint, fill}
 use Rattle.catalog.specs.Definitions.{Groups, noGroup, group, pointsSize}
 use Rattle.layout.specs.Points.{Scope}
-use Rattle.layout.specs.Layout.{countOf, groupsSize, fillSize, countUnimplemented}
-use Rattle.layout.specs.Counts.{groupsPoints, fillPoints, sizeOr0}
+use Rattle.layout.specs.Layout.{countOf, measured, fillMeasured, groupsSize, fillSize, countUnimplemented}
+use Rattle.layout.specs.Counts.{groupsPoints, fillPoints, or0}
 use Rattle.layout.proofs.Capping.{capped-factor}
 use Rattle.listing.specs.Promises.{ExtentOf, SameExtent, WithGroup}
 use Rattle.listing.specs.declared.extents.Run.{Run}
@@ -29,8 +29,8 @@ pub record SummedUp (top : Scope) (all rest : Groups) (sum : Extent) : Type 0 wh
   pub sizes : min (sum .size + groupsSize (countOf top 0) rest) 65536 ≡ min (groupsSize (countOf top 0) all) 65536
   pub points : min (sum .points + groupsPoints (countOf top 0) rest) 65536 ≡ min (groupsPoints (countOf top 0) all) 65536
   pub capped : (sum .size ≤ 65536) × (sum .points ≤ 65536)
-  pub fillSizes : sum .«fill_size» + min (sizeOr0 (fillSize (countOf top 0) rest)) 65536
-      ≡ min (sizeOr0 (fillSize (countOf top 0) all)) 65536
+  pub fillSizes : sum .«fill_size» + min (or0 (fillSize (countOf top 0) rest)) 65536
+      ≡ min (or0 (fillSize (countOf top 0) all)) 65536
   pub fillPoints : sum .«fill_points» + min (fillPoints (countOf top 0) rest) 65536 ≡ min (fillPoints (countOf top 0) all) 65536
   pub noFill : NoFillYet rest sum
   pub unimplemented : (sum .unimplemented || countUnimplemented top rest) ≡ countUnimplemented top all
@@ -71,7 +71,7 @@ not-filled false size old new f n z = n ∙ z
 
 -- The size that a test picks.
 size-picked : (b : Bool) (size : ℕ) (other : Option ℕ)
-    → sizeOr0 (elim b [ true ↦ some size | false ↦ other ]) ≡ elim b [ true ↦ size | false ↦ sizeOr0 other ]
+    → or0 (elim b [ true ↦ some size | false ↦ other ]) ≡ elim b [ true ↦ size | false ↦ or0 other ]
 size-picked true size other = refl
 size-picked false size other = refl
 
@@ -106,7 +106,7 @@ module _ (top : Scope) (all : Groups) where
 
   -- All are met.
   pub all-met : (sum r : Extent) → SummedUp top all noGroup sum → SameExtent sum r → ExtentOf top all r
-  unfolding groupsSize groupsPoints fillSize fillPoints countUnimplemented
+  unfolding measured fillMeasured countUnimplemented
   all-met sum r s c =
       record {
         size = let e = s .sizes in omega (arith, e, c .size, s .capped .0);
@@ -127,12 +127,16 @@ module _ (top : Scope) (all : Groups) where
       (r : Extent) (w : WithGroup sum top h run lower r) where
     -- One more is met.
     pub one-more : SummedUp top all behind r
-    unfolding groupsSize groupsPoints fillSize fillPoints countUnimplemented
+    unfolding measured fillMeasured countUnimplemented
     one-more =
         let count = countOf top 0 in
         let fills = eqb (h .countKind) fill in
         let here = eqb (h .countKind) countByPoint && eqb (top (h .count)) 0xFFFF in
-        let picked = size-picked fills (pointsSize ps + groupsSize count inside) (fillSize count behind) in
+        let picked : (weight : List Point → ℕ) → or0 (elim fills [
+          | true ↦ some (weight ps + measured weight count inside)
+          | false ↦ fillMeasured weight count behind
+        ]) ≡ elim fills [ true ↦ weight ps + measured weight count inside | false ↦ or0 (fillMeasured weight count behind) ] =
+        λ weight. size-picked fills (weight ps + measured weight count inside) (fillMeasured weight count behind) in
         let last-here : fills ≡ true → behind ≡ noGroup = λ t. last (eqb-true (h .countKind) fill t) in
         record {
           sizes = total (sum .size) (count h) (pointsSize ps) (groupsSize count inside) (groupsSize count behind) _ (run .size)
@@ -140,12 +144,13 @@ module _ (top : Scope) (all : Groups) where
           points = total (sum .points) (count h) (length ps) (groupsPoints count inside) (groupsPoints count behind) _
               (run .points) (lower .points) (r .points) (s .points) points (i .points) (w .points);
           capped = (omega (arith, w .size), omega (arith, w .points));
-          fillSizes = filled fills (pointsSize ps) (groupsSize count inside) (sizeOr0 (fillSize count behind)) _ (run .size)
+          fillSizes = filled fills (pointsSize ps) (groupsSize count inside) (or0 (fillSize count behind)) _ (run .size)
               (lower .size) (sum .«fill_size») (r .«fill_size»)
-              (ap (λ n. sum .«fill_size» + min n 65536) (sym picked) ∙ s .fillSizes) (s .noFill .0)
-              (λ t. ap (λ g. sizeOr0 (fillSize count g)) (last-here t)) size (i .size) (w .fillSize);
+              (ap (λ n. sum .«fill_size» + min n 65536) (sym (picked pointsSize)) ∙ s .fillSizes) (s .noFill .0)
+              (λ t. ap (λ g. or0 (fillSize count g)) (last-here t)) size (i .size) (w .fillSize);
           fillPoints = filled fills (length ps) (groupsPoints count inside) (fillPoints count behind) _ (run .points)
-              (lower .points) (sum .«fill_points») (r .«fill_points») (s .fillPoints) (s .noFill .1)
+              (lower .points) (sum .«fill_points») (r .«fill_points»)
+              (ap (λ n. sum .«fill_points» + min n 65536) (sym (picked length)) ∙ s .fillPoints) (s .noFill .1)
               (λ t. ap (fillPoints count) (last-here t)) points (i .points) (w .fillPoints);
           noFill = none-yet behind r fills last-here
               (λ f. (not-filled _ _ _ _ f (w .fillSize) (s .noFill .0), not-filled _ _ _ _ f (w .fillPoints) (s .noFill .1)));

@@ -14,13 +14,13 @@ use Rattle.catalog.specs.Definitions.{Groups, noGroup, group, pointsSize, point
 use Rattle.catalog.specs.Soundness.{numbersOf}
 use Rattle.catalog.proofs.References.{points-resolve}
 use Rattle.catalog.proofs.GroupNumbers.{none-of-parts, NoneOf}
-use Rattle.layout.specs.Points.{ModelPoint, Scope}
-use Rattle.layout.specs.Layout.{withPoint, within, countOf, groupsSize, pointsAt, instances, groupsAt}
+use Rattle.layout.specs.Points.{ModelPoint, Scope, Instance}
+use Rattle.layout.specs.Layout.{withPoint, within, countOf, measured, groupsSize, pointsAt, instances, entered, groupsBy, groupsAt}
 use Rattle.layout.specs.Counts.{groupsPoints}
-use Rattle.layout.specs.Walks.{scopeIn, Elsewhere, IsTable}
+use Rattle.layout.specs.Walks.{scopeIn, instanceIn, Elsewhere, IsTable}
 use Rattle.layout.proofs.IntoGroups.{SoundBelow, beside}
 use Rattle.layout.proofs.CountsAgree as counts
-use Rattle.layout.proofs.ReachOnly.{Agree, reach-agrees, groups-agree, points-agree}
+use Rattle.layout.proofs.ReachOnly.{Agree, reach-agrees, Alike, alike-entered, groups-agree, points-agree}
 use Rattle.layout.proofs.PointCounts as pointCounts
 use Rattle.listing.specs.Promises.{written}
 use Rattle.listing.specs.declared.records.Visit.{Visit}
@@ -28,27 +28,27 @@ use Rattle.listing.proofs.WrittenRecords as lists
 
 -- ---- From an instance on
 
-module _ (body : List ℕ) (count : Head → ℕ) (level : ℕ) (scope : Scope) (path : List ℕ) where
+module _ (body : List ℕ) (count : Head → ℕ) (level : ℕ) (around : Instance) where
   -- The points of instance j of a group.
   abbrev pub instancePoints : List Point → Groups → ℕ → ℕ → List ModelPoint
   instancePoints ps inside j at =
-      pointsAt body (within body at ps scope) (set path (level - 2) j) at ps
-      ++ groupsAt body count (suc level) (within body at ps scope) (set path (level - 2) j) (at + pointsSize ps) inside
+      pointsAt body (entered body level j at ps around) at ps
+      ++ groupsAt body count (suc level) (entered body level j at ps around) (at + pointsSize ps) inside
 
   -- The points of groups from instance j of the first one on.
   abbrev pub fromInstance : ℕ → ℕ → Groups → List ModelPoint
   fromInstance j offset noGroup = []
   fromInstance j offset (group h ps inside behind) =
       instances (count h - j) j offset (pointsSize ps + groupsSize count inside) (instancePoints ps inside)
-      ++ groupsAt body count level scope path (offset + (count h - j) * (pointsSize ps + groupsSize count inside)) behind
+      ++ groupsAt body count level around (offset + (count h - j) * (pointsSize ps + groupsSize count inside)) behind
 
   -- All of them, from instance 0 on.
-  from-first : (offset : ℕ) (g : Groups) → fromInstance 0 offset g ≡ groupsAt body count level scope path offset g
-  unfolding groupsAt
+  from-first : (offset : ℕ) (g : Groups) → fromInstance 0 offset g ≡ groupsAt body count level around offset g
+  unfolding groupsBy
   from-first offset noGroup = refl
   from-first offset (group h ps inside behind) = let e : count h - 0 ≡ count h = omega arith in rw e
 
-  -- One instance and those behind it.
+  -- One instance and those after it.
   from-next : (j offset : ℕ) (h : Head) (ps : List Point) (inside behind : Groups) → j < count h
       → fromInstance j offset (group h ps inside behind)
       ≡ instancePoints ps inside j offset
@@ -63,9 +63,9 @@ module _ (body : List ℕ) (count : Head → ℕ) (level : ℕ) (scope : Scope) 
       ≡ instancePoints ps inside j offset ++ fromInstance k (offset + s) (group h ps inside behind) in
       subst P (sym (add-one j)) (rw (e, o)
       (append-assoc (instancePoints ps inside j offset) (instances m (suc j) (offset + s) s (instancePoints ps inside))
-      (groupsAt body count level scope path (offset + s + m * s) behind)))
+      (groupsAt body count level around (offset + s + m * s) behind)))
 
-  -- Behind the last instance come the groups behind.
+  -- After the last instance come the groups after this one.
   from-last : (j offset : ℕ) (h : Head) (ps : List Point) (inside behind : Groups) → count h ≤ j
       → fromInstance j offset (group h ps inside behind) ≡ fromInstance 0 offset behind
   unfolding instances
@@ -75,47 +75,28 @@ module _ (body : List ℕ) (count : Head → ℕ) (level : ℕ) (scope : Scope) 
       let o : offset + 0 * s ≡ offset = omega arith in
       rw (e, o) (sym (from-first offset behind))
 
--- The registers and the points of groups from instance j of the first one on.
-abbrev pub sizeFrom : (Head → ℕ) → ℕ → Groups → ℕ
-sizeFrom count j noGroup = 0
-sizeFrom count j (group h ps inside behind) = (count h - j) * (pointsSize ps + groupsSize count inside) + groupsSize count behind
+module _ (weight : List Point → ℕ) (count : Head → ℕ) where
+  -- What groups measure from instance j of the first one on.
+  abbrev pub measuredFrom : ℕ → Groups → ℕ
+  measuredFrom j noGroup = 0
+  measuredFrom j (group h ps inside behind) =
+      (count h - j) * (weight ps + measured weight count inside) + measured weight count behind
 
-abbrev pub pointsFrom : (Head → ℕ) → ℕ → Groups → ℕ
-pointsFrom count j noGroup = 0
-pointsFrom count j (group h ps inside behind) =
-    (count h - j) * (length ps + groupsPoints count inside) + groupsPoints count behind
-
-module _ (count : Head → ℕ) where
-  size-first : (g : Groups) → sizeFrom count 0 g ≡ groupsSize count g
-  unfolding groupsSize
-  size-first noGroup = refl
-  size-first (group h ps inside behind) = let e : count h - 0 ≡ count h = omega arith in rw e
-
-  points-first : (g : Groups) → pointsFrom count 0 g ≡ groupsPoints count g
-  unfolding groupsPoints
-  points-first noGroup = refl
-  points-first (group h ps inside behind) = let e : count h - 0 ≡ count h = omega arith in rw e
+  measure-first : (g : Groups) → measuredFrom 0 g ≡ measured weight count g
+  unfolding measured
+  measure-first noGroup = refl
+  measure-first (group h ps inside behind) = let e : count h - 0 ≡ count h = omega arith in rw e
 
   module _ (j : ℕ) (h : Head) (ps : List Point) (inside behind : Groups) where
-    pub size-next : j < count h → sizeFrom count j (group h ps inside behind)
-        ≡ pointsSize ps + groupsSize count inside + sizeFrom count (j + 1) (group h ps inside behind)
-    size-next l =
+    pub measure-next : j < count h → measuredFrom j (group h ps inside behind)
+        ≡ weight ps + measured weight count inside + measuredFrom (j + 1) (group h ps inside behind)
+    measure-next l =
         let m = count h - (j + 1) in
         let e : count h - j ≡ suc m = omega arith in
         rw e (omega arith)
 
-    pub points-next : j < count h → pointsFrom count j (group h ps inside behind)
-        ≡ length ps + groupsPoints count inside + pointsFrom count (j + 1) (group h ps inside behind)
-    points-next l =
-        let m = count h - (j + 1) in
-        let e : count h - j ≡ suc m = omega arith in
-        rw e (omega arith)
-
-    size-last : count h ≤ j → sizeFrom count j (group h ps inside behind) ≡ sizeFrom count 0 behind
-    size-last l = let e : count h - j ≡ 0 = omega arith in rw e (omega (arith, size-first behind))
-
-    points-last : count h ≤ j → pointsFrom count j (group h ps inside behind) ≡ pointsFrom count 0 behind
-    points-last l = let e : count h - j ≡ 0 = omega arith in rw e (omega (arith, points-first behind))
+    measure-last : count h ≤ j → measuredFrom j (group h ps inside behind) ≡ measuredFrom 0 behind
+    measure-last l = let e : count h - j ≡ 0 = omega arith in rw e (omega (arith, measure-first behind))
 
 -- ---- Scopes
 
@@ -152,24 +133,23 @@ module _ (body : List ℕ) (visit : Visit) (fill level : ℕ) (path table₀ out
     pub sound : SoundBelow top enclosing level g
     pub agree : Agree enclosing (scopeIn table) (scopeIn table₀)
     pub passed : Passed counting j g
-    pub left : written visit records (fromInstance body counting level (scopeIn table₀) path j offset g) out
-        ≡ written visit records₀ (groupsAt body counting level (scopeIn table₀) path offset₀ g₀) out₀
-    pub points : records + pointsFrom counting j g ≡ records₀ + groupsPoints counting g₀
-    pub size : offset + sizeFrom counting j g ≡ offset₀ + groupsSize counting g₀
+    pub left : written visit records (fromInstance body counting level (instanceIn table₀ path) j offset g) out
+        ≡ written visit records₀ (groupsAt body counting level (instanceIn table₀ path) offset₀ g₀) out₀
+    pub points : records + measuredFrom length counting j g ≡ records₀ + groupsPoints counting g₀
+    pub size : offset + measuredFrom pointsSize counting j g ≡ offset₀ + groupsSize counting g₀
     pub elsewhere : Elsewhere (numbersOf (groupFrames g₀)) table₀ table
     pub among₀ : (n : ℕ) → among n (numbersOf (groupFrames g₀)) ≡ false → among n (numbersOf (groupFrames g)) ≡ false
     pub isTable : IsTable table
     pub sameLength : length out ≡ length out₀
 
   -- What writing the own points and the groups of an instance gives.
-  pub record Instance (table out : List ℕ) (records offset j : ℕ) (ps : List Point) (inside : Groups)
+  pub record InstanceWritten (table out : List ℕ) (records offset j : ℕ) (ps : List Point) (inside : Groups)
       (table₁ out₁ table₂ out₂ : List ℕ) (records₂ offset₂ : ℕ) : Type 0 where
     pub noted : (n : ℕ) → scopeIn table₁ n ≡ within body offset ps (scopeIn table) n
-    pub own : out₁
-        ≡ written visit records (pointsAt body (within body offset ps (scopeIn table)) (set path (level - 2) j) offset ps) out
+    pub own : out₁ ≡ written visit records (pointsAt body (entered body level j offset ps (instanceIn table path)) offset ps) out
     pub lower : out₂
         ≡ written visit (records + length ps)
-        (groupsAt body (countOf (scopeIn table₁) fill) (suc level) (scopeIn table₁) (set path (level - 2) j)
+        (groupsAt body (countOf (scopeIn table₁) fill) (suc level) (instanceIn table₁ (set path (level - 2) j))
         (offset + pointsSize ps) inside)
         out₁
     pub counted : records₂ ≡ records + length ps + groupsPoints (countOf (scopeIn table₁) fill) inside
@@ -187,9 +167,9 @@ module _ (body : List ℕ) (visit : Visit) (fill level : ℕ) (path table₀ out
         sound = s;
         agree = λ p i. refl;
         passed = none-passed counting g₀;
-        left = ap (λ ps. written visit records₀ ps out₀) (from-first body counting level (scopeIn table₀) path offset₀ g₀);
-        points = ap (λ n. records₀ + n) (points-first counting g₀);
-        size = ap (λ n. offset₀ + n) (size-first counting g₀);
+        left = ap (λ ps. written visit records₀ ps out₀) (from-first body counting level (instanceIn table₀ path) offset₀ g₀);
+        points = ap (λ n. records₀ + n) (measure-first length counting g₀);
+        size = ap (λ n. offset₀ + n) (measure-first pointsSize counting g₀);
         elsewhere = λ n e. refl;
         among₀ = λ n e. e;
         isTable = t;
@@ -200,7 +180,7 @@ module _ (body : List ℕ) (visit : Visit) (fill level : ℕ) (path table₀ out
 pub writing-ends : {body : List ℕ} {visit : Visit} {fill level : ℕ} {path table₀ out₀ : List ℕ} {records₀ offset₀ : ℕ}
     {g₀ : Groups} {table out : List ℕ} {records offset j : ℕ}
     → Writing body visit fill level path table₀ out₀ records₀ offset₀ g₀ table out records offset j noGroup
-    → (out ≡ written visit records₀ (groupsAt body (countOf (scopeIn table₀) fill) level (scopeIn table₀) path offset₀ g₀) out₀)
+    → (out ≡ written visit records₀ (groupsAt body (countOf (scopeIn table₀) fill) level (instanceIn table₀ path) offset₀ g₀) out₀)
     × (records ≡ records₀ + groupsPoints (countOf (scopeIn table₀) fill) g₀)
     × (offset ≡ offset₀ + groupsSize (countOf (scopeIn table₀) fill) g₀)
 writing-ends {visit = visit} {out = out} {records = records} w =
@@ -251,42 +231,41 @@ module _ {body : List ℕ} {visit : Visit} {fill level : ℕ} {path table₀ out
         ∙ within-elsewhere body offset ps (scopeIn table) (p .number) (none-own p k .ofPoints)
         ∙ w .agree p k
 
-    -- So the groups in the instance have the same size and points.
-    pub lower-size : groupsSize (countOf (scopeIn table₁) fill) inside ≡ groupsSize count inside
-    lower-size =
-        counts.sizes-agree (scopeIn table₁) (scopeIn table₀) (w .top) agree-top fill (ps ++ w .enclosing) (suc level) inside
-        (w .sound .sound .3)
-
-    pub lower-points : groupsPoints (countOf (scopeIn table₁) fill) inside ≡ groupsPoints count inside
-    lower-points =
-        counts.points-agree (scopeIn table₁) (scopeIn table₀) (w .top) agree-top fill (ps ++ w .enclosing) (suc level) inside
-        (w .sound .sound .3)
+    -- So the groups in the instance measure the same.
+    pub lower-same : (weight : List Point → ℕ)
+        → measured weight (countOf (scopeIn table₁) fill) inside ≡ measured weight count inside
+    lower-same weight =
+        counts.measures-agree (scopeIn table₁) (scopeIn table₀) (w .top) agree-top weight fill (ps ++ w .enclosing) (suc level)
+        inside (w .sound .sound .3)
 
   -- An instance has been written.
   pub writing-instance : j < count h
       → (table₁ out₁ table₂ out₂ : List ℕ) (records₂ offset₂ : ℕ)
-      → Instance body visit fill level path table₀ out₀ records₀ offset₀ g₀ table out records offset j ps inside table₁ out₁
+      → InstanceWritten body visit fill level path table₀ out₀ records₀ offset₀ g₀ table out records offset j ps inside table₁ out₁
       table₂ out₂ records₂ offset₂
       → State table₂ out₂ records₂ offset₂ (j + 1) (group h ps inside behind)
+  unfolding entered
   writing-instance l table₁ out₁ table₂ out₂ records₂ offset₂ x =
       let G = group h ps inside behind in
-      let s₀ = scopeIn table₀ in
-      let path′ = set path (level - 2) j in
-      let reach = ps ++ w .enclosing in
-      let inner = agree-within table₁ (x .noted) in
-      let tops = agree-top table₁ (x .noted) in
-      let zs = lower-size table₁ (x .noted) in
-      let zp = lower-points table₁ (x .noted) in
-      let P = pointsAt body (within body offset ps s₀) path′ offset ps in
-      let Q = groupsAt body count (suc level) (within body offset ps s₀) path′ (offset + pointsSize ps) inside in
-      let R = fromInstance body count level s₀ path (j + 1) (offset + (pointsSize ps + groupsSize count inside)) G in
-      let p : pointsAt body (within body offset ps (scopeIn table)) path′ offset ps ≡ P =
-      points-agree body path′ offset reach ps (within body offset ps (scopeIn table)) (within body offset ps s₀)
-      (points-resolve reach ps (w .sound .sound .2)) (reach-agrees body offset ps (w .enclosing) (scopeIn table) s₀ (w .agree)) in
-      let q : groupsAt body (countOf (scopeIn table₁) fill) (suc level) (scopeIn table₁) path′ (offset + pointsSize ps) inside
-      ≡ Q =
-      groups-agree body fill (w .top) (scopeIn table₁) s₀ tops path′ (offset + pointsSize ps) reach (suc level) inside
-      (w .sound .sound .3) (scopeIn table₁) (within body offset ps s₀) inner in
+      let i₀ = instanceIn table₀ path in
+      let around = ps ++ w .enclosing in
+      let within₀ = entered body level j offset ps i₀ in
+      let inner : Alike around (instanceIn table₁ (set path (level - 2) j)) within₀ =
+      record { samePath = refl; agree = agree-within table₁ (x .noted) } in
+      let outer : Alike (w .enclosing) (instanceIn table path) i₀ = record { samePath = refl; agree = w .agree } in
+      let zs = lower-same table₁ (x .noted) pointsSize in
+      let zp = lower-same table₁ (x .noted) length in
+      let P = pointsAt body within₀ offset ps in
+      let Q = groupsAt body count (suc level) within₀ (offset + pointsSize ps) inside in
+      let R = fromInstance body count level i₀ (j + 1) (offset + (pointsSize ps + groupsSize count inside)) G in
+      let p : pointsAt body (entered body level j offset ps (instanceIn table path)) offset ps ≡ P =
+      points-agree body offset around ps (entered body level j offset ps (instanceIn table path)) within₀
+      (points-resolve around ps (w .sound .sound .2))
+      (alike-entered body level j offset ps (w .enclosing) (instanceIn table path) i₀ outer) in
+      let q : groupsAt body (countOf (scopeIn table₁) fill) (suc level) (instanceIn table₁ (set path (level - 2) j))
+      (offset + pointsSize ps) inside ≡ Q =
+      groups-agree body fill (w .top) (scopeIn table₁) (scopeIn table₀) (agree-top table₁ (x .noted)) (offset + pointsSize ps)
+      around (suc level) inside (w .sound .sound .3) (instanceIn table₁ (set path (level - 2) j)) within₀ inner in
       let e : out₂ ≡ written visit (records + length ps) Q (written visit records P out) =
       x .lower ∙ ap (λ y. written visit (records + length ps) y out₁) q
       ∙ ap (written visit (records + length ps) Q) (x .own ∙ ap (λ y. written visit records y out) p) in
@@ -294,8 +273,8 @@ module _ {body : List ℕ} {visit : Visit} {fill level : ℕ} {path table₀ out
       let k : records₂ ≡ k₂ = omega (arith, x .counted, zp) in
       let o : offset₂ ≡ offset + (pointsSize ps + groupsSize count inside) = omega (arith, x .passedOn, zs) in
       let W = write-on visit records P Q R out out₂ (length ps) (groupsPoints count inside)
-      (pointCounts.points-counted body (within body offset ps s₀) path′ offset ps)
-      (pointCounts.groups-counted body count (suc level) (within body offset ps s₀) path′ (offset + pointsSize ps) inside) e in
+      (pointCounts.points-counted body within₀ offset ps)
+      (pointCounts.groups-counted (entered body) body count (suc level) within₀ (offset + pointsSize ps) inside) e in
       record {
         top = w .top;
         enclosing = w .enclosing;
@@ -307,13 +286,13 @@ module _ {body : List ℕ} {visit : Visit} {fill level : ℕ} {path table₀ out
             ∙ within-elsewhere body offset ps (scopeIn table) (p .number) (n .ofPoints)
             ∙ w .agree p i;
         passed = omega (arith, l);
-        left = ap (λ y. written visit y (fromInstance body count level s₀ path (j + 1) offset₂ G) out₂) k
-            ∙ ap (λ y. written visit k₂ (fromInstance body count level s₀ path (j + 1) y G) out₂) o
+        left = ap (λ y. written visit y (fromInstance body count level i₀ (j + 1) offset₂ G) out₂) k
+            ∙ ap (λ y. written visit k₂ (fromInstance body count level i₀ (j + 1) y G) out₂) o
             ∙ W
-            ∙ ap (λ y. written visit records y out) (sym (from-next body count level s₀ path j offset h ps inside behind l))
+            ∙ ap (λ y. written visit records y out) (sym (from-next body count level i₀ j offset h ps inside behind l))
             ∙ w .left;
-        points = omega (arith, k, w .points, points-next count j h ps inside behind l);
-        size = omega (arith, o, w .size, size-next count j h ps inside behind l);
+        points = omega (arith, k, w .points, measure-next length count j h ps inside behind l);
+        size = omega (arith, o, w .size, measure-next pointsSize count j h ps inside behind l);
         elsewhere = λ n f.
             let m = none-of-parts n h ps inside behind (w .among₀ n f) in
             x .elsewhere n (m .ofInside)
@@ -336,10 +315,10 @@ module _ {body : List ℕ} {visit : Visit} {fill level : ℕ} {path table₀ out
         agree = w .agree;
         passed = none-passed count behind;
         left = ap (λ y. written visit records y out)
-            (sym (from-last body count level (scopeIn table₀) path j offset h ps inside behind l))
+            (sym (from-last body count level (instanceIn table₀ path) j offset h ps inside behind l))
             ∙ w .left;
-        points = omega (arith, w .points, points-last count j h ps inside behind l);
-        size = omega (arith, w .size, size-last count j h ps inside behind l);
+        points = omega (arith, w .points, measure-last length count j h ps inside behind l);
+        size = omega (arith, w .size, measure-last pointsSize count j h ps inside behind l);
         elsewhere = w .elsewhere;
         among₀ = λ n f. none-of-parts n h ps inside behind (w .among₀ n f) .ofBehind;
         isTable = w .isTable;

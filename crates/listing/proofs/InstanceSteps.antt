@@ -9,9 +9,9 @@ use Rattle.catalog.specs.Frames.{Point, Head, frameIn}
 use Rattle.catalog.specs.Definitions.{Groups, group, pointsSize, groupFrames}
 use Rattle.catalog.specs.Soundness.{numbersOf}
 use Rattle.layout.specs.Points.{Scope}
-use Rattle.layout.specs.Layout.{within, countOf, groupsSize, pointsAt, groupsAt}
+use Rattle.layout.specs.Layout.{within, countOf, measured, groupsSize, pointsAt, entered, groupsAt}
 use Rattle.layout.specs.Counts.{groupsPoints}
-use Rattle.layout.specs.Walks.{heldAt, Stands, pastEnd, headOf, levelOf, scopeIn, noted, Elsewhere, IsTable}
+use Rattle.layout.specs.Walks.{heldAt, Stands, pastEnd, headOf, levelOf, scopeIn, instanceIn, noted, Elsewhere, IsTable}
 use Rattle.layout.proofs.Standing as standing
 use Rattle.layout.proofs.IntoGroups.{SoundBelow, below, sound-below, standing-at}
 use Rattle.layout.proofs.CountsAgree as counts
@@ -52,7 +52,7 @@ module _ {ws body : List ℕ} {visit : Visit} {fill levels : ℕ} {path table₀
     -- No group is there: all is written.
     pub ends : headOf (frameIn ws frame) ≡ none
         → (out
-        ≡ written visit (start .records) (groupsAt body counting (levelOf levels) (scopeIn table₀) path (start .offset) g₀) out₀)
+        ≡ written visit (start .records) (groupsAt body counting (levelOf levels) (instanceIn table₀ path) (start .offset) g₀) out₀)
         × (records ≡ start .records + groupsPoints counting g₀)
         × (offset ≡ start .offset + groupsSize counting g₀)
     ends e =
@@ -111,8 +111,8 @@ module _ {ws body : List ℕ} {visit : Visit} {fill levels : ℕ} {path table₀
         -- What writing the instance's own points asks for.
         pub own-asks : RunAsks ws body out visit (record { records = records; offset = offset; frame = frame + 1 }) own
         own-asks =
-            let z = writing.size-next counting j h own inside behind counted in
-            let p = writing.points-next counting j h own inside behind counted in
+            let z = writing.measure-next pointsSize counting j h own inside behind counted in
+            let p = writing.measure-next length counting j h own inside behind counted in
             record {
               stands = standing.group-next ws frame s n h e .1;
               few = asks .standing .few;
@@ -127,7 +127,8 @@ module _ {ws body : List ℕ} {visit : Visit} {fill levels : ℕ} {path table₀
             (noting : table₁ ≡ noted body offset own table) (way : path₁ ≡ set path (levelOf levels - 2) j)
             (run : BehindRun (record { records = records; offset = offset; frame = frame + 1 }) own at₁)
             (wrote : out₁
-            ≡ written visit records (pointsAt body (within body offset own (scopeIn table)) path₁ offset own) out) where
+            ≡ written visit records
+            (pointsAt body (record { scope = within body offset own (scopeIn table); path = path₁ }) offset own) out) where
           -- The table holds the scope within the instance.
           in-table : (k : ℕ) → scopeIn table₁ k ≡ within body offset own (scopeIn table) k
           in-table k =
@@ -137,13 +138,9 @@ module _ {ws body : List ℕ} {visit : Visit} {fill levels : ℕ} {path table₀
           still-table : IsTable table₁
           still-table = ap length noting ∙ noted-length body offset own table ∙ w .isTable
 
-          lower-size : groupsSize (countOf (scopeIn table₁) fill) inside ≡ groupsSize counting inside
-          lower-size =
-              writing.lower-size there table₁ in-table
-
-          lower-points : groupsPoints (countOf (scopeIn table₁) fill) inside ≡ groupsPoints counting inside
-          lower-points =
-              writing.lower-points there table₁ in-table
+          lower-same : (weight : List Point → ℕ)
+              → measured weight (countOf (scopeIn table₁) fill) inside ≡ measured weight counting inside
+          lower-same = writing.lower-same there table₁ in-table
 
           -- The groups in the instance, where the walk over them begins.
           pub lower-here : heldAt ws (at₁ .frame) .groups ≡ inside
@@ -157,10 +154,10 @@ module _ {ws body : List ℕ} {visit : Visit} {fill levels : ℕ} {path table₀
               let r = standing.behind-run ws (frame + 1) (standing.group-next ws frame s n h e .1) in
               let b = below (there .top) (there .enclosing) (levelOf levels) h own inside behind (there .sound) in
               let c = subst (λ k. SoundBelow (there .top) (own ++ there .enclosing) k inside) deeper b in
-              let z = writing.size-next counting j h own inside behind counted in
-              let p = writing.points-next counting j h own inside behind counted in
+              let z = writing.measure-next pointsSize counting j h own inside behind counted in
+              let p = writing.measure-next length counting j h own inside behind counted in
               let o = lists.written-length visit records
-              (pointsAt body (within body offset own (scopeIn table)) path₁ offset own) out in
+              (pointsAt body (record { scope = within body offset own (scopeIn table); path = path₁ }) offset own) out in
               record {
                 standing = standing-at (subst (Stands ws) (sym (run .frame)) (r .2))
                     (ap (λ k. heldAt ws k .points) (run .frame) ∙ r .0) lower-here c (asks .standing .few);
@@ -173,7 +170,7 @@ module _ {ws body : List ℕ} {visit : Visit} {fill levels : ℕ} {path table₀
                 inside = omega (
                   arith,
                   ap (groupsSize (countOf (scopeIn table₁) fill)) lower-here,
-                  lower-size,
+                  lower-same pointsSize,
                   z,
                   there .size,
                   asks .inside,
@@ -182,7 +179,7 @@ module _ {ws body : List ℕ} {visit : Visit} {fill levels : ℕ} {path table₀
                 room = omega (
                   arith,
                   ap (groupsPoints (countOf (scopeIn table₁) fill)) lower-here,
-                  lower-points,
+                  lower-same length,
                   p,
                   there .points,
                   ap (capacity (visit .task)) (ap length wrote ∙ o ∙ there .sameLength),
@@ -196,24 +193,25 @@ module _ {ws body : List ℕ} {visit : Visit} {fill levels : ℕ} {path table₀
               → BehindGroups (heldAt ws (at₁ .frame) .groups) (countOf (scopeIn table₁) fill) at₁ at₂
               → out₂
               ≡ written visit (at₁ .records)
-              (groupsAt body (countOf (scopeIn table₁) fill) (levelOf (levels - 1)) (scopeIn table₁) path₁ (at₁ .offset)
+              (groupsAt body (countOf (scopeIn table₁) fill) (levelOf (levels - 1)) (instanceIn table₁ path₁) (at₁ .offset)
               (heldAt ws (at₁ .frame) .groups))
               out₁
               → Elsewhere (numbersOf (groupFrames (heldAt ws (at₁ .frame) .groups))) table₁ table₂
               → IsTable table₂
               → At table₂ out₂ (at₂ .records) (at₂ .offset) (j + 1) frame
+          unfolding entered
           further {table₂} {out₂} {at₂} b o x t =
               let P : Groups → Type 0 = λ g. Elsewhere (numbersOf (groupFrames g)) table₁ table₂ in
               let W : ℕ → ℕ → List ℕ → ℕ → Groups → List ℕ = λ r k p a g.
-              written visit r (groupsAt body (countOf (scopeIn table₁) fill) k (scopeIn table₁) p a g) out₁ in
+              written visit r (groupsAt body (countOf (scopeIn table₁) fill) k (instanceIn table₁ p) a g) out₁ in
               let path₂ = set path (levelOf levels - 2) j in
               let g₁ = heldAt ws (at₁ .frame) .groups in
               back (writing.writing-instance there counted table₁ out₁ table₂ out₂ (at₂ .records) (at₂ .offset)
               (record {
                 noted = in-table;
                 own = wrote
-                    ∙ ap (λ p. written visit records (pointsAt body (within body offset own (scopeIn table)) p offset own) out)
-                    way;
+                    ∙ ap (λ p. written visit records
+                    (pointsAt body (record { scope = within body offset own (scopeIn table); path = p }) offset own) out) way;
                 lower = o
                     ∙ ap (λ r. W r (levelOf (levels - 1)) path₁ (at₁ .offset) g₁) (run .records)
                     ∙ ap (λ k. W (records + length own) k path₁ (at₁ .offset) g₁) (sym deeper)

@@ -15,10 +15,10 @@ use Rattle.catalog.specs.Definitions.{Groups, Content, pointsSize, definitions}
 use Rattle.catalog.specs.Soundness.{SoundPoint, SoundGroups, ScaleResolves}
 use Rattle.catalog.proofs.References.{points-resolve}
 use Rattle.layout.specs.Points.{ModelPoint, Scope}
-use Rattle.layout.specs.Layout.{nothing, within, topScope, countOf, groupsSize, fillSizeOf, fillOf, countsOf, pointsAt, groupsAt, noInstance, contentAt, restSize}
+use Rattle.layout.specs.Layout.{nothing, within, topScope, countOf, measured, groupsSize, fillSizeOf, fillOf, countsOf, pointsAt, entered, groupsAt, noInstance, topInstance, contentAt, restSize}
 use Rattle.layout.specs.Counts.{groupsPoints}
 use Rattle.layout.specs.Reading.{Reading, points, allButLast, readBy, reading}
-use Rattle.layout.specs.Walks.{heldAt, Accepted, scopeIn, begun, IsTable, AtGroups, pointsOf, HasPoints, Ready}
+use Rattle.layout.specs.Walks.{heldAt, Accepted, scopeIn, instanceIn, begun, IsTable, AtGroups, pointsOf, HasPoints, Ready}
 use Rattle.layout.proofs.Readings.{Full, HowRead, leftOut, full, how-read, resolves-left}
 use Rattle.layout.proofs.Standing as standing
 use Rattle.layout.proofs.AcceptedModels as models
@@ -113,10 +113,11 @@ module _ {ws : List ℕ} {id : ℕ} {body table : List ℕ} {first fill : ℕ} (
         ∙ within-own body 0 qs (scopeIn (ready .before)) nothing p i
 
     same-points : Each (ScaleResolves qs) qs
-        → pointsAt body (scopeIn table) noInstance 0 laid ≡ pointsAt body (topInstance qs body) 0 qs
+        → pointsAt body (instanceIn table noInstance) 0 laid ≡ pointsAt body (topInstance qs body) 0 qs
     same-points r =
-        ap (pointsAt body (scopeIn table) noInstance 0) e
-        ∙ points-agree body noInstance 0 qs qs (scopeIn table) (topScope qs body) r agree-laid
+        ap (pointsAt body (instanceIn table noInstance) 0) e
+        ∙ points-agree body 0 qs qs (instanceIn table noInstance) (topInstance qs body) r
+        (record { samePath = refl; agree = agree-laid })
 
   -- In full all top points are laid.
   all-laid : Full top body → laid ≡ ps
@@ -130,34 +131,28 @@ module _ {ws : List ℕ} {id : ℕ} {body table : List ℕ} {first fill : ℕ} (
     agree-top : Agree ps (scopeIn table) (topScope ps body)
     agree-top = agree-laid ps (all-laid f)
 
-    lower-size : groupsSize (countOf (scopeIn table) fill) (top .groups) ≡ groupsSize (countsOf top body) (top .groups)
-    lower-size =
-        counts.sizes-agree (scopeIn table) (topScope ps body) ps agree-top fill ps 2 (top .groups) sound-groups
-        ∙ ap (λ n. groupsSize (countOf (topScope ps body) n) (top .groups)) (ready .filling)
-
-    lower-points : groupsPoints (countOf (scopeIn table) fill) (top .groups) ≡ groupsPoints (countsOf top body) (top .groups)
-    lower-points =
-        counts.points-agree (scopeIn table) (topScope ps body) ps agree-top fill ps 2 (top .groups) sound-groups
-        ∙ ap (λ n. groupsPoints (countOf (topScope ps body) n) (top .groups)) (ready .filling)
+    lower-same : (weight : List Point → ℕ)
+        → measured weight (countOf (scopeIn table) fill) (top .groups) ≡ measured weight (countsOf top body) (top .groups)
+    lower-same weight =
+        counts.measures-agree (scopeIn table) (topScope ps body) ps agree-top weight fill ps 2 (top .groups) sound-groups
+        ∙ ap (λ n. measured weight (countOf (topScope ps body) n) (top .groups)) (ready .filling)
 
     in-full : pointsSize ps + groupsSize (countsOf top body) (top .groups) ≡ length body
     in-full = laid-size ps ps top body sound-groups (f .fitting)
 
-    same-groups : (offset : ℕ) → groupsAt body (countOf (scopeIn table) fill) 2 (scopeIn table) noInstance offset (top .groups)
+    same-groups : (offset : ℕ) → groupsAt body (countOf (scopeIn table) fill) 2 (instanceIn table noInstance) offset (top .groups)
         ≡ groupsAt body (countsOf top body) 2 (topInstance ps body) offset (top .groups)
     same-groups offset =
-        groups-agree body fill ps (scopeIn table) (topScope ps body) agree-top noInstance offset ps 2 (top .groups) sound-groups
-        (scopeIn table)
-        (topScope ps body) agree-top
-        ∙ ap (λ n. groupsAt body (countOf (topScope ps body) n) 2 (topInstance ps body) offset (top .groups))
-        (ready .filling)
+        groups-agree body fill ps (scopeIn table) (topScope ps body) agree-top offset ps 2 (top .groups) sound-groups
+        (instanceIn table noInstance) (topInstance ps body) (record { samePath = refl; agree = agree-top })
+        ∙ ap (λ n. groupsAt body (countOf (topScope ps body) n) 2 (topInstance ps body) offset (top .groups)) (ready .filling)
 
     -- Where the top points fill the body, no group has a point.
     no-lower : pointsSize ps ≡ length body
         → groupsAt body (countsOf top body) 2 (topInstance ps body) (pointsSize ps) (top .groups) ≡ []
     no-lower e =
         let g = pointCounts.groups-fit (countsOf top body) ps ps 2 (top .groups) sound-groups in
-        let n = pointCounts.groups-counted body (countsOf top body) 2 (topInstance ps body) (pointsSize ps)
+        let n = pointCounts.groups-counted (entered body) body (countsOf top body) 2 (topInstance ps body) (pointsSize ps)
         (top .groups) in
         none-left (groupsAt body (countsOf top body) 2 (topInstance ps body) (pointsSize ps) (top .groups))
         (omega (arith, g, n, in-full, e))
@@ -202,10 +197,10 @@ module _ {ws : List ℕ} {id : ℕ} {body table : List ℕ} {first fill : ℕ} (
             asks (omega (arith, ap pointsSize b, f .room)) (omega (arith, ap length b, n))
 
     -- Where the top points fill the body they are all points.
-    pub all-points : pointsSize laid ≡ length body → pointsAt body (scopeIn table) noInstance 0 laid ≡ pointsOf read
+    pub all-points : pointsSize laid ≡ length body → pointsAt body (instanceIn table noInstance) 0 laid ≡ pointsOf read
     all-points e = go (readBy id top body) read-here how
       where
-        go : (r : Reading) → read ≡ r → HowRead id top body r → pointsAt body (scopeIn table) noInstance 0 laid ≡ pointsOf read
+        go : (r : Reading) → read ≡ r → HowRead id top body r → pointsAt body (instanceIn table noInstance) 0 laid ≡ pointsOf read
         go r q (leftOut h) =
             let l = pads.left-out id top (length body) h in
             same-points (allButLast ps) (pads.begun-but-pad ps id top (length body) sound-points h)
@@ -233,7 +228,7 @@ module _ {ws : List ℕ} {id : ℕ} {body table : List ℕ} {first fill : ℕ} (
         go r q (full kept f) = (f, q)
 
     module _ {at₁ : Progress} (run : BehindRun start laid at₁) (f : Full top body) (q : read ≡ points (contentAt top body))
-        {out₁ : List ℕ} (wrote : out₁ ≡ written visit records (pointsAt body (scopeIn table) noInstance 0 laid) out) where
+        {out₁ : List ℕ} (wrote : out₁ ≡ written visit records (pointsAt body (instanceIn table noInstance) 0 laid) out) where
       frame-there : at₁ .frame ≡ first + length ps
       frame-there = run .frame ∙ ap (λ rs. first + length rs) (all-laid f)
 
@@ -247,7 +242,7 @@ module _ {ws : List ℕ} {id : ℕ} {body table : List ℕ} {first fill : ℕ} (
       pub groups-ask : GroupsAsk ws body table out₁ visit fill 3 noInstance at₁
       groups-ask =
           let b = all-laid f in
-          let o = lists.written-length visit records (pointsAt body (scopeIn table) noInstance 0 laid) out in
+          let o = lists.written-length visit records (pointsAt body (instanceIn table noInstance) 0 laid) out in
           record {
             standing = subst (λ k. AtGroups ws k 3) (sym frame-there)
                 (top-groups ws id first accepted (ready .stands) (ready .known));
@@ -260,7 +255,7 @@ module _ {ws : List ℕ} {id : ℕ} {body table : List ℕ} {first fill : ℕ} (
             inside = omega (
               arith,
               ap (groupsSize (countOf (scopeIn table) fill)) groups-there,
-              lower-size f,
+              lower-same f pointsSize,
               in-full f,
               run .offset,
               ap pointsSize b,
@@ -268,7 +263,7 @@ module _ {ws : List ℕ} {id : ℕ} {body table : List ℕ} {first fill : ℕ} (
             room = omega (
               arith,
               ap (groupsPoints (countOf (scopeIn table) fill)) groups-there,
-              lower-points f,
+              lower-same f length,
               counted,
               room,
               run .records,
@@ -286,21 +281,21 @@ module _ {ws : List ℕ} {id : ℕ} {body table : List ℕ} {first fill : ℕ} (
             b .records,
             run .records,
             ap (groupsPoints (countOf (scopeIn table) fill)) groups-there,
-            lower-points f,
+            lower-same f length,
             counted,
             ap length (all-laid f),
           )
 
       pub list-behind : {out₂ : List ℕ} → out₂
           ≡ written visit (at₁ .records)
-          (groupsAt body (countOf (scopeIn table) fill) 2 (scopeIn table) noInstance (at₁ .offset)
+          (groupsAt body (countOf (scopeIn table) fill) 2 (instanceIn table noInstance) (at₁ .offset)
           (heldAt ws (at₁ .frame) .groups)) out₁
           → out₂ ≡ written visit records (pointsOf read) out
       list-behind e =
           let P = pointsAt body (topInstance ps body) 0 ps in
           let Q = groupsAt body (countsOf top body) 2 (topInstance ps body) (pointsSize ps) (top .groups) in
           let W : ℕ → ℕ → Groups → List ℕ → List ℕ = λ r a g l.
-          written visit r (groupsAt body (countOf (scopeIn table) fill) 2 (scopeIn table) noInstance a g) l in
+          written visit r (groupsAt body (countOf (scopeIn table) fill) 2 (instanceIn table noInstance) a g) l in
           let b = all-laid f in
           let n = pointCounts.points-counted body (topInstance ps body) 0 ps in
           let r : at₁ .records ≡ records + length P = omega (arith, run .records, ap length b, n) in

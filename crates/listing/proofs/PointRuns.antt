@@ -12,7 +12,7 @@ use Rattle.catalog.specs.Rules.{isSizeOf}
 use Rattle.catalog.specs.Definitions.{pointsSize}
 use Rattle.layout.specs.Points.{ModelPoint, registersAt, pointAt}
 use Rattle.layout.specs.Layout.{pointsAt}
-use Rattle.layout.specs.Walks.{heldAt, pointOf, scopeIn, begun}
+use Rattle.layout.specs.Walks.{heldAt, pointOf, scopeIn, instanceIn, begun}
 use Rattle.layout.proofs.Standing as standing
 use Rattle.layout.proofs.NotedPoints.{begun-past, begun-first}
 use Rattle.listing.specs.Listing.{recordNumbers, recordWidth}
@@ -27,7 +27,7 @@ pub shown-numbers : (visit : Visit) (body table path : List ℕ) (offset : ℕ) 
     → ShownOf p (registersAt body offset p) (scopeIn table (p .scale)) shown
     → visit .index ∷ visit .id ∷ p .number ∷ getD path 0 0 ∷ getD path 1 0 ∷ getD path 2 0 ∷ (visit .address + 2 + offset)
     ∷ shown .status ∷ shown .raw ∷ shown .scale ∷ []
-    ≡ recordNumbers (recordAt visit (pointAt body (scopeIn table) path offset p))
+    ≡ recordNumbers (recordAt visit (pointAt body (instanceIn table path) offset p))
 unfolding recordNumbers pointAt
 shown-numbers visit body table path offset p shown s = rw (s .status, s .raw, s .scale)
 
@@ -37,7 +37,7 @@ leftAt ws body at = begun (length body) (at .offset) (heldAt ws (at .frame) .poi
 
 -- As they lie in the body.
 abbrev pub shownAt : List ℕ → List ℕ → List ℕ → List ℕ → Progress → List ModelPoint
-shownAt ws body table path at = pointsAt body (scopeIn table) path (at .offset) (leftAt ws body at)
+shownAt ws body table path at = pointsAt body (instanceIn table path) (at .offset) (leftAt ws body at)
 
 -- Writing those that are left gives what writing all of them gives.
 pub record StillWrites (ws body table : List ℕ) (visit : Visit) (path : List ℕ) (out₀ : List ℕ) (at₀ : Progress) (out : List ℕ)
@@ -77,7 +77,7 @@ module _ {ws body table : List ℕ} {visit : Visit} {path out₀ : List ℕ} {at
       let n = ap length e in
       let z = ap pointsSize e in
       let shown : shownAt ws body table path at ≡ [] =
-      ap (λ (ps : List Point). pointsAt body (scopeIn table) path (at .offset) ps) e in (
+      ap (λ (ps : List Point). pointsAt body (instanceIn table path) (at .offset) ps) e in (
         record {
           records = omega (arith, b .records, n);
           offset = omega (arith, b .offset, z);
@@ -126,7 +126,7 @@ module _ {ws body table : List ℕ} {visit : Visit} {path out₀ : List ℕ} {at
 
     -- Once its record is written, the others are left.
     pub still-first : (out′ : List ℕ)
-        → out′ ≡ written visit (at .records) (pointAt body (scopeIn table) path (at .offset) p ∷ []) out
+        → out′ ≡ written visit (at .records) (pointAt body (instanceIn table path) (at .offset) p ∷ []) out
         → StillWrites ws body table visit path out₀ at₀ out′ (pastPoint at p)
     unfolding pointsAt
     still-first out′ e =
@@ -137,11 +137,11 @@ module _ {ws body table : List ℕ} {visit : Visit} {path out₀ : List ℕ} {at
         let n = ap length first-left in
         let z = ap pointsSize first-left in
         let at′ = pastPoint at p in
-        let x = pointAt body (scopeIn table) path (at .offset) p in
+        let x = pointAt body (instanceIn table path) (at .offset) p in
         let xs = shownAt ws body table path at′ in
         let k = at .records in
         let shown : shownAt ws body table path at ≡ x ∷ xs =
-        ap (λ (ps : List Point). pointsAt body (scopeIn table) path (at .offset) ps) first-left in
+        ap (λ (ps : List Point). pointsAt body (instanceIn table path) (at .offset) ps) first-left in
         let same : length out′ ≡ length out = ap length e ∙ written-length visit k (x ∷ []) out in
         record {
           asks = record {

@@ -21,7 +21,7 @@ use Rattle.register_map.specs.Scan.{Model, sizeOf, totalSize, scan}
 use Rattle.layout.specs.Points.{ModelPoint}
 use Rattle.layout.specs.Layout.{topScope, countUnimplemented, fits}
 use Rattle.layout.specs.Reading.{Reading, unknown, faulty, points, padLeftOut, laidOut, readBy, reading}
-use Rattle.layout.specs.Tiling.{Tiles, BodyTiled}
+use Rattle.layout.specs.Tiling.{definedPoints, Tiles, PointsTile, BodyTiled}
 use Rattle.layout.proofs.BodyTiling.{read-tiled}
 use Rattle.layout.proofs.ReadingSteps.{reading-here, reading-later, unknown-left}
 use Rattle.listing.specs.Listing.{Record, recordOf, listed, walk, listing}
@@ -76,20 +76,22 @@ body-filled catalog n e d o m same ps r =
 -- ---- The records of a listing
 
 -- The records of points that tile a body.
-records-tile : (i at : ℕ) (m : Model) (from to : ℕ) (ps : List ModelPoint) (qs : List Point)
-    → Tiles (λ p. p .offset) (λ p. p .definition .number) from to ps qs
-    → Tiles (λ r. r .address) (λ r. r .point .definition .number) (at + 2 + from) (at + 2 + to) (map (recordOf i at (m .id)) ps) qs
-records-tile i at m from to [] [] t = ap (λ n. at + 2 + n) t
-records-tile i at m from to [] (q ∷ qs) t = t
-records-tile i at m from to (p ∷ ps) [] t = t
-records-tile i at m from to (p ∷ ps) (q ∷ qs) t =
-    let r = records-tile i at m (from + q .size) to ps qs (t .3) in
-    let same : at + 2 + (from + q .size) ≡ at + 2 + from + q .size = omega arith in (
+records-tile : (i at : ℕ) (m : Model) (from to : ℕ) (ps : List ModelPoint) → PointsTile from to ps
+    → Tiles (λ r. r .address) (λ r. r .point .definition .size) (at + 2 + from) (at + 2 + to) (map (recordOf i at (m .id)) ps)
+records-tile i at m from to [] t = ap (λ n. at + 2 + n) t
+records-tile i at m from to (p ∷ ps) t =
+    let r = records-tile i at m (from + p .definition .size) to ps (t .2) in
+    let same : at + 2 + (from + p .definition .size) ≡ at + 2 + from + p .definition .size = omega arith in (
       ap (λ n. at + 2 + n) (t .0),
       t .1,
-      t .2,
-      subst (λ n. Tiles (λ r. r .address) (λ r. r .point .definition .number) n (at + 2 + to) (map (recordOf i at (m .id)) ps) qs) same r,
+      subst (λ n. Tiles (λ r. r .address) (λ r. r .point .definition .size) n (at + 2 + to) (map (recordOf i at (m .id)) ps)) same r,
     )
+
+-- What holds of what points are by holds of what their records are by.
+records-by : (P : Point → Type 0) (i at : ℕ) (m : Model) (ps : List ModelPoint) → Each (λ p. P (p .definition)) ps
+    → Each (λ r. P (r .point .definition)) (map (recordOf i at (m .id)) ps)
+records-by P i at m [] e = tt
+records-by P i at m (p ∷ ps) e = (e .0, records-by P i at m ps (e .1))
 
 -- They have the model's id.
 records-named : (i at : ℕ) (m : Model) (ps : List ModelPoint) (id : ℕ) → id ≡ m .id
@@ -137,15 +139,14 @@ module _ (catalog registers : List ℕ) (room : ℕ) (rs : List Record) (headers
       go (points ps) q t =
           let w = listed-walks catalog registers room rs headers accept .0 in
           let b = body-filled catalog (w .models) (w .accepted) d o m same ps q in
-          let tiles = records-tile i at m 0 l ps (b .by) (b .tiles) in
+          let tiles = records-tile i at m 0 l ps (b .tiles) in
           let from : at + 2 + 0 ≡ at + 2 = omega arith in
           let to : at + 2 + l ≡ at + sizeOf m = omega arith in
           let own = map (recordOf i at (m .id)) ps in
-          let T : ℕ → ℕ → Type 0 = λ x y. Tiles (λ r. r .address) (λ r. r .point .definition .number) x y own (b .by) in
+          let T : ℕ → ℕ → Type 0 = λ x y. Tiles (λ r. r .address) (λ r. r .point .definition .size) x y own in
           subst (RecordsTiled d (at + 2) (at + sizeOf m)) (sym t)
           (record {
-            by = b .by;
-            defined = b .defined;
+            defined = records-by (λ p. In p (definedPoints d)) i at m ps (b .defined);
             tiles = subst (λ x. T x (at + sizeOf m)) from (subst (λ y. T (at + 2 + 0) y) to tiles);
             ids = records-named i at m ps (d .id) same;
           })

@@ -41,7 +41,7 @@ module _ (xs ys : List ℕ) where
 module _ (visit : Visit) (body path : List ℕ) (offset : ℕ) (p : Point) (out : List ℕ) where
   -- Its record, for a search: a scale factor is not asked for.
   abbrev met : Record
-  met = recordAt visit (pointAt body nothing path offset p)
+  met = recordAt visit (pointAt body (record { scope = nothing; path = path }) offset p)
 
   -- The list behind it, by the tests in order: none was found before, the number, the path.
   abbrev byTests : Bool → Bool → Bool → List ℕ
@@ -96,7 +96,7 @@ module _ (visit : Visit) (body path : List ℕ) (offset : ℕ) (p : Point) (out 
 
 module _ (visit : Visit) (k : ℕ) (body path : List ℕ) (offset : ℕ) (p : Point) (scope : Scope) (out : List ℕ) where
   abbrev shown : ModelPoint
-  shown = pointAt body scope path offset p
+  shown = pointAt body (record { scope = scope; path = path }) offset p
 
   -- Listing writes its record.
   pub record-written : visit .task ≡ Task.Records
@@ -106,6 +106,6 @@ module _ (visit : Visit) (k : ℕ) (body path : List ℕ) (offset : ℕ) (p : Po
 
   -- A search what is told of it.
   pub search-written : visit .task ≡ Task.Search
-      → seen (visit .sought) (recordAt visit (pointAt body nothing path offset p)) out ≡ written visit k (shown ∷ []) out
+      → seen (visit .sought) (recordAt visit (pointAt body (record { scope = nothing; path = path }) offset p)) out ≡ written visit k (shown ∷ []) out
   unfolding pointAt
   search-written e = sym (ap (λ t. visited t (visit .sought) k (recordAt visit shown ∷ []) out) e)

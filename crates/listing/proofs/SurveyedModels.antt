@@ -17,15 +17,15 @@ use Rattle.catalog.specs.Frames.{Point, Head, fill}
 use Rattle.catalog.specs.Definitions.{Groups, noGroup, group, Content, pointsSize}
 use Rattle.catalog.specs.Soundness.{SoundGroups}
 use Rattle.layout.specs.Points.{Scope}
-use Rattle.layout.specs.Layout.{topScope, countOf, groupsSize, fillSize, countUnimplemented, fillSizeOf, fits, fillOf, pointsAt, noInstance, contentAt}
-use Rattle.layout.specs.Counts.{groupsPoints, fillPoints, sizeOr0}
+use Rattle.layout.specs.Layout.{topScope, countOf, fillMeasured, groupsSize, fillSize, countUnimplemented, fillSizeOf, fits, fillOf, pointsAt, topInstance, contentAt}
+use Rattle.layout.specs.Counts.{groupsPoints, fillPoints, or0}
 use Rattle.layout.specs.Reading.{faulty, points, belowTopPoints, countPointUnimplemented, notTheSize, allButLast, padLeftOut, laidOut, readBy}
 use Rattle.layout.specs.Walks.{surveyedRefused, surveyedPoints, surveyed, Ready}
-use Rattle.layout.proofs.Sizes.{points-fit, fill-takes-registers}
-use Rattle.layout.proofs.PointCounts.{points-counted, content-counted, groups-fit, fill-adds-points}
+use Rattle.layout.proofs.Sizes.{points-fit, fill-adds, fill-takes-registers}
+use Rattle.layout.proofs.PointCounts.{points-counted, content-counted, groups-fit}
 use Rattle.layout.proofs.Capping.{capped-remainder, capped-quotient}
 use Rattle.layout.proofs.LeftOutPad.{but-one, left-out}
-use Rattle.layout.proofs.CountsAgree.{sizes-agree, points-agree, fill-sizes-agree, fill-points-agree, unimplemented-agrees}
+use Rattle.layout.proofs.CountsAgree.{measures-agree, fills-agree, unimplemented-agrees}
 use Rattle.listing.specs.Answers.{surveyForm}
 use Rattle.listing.specs.Promises.{ExtentOf, fittedBy, ReadyBy}
 use Rattle.listing.specs.declared.extents.Run.{Run}
@@ -34,15 +34,15 @@ use Rattle.listing.specs.declared.surveys.Survey.{Survey}
 
 -- An instance of the fill group has no more points than registers.
 fill-fits : (count : Head → ℕ) (top enclosing : List Point) (level : ℕ) (g : Groups) → SoundGroups top enclosing level g
-    → fillPoints count g ≤ sizeOr0 (fillSize count g)
-unfolding fillPoints fillSize
+    → fillPoints count g ≤ or0 (fillSize count g)
+unfolding fillMeasured
 fill-fits count top enclosing level noGroup e = omega arith
 fill-fits count top enclosing level (group h ps inside behind) e =
     go (eqb (h .countKind) fill) (fill-fits count top enclosing level behind (e .4))
   where
-    go : (b : Bool) → fillPoints count behind ≤ sizeOr0 (fillSize count behind)
-        → elim b [ true ↦ length ps + groupsPoints count inside | false ↦ fillPoints count behind ]
-        ≤ sizeOr0 (elim b [ true ↦ some (pointsSize ps + groupsSize count inside) | false ↦ fillSize count behind ])
+    go : (b : Bool) → fillPoints count behind ≤ or0 (fillSize count behind)
+        → or0 (elim b [ true ↦ some (length ps + groupsPoints count inside) | false ↦ fillMeasured length count behind ])
+        ≤ or0 (elim b [ true ↦ some (pointsSize ps + groupsSize count inside) | false ↦ fillSize count behind ])
     go true r =
         let p = points-fit (ps ++ enclosing) ps (e .2) in
         let i = groups-fit count top (ps ++ enclosing) (suc level) inside (e .3) in
@@ -55,10 +55,10 @@ pub extent-agrees : (s s′ : Scope) (top enclosing : List Point) (level : ℕ) 
     → ExtentOf s g r → ExtentOf s′ g r
 extent-agrees s s′ top enclosing level g r agree e x =
     record {
-      size = x .size ∙ ap (λ n. min n 65536) (sizes-agree s s′ top agree 0 enclosing level g e);
-      points = x .points ∙ ap (λ n. min n 65536) (points-agree s s′ top agree 0 enclosing level g e);
-      fillSize = x .fillSize ∙ ap (λ o. min (sizeOr0 o) 65536) (fill-sizes-agree s s′ top agree 0 enclosing level g e);
-      fillPoints = x .fillPoints ∙ ap (λ n. min n 65536) (fill-points-agree s s′ top agree 0 enclosing level g e);
+      size = x .size ∙ ap (λ n. min n 65536) (measures-agree s s′ top agree pointsSize 0 enclosing level g e);
+      points = x .points ∙ ap (λ n. min n 65536) (measures-agree s s′ top agree length 0 enclosing level g e);
+      fillSize = x .fillSize ∙ ap (λ o. min (or0 o) 65536) (fills-agree s s′ top agree pointsSize 0 enclosing level g e);
+      fillPoints = x .fillPoints ∙ ap (λ o. min (or0 o) 65536) (fills-agree s s′ top agree length 0 enclosing level g e);
       unimplemented = x .unimplemented ∙ unimplemented-agrees s s′ top agree enclosing level g e;
     }
 
@@ -226,7 +226,7 @@ module _ (first : ℕ) (run : Run) (groups : Extent) (c : Content) (body : List 
       counted : length (contentAt c body) ≡ N + (P + fillOf c body * Q)
       counted =
           content-counted c body
-          ∙ ap (λ k. N + k) (fill-adds-points s (fillOf c body) (c .points) (c .points) (c .groups) sound)
+          ∙ ap (λ k. N + k) (fill-adds length s (fillOf c body) (c .points) (c .points) (c .groups) sound)
 
       fitsBy : Option ℕ → Bool
       fitsBy o = elim o [ none ↦ eqb L (T + G) | some n ↦ leb (T + G) L && eqb ((L - (T + G)) % n) 0 ]
@@ -240,15 +240,15 @@ module _ (first : ℕ) (run : Run) (groups : Extent) (c : Content) (body : List 
       go : (o : Option ℕ) → fillSizeOf c body ≡ o → length (contentAt c body) ≡ N + (P + fillBy o * Q)
           → fittedBy first run groups L ≡ result (fitsBy o) (length (contentAt c body)) (fillBy o)
       go none e k =
-          let z : groups .«fill_size» ≡ 0 = extent .fillSize ∙ ap (λ o. min (sizeOr0 o) 65536) e in
+          let z : groups .«fill_size» ≡ 0 = extent .fillSize ∙ ap (λ o. min (or0 o) 65536) e in
           let m : N + P ≡ length (contentAt c body) = omega arith in
           fitted-rest first L T N G P run groups short few registers number (extent .size) (extent .points) z
           ∙ ap (λ n. result (eqb L (T + G)) n 0) m
       go (some n) e k =
-          let z : groups .«fill_size» ≡ min n 65536 = extent .fillSize ∙ ap (λ o. min (sizeOr0 o) 65536) e in
+          let z : groups .«fill_size» ≡ min n 65536 = extent .fillSize ∙ ap (λ o. min (or0 o) 65536) e in
           let one = fill-takes-registers (countOf s 0) (c .points) (c .points) 2 (c .groups) sound n e in
           let fits-in = fill-fits (countOf s 0) (c .points) (c .points) 2 (c .groups) sound in
-          let same : sizeOr0 (fillSizeOf c body) ≡ n = ap sizeOr0 e in
+          let same : or0 (fillSizeOf c body) ≡ n = ap or0 e in
           let fewer : Q ≤ n = omega arith in
           fitted-fill first L T N G P n Q run groups short few one fewer registers number (extent .size) (extent .points) z
           (extent .fillPoints)

@@ -13,7 +13,7 @@ use Rattle.catalog.specs.Definitions.{parsed}
 use Rattle.register_map.specs.Headers.{opening}
 use Rattle.register_map.specs.Scan.{scanFrom, scan}
 use Rattle.layout.specs.Points.{pointAt}
-use Rattle.layout.specs.Layout.{within, groupsSize, fillSize, countUnimplemented, fits, fillOf, pointsAt, instances, groupsAt, contentAt}
+use Rattle.layout.specs.Layout.{within, measured, fillMeasured, countUnimplemented, fits, fillOf, pointsAt, instances, groupsBy, entered, contentAt}
 use Rattle.layout.specs.Reading.{endsWithPad, allButLast, laidOut, readBy, topOf, reading}
 use Rattle.listing.specs.Listing as Listing
 use Rattle.listing.specs.Listing.{Told, listedTold, told, recordNumbers, walk, recordsBy, allRecords, withRoom, listing, entries, stored}
@@ -54,7 +54,7 @@ pub example : exampleAnswer
           ∷ 1 ∷ 900 ∷ 5 ∷ 1 ∷ 0 ∷ 0 ∷ 12 ∷ 1 ∷ 4294967295 ∷ 0
           ∷ 9 ∷ 9 ∷ [],
     )
-unfolding checkFrom checked framesFrom frameOf isSizeOf rows rowAmong mayScale registersOf twosComplement join shownRaw tooWide integer inRange classOf classified parsed opening scanFrom scan pointAt within groupsSize fillSize countUnimplemented fits fillOf pointsAt instances groupsAt contentAt endsWithPad allButLast laidOut readBy topOf reading recordNumbers walk recordsBy allRecords withRoom listing entries stored
+unfolding checkFrom checked framesFrom frameOf isSizeOf rows rowAmong mayScale registersOf twosComplement join shownRaw tooWide integer inRange classOf classified parsed opening scanFrom scan pointAt within measured fillMeasured countUnimplemented fits fillOf pointsAt instances groupsBy entered contentAt endsWithPad allButLast laidOut readBy topOf reading recordNumbers walk recordsBy allRecords withRoom listing entries stored
 example = refl
 
 -- ---- Catalogs and maps by hand
@@ -243,5 +243,5 @@ answers c = shown (listing (c .catalog) (c .registers) (c .room))
 
 -- Every case is answered as it says.
 pub worked-cases : map answers cases ≡ map (λ (c : Case). c .answer) cases
-unfolding cases checkFrom checked framesFrom frameOf isSizeOf rows rowAmong mayScale registersOf twosComplement join shownRaw tooWide integer inRange classOf classified parsed opening scanFrom scan pointAt within groupsSize fillSize countUnimplemented fits fillOf pointsAt instances groupsAt contentAt endsWithPad allButLast laidOut readBy topOf reading recordNumbers walk recordsBy allRecords withRoom listing
+unfolding cases checkFrom checked framesFrom frameOf isSizeOf rows rowAmong mayScale registersOf twosComplement join shownRaw tooWide integer inRange classOf classified parsed opening scanFrom scan pointAt within measured fillMeasured countUnimplemented fits fillOf pointsAt instances groupsBy entered contentAt endsWithPad allButLast laidOut readBy topOf reading recordNumbers walk recordsBy allRecords withRoom listing
 worked-cases = refl

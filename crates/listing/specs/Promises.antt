@@ -16,7 +16,7 @@ use Rattle.catalog.specs.Rules.{isSizeOf}
 use Rattle.catalog.specs.Definitions.{Groups, pointsSize}
 use Rattle.layout.specs.Points.{ModelPoint, Scope, statusOf, scaleOf}
 use Rattle.layout.specs.Layout.{countOf, groupsSize, fillSize, countUnimplemented}
-use Rattle.layout.specs.Counts.{groupsPoints, fillPoints, sizeOr0}
+use Rattle.layout.specs.Counts.{groupsPoints, fillPoints, or0}
 use Rattle.layout.specs.Reading.{endsWithPad}
 use Rattle.layout.specs.Walks.{heldAt, Stands, Ready, scopeIn, IsTable, AtGroups}
 use Rattle.listing.specs.Listing as Listing
@@ -48,7 +48,7 @@ pub record RunOf (ws : List ℕ) (first : ℕ) (r : Run) : Type 0 where
 pub record ExtentOf (top : Scope) (gs : Groups) (r : Extent) : Type 0 where
   pub size : r .size ≡ min (groupsSize (countOf top 0) gs) 65536
   pub points : r .points ≡ min (groupsPoints (countOf top 0) gs) 65536
-  pub fillSize : r .«fill_size» ≡ min (sizeOr0 (fillSize (countOf top 0) gs)) 65536
+  pub fillSize : r .«fill_size» ≡ min (or0 (fillSize (countOf top 0) gs)) 65536
   pub fillPoints : r .«fill_points» ≡ min (fillPoints (countOf top 0) gs) 65536
   pub unimplemented : r .unimplemented ≡ countUnimplemented top gs
 

@@ -1,4 +1,4 @@
--- The records of one model lie one behind the other, from the register behind its length to its last.
+-- The records of one model tile its registers, from the one after its length to its last.
 use mathlib.Core.Path.{_≡_}
 use mathlib.Core.Bool.{true, false}
 use mathlib.Core.List.{List, [], _∷_}
@@ -6,16 +6,14 @@ use Prim.Native.Nat.{ℕ}
 use lib.Dec.{eqb}
 use Rattle.lists.specs.Each.{Each}
 use Rattle.lists.specs.Members.{In}
-use Rattle.catalog.specs.Frames.{Point}
 use Rattle.catalog.specs.Definitions.{Definition}
 use Rattle.layout.specs.Tiling.{definedPoints, Tiles}
 use Rattle.listing.specs.Listing.{Record}
 
--- Records are of a definition's model and, by its points, fill the registers from an address up to another.
+-- Records are of a definition's model, each by a point of it, and tile the registers from an address up to another.
 pub record RecordsTiled (d : Definition) (from to : ℕ) (rs : List Record) : Type 0 where
-  pub by : List Point
-  pub defined : Each (λ q. In q (definedPoints d)) by
-  pub tiles : Tiles (λ r. r .address) (λ r. r .point .definition .number) from to rs by
+  pub defined : Each (λ r. In (r .point .definition) (definedPoints d)) rs
+  pub tiles : Tiles (λ r. r .address) (λ r. r .point .definition .size) from to rs
   pub ids : Each (λ r. r .id ≡ d .id) rs
 
 -- The records of the model with an index.

@@ -21,7 +21,7 @@ ghost use Rattle.catalog.specs.Soundness as Soundness;
 ghost use Rattle.catalog.specs.Answers.{pointForm};
 ghost use Rattle.layout.specs.Points.{pointAt};
 ghost use Rattle.layout.specs.Layout.{within, nothing, countOf, pointsAt, groupsAt};
-ghost use Rattle.layout.specs.Walks.{heldAt, Accepted, levelOf, scopeIn, noted, IsTable, Elsewhere, pointsOf, HasPoints, Ready, readIn, begunAt};
+ghost use Rattle.layout.specs.Walks.{heldAt, Accepted, levelOf, scopeIn, instanceIn, noted, IsTable, Elsewhere, pointsOf, HasPoints, Ready, readIn, begunAt};
 ghost use Rattle.listing.specs.Listing.{recordNumbers, recordWidth};
 ghost use Rattle.listing.specs.Promises.{recordAt, foundWidth, isSamePath, seen, capacity, written, PointFits, RunAsks, BehindRun, GroupsAsk, BehindGroups};
 
@@ -66,6 +66,11 @@ pub(crate) struct Visit {
     pub(crate) sought: Sought,
 }
 
+// An instance of a group that is walked: its path. What is in its scope is in the table.
+struct Instance {
+    path: InstancePath,
+}
+
 // A model whose groups are walked: the visit, and the count of its fill group.
 struct Model {
     visit: Visit,
@@ -101,15 +106,17 @@ pub(crate) fn put_model(
     ensures { λ _. ⌜ now (out .exit) ≡ written visit records (pointsOf (readIn (now (catalog .entry)) (visit .id) (now (body .entry)))) (now (out .entry)) ⌝ }
     ensures { λ _. ⌜ IsTable (now (table .exit)) ⌝ }
 {
-    let path = InstancePath {
-        instances: [0, 0, 0],
+    let top = Instance {
+        path: InstancePath {
+            instances: [0, 0, 0],
+        },
     };
     let start = Progress {
         records,
         offset: 0,
         frame: first,
     };
-    let behind_points = put_run(catalog, table, out, visit, body, path, start);
+    let behind_points = put_run(catalog, table, out, visit, body, top, start);
     if behind_points.offset == body.len() {
         return behind_points.records;
     }
@@ -121,7 +128,7 @@ pub(crate) fn put_model(
         model,
         body,
         LOWER_LEVELS,
-        path,
+        top,
         behind_points,
     );
     behind.records
@@ -134,20 +141,20 @@ fn put_run(
     out: &mut [u64],
     visit: Visit,
     body: &[u16],
-    path: InstancePath,
+    instance: Instance,
     start: Progress,
 ) -> Progress
-    requires { ⌜ IsTable (now table) × (length (path .instances) ≡ 3) ⌝ }
+    requires { ⌜ IsTable (now table) × (length (instance .path .instances) ≡ 3) ⌝ }
     requires { ⌜ RunAsks (now catalog) (now body) (now out) visit start (begunAt (now catalog) (now body) (start .offset) (start .frame)) ⌝ }
     ensures { λ r. ⌜ BehindRun start (begunAt (now (catalog .entry)) (now (body .entry)) (start .offset) (start .frame)) r ⌝ }
-    ensures { λ _. ⌜ now (out .exit) ≡ written visit (start .records) (pointsAt (now (body .entry)) (scopeIn (now (table .entry))) (path .instances) (start .offset) (begunAt (now (catalog .entry)) (now (body .entry)) (start .offset) (start .frame))) (now (out .entry)) ⌝ }
+    ensures { λ _. ⌜ now (out .exit) ≡ written visit (start .records) (pointsAt (now (body .entry)) (instanceIn (now (table .entry)) (instance .path .instances)) (start .offset) (begunAt (now (catalog .entry)) (now (body .entry)) (start .offset) (start .frame))) (now (out .entry)) ⌝ }
 {
     let mut at = start;
     while at.offset < body.len() {
         let next = point_at(catalog, at.frame);
         match next {
             PointOr::Point(point) => {
-                put_point(table, out, visit, body, path, at, point);
+                put_point(table, out, visit, body, instance, at, point);
                 at = Progress {
                     records: at.records + 1,
                     offset: at.offset + point.size as usize,
@@ -169,12 +176,12 @@ fn put_groups(
     model: Model,
     body: &[u16],
     levels: usize,
-    path: InstancePath,
+    instance: Instance,
     start: Progress,
 ) -> Progress
-    requires { ⌜ GroupsAsk (now catalog) (now body) (now table) (now out) (model .visit) (model .fill) levels (path .instances) start ⌝ }
+    requires { ⌜ GroupsAsk (now catalog) (now body) (now table) (now out) (model .visit) (model .fill) levels (instance .path .instances) start ⌝ }
     ensures { λ r. ⌜ BehindGroups (heldAt (now (catalog .entry)) (start .frame) .groups) (countOf (scopeIn (now (table .entry))) (model .fill)) start r ⌝ }
-    ensures { λ _. ⌜ now (out .exit) ≡ written (model .visit) (start .records) (groupsAt (now (body .entry)) (countOf (scopeIn (now (table .entry))) (model .fill)) (levelOf levels) (scopeIn (now (table .entry))) (path .instances) (start .offset) (heldAt (now (catalog .entry)) (start .frame) .groups)) (now (out .entry)) ⌝ }
+    ensures { λ _. ⌜ now (out .exit) ≡ written (model .visit) (start .records) (groupsAt (now (body .entry)) (countOf (scopeIn (now (table .entry))) (model .fill)) (levelOf levels) (instanceIn (now (table .entry)) (instance .path .instances)) (start .offset) (heldAt (now (catalog .entry)) (start .frame) .groups)) (now (out .entry)) ⌝ }
     ensures { λ _. ⌜ Elsewhere (Soundness.numbersOf (groupFrames (heldAt (now (catalog .entry)) (start .frame) .groups))) (now (table .entry)) (now (table .exit)) ⌝ }
     ensures { λ _. ⌜ IsTable (now (table .exit)) ⌝ }
 {
@@ -186,7 +193,7 @@ fn put_groups(
         match next {
             GroupOr::Group(head) => {
                 if j < count_of(table, head, model.fill) {
-                    let within = instance_path(path, levels, j as u16);
+                    let within = enter(instance, levels, j as u16);
                     let own = put_own(catalog, table, out, model.visit, body, within, at);
                     let end = put_groups(catalog, table, out, model, body, levels - 1, within, own);
                     at = at_frame(end, at.frame);
@@ -209,13 +216,13 @@ fn put_own(
     out: &mut [u64],
     visit: Visit,
     body: &[u16],
-    path: InstancePath,
+    instance: Instance,
     at: Progress,
 ) -> Progress
-    requires { ⌜ IsTable (now table) × (length (path .instances) ≡ 3) ⌝ }
+    requires { ⌜ IsTable (now table) × (length (instance .path .instances) ≡ 3) ⌝ }
     requires { ⌜ RunAsks (now catalog) (now body) (now out) visit (record { records = at .records; offset = at .offset; frame = at .frame + 1 }) (heldAt (now catalog) (at .frame + 1) .points) ⌝ }
     ensures { λ r. ⌜ BehindRun (record { records = at .records; offset = at .offset; frame = at .frame + 1 }) (heldAt (now (catalog .entry)) (at .frame + 1) .points) r ⌝ }
-    ensures { λ _. ⌜ now (out .exit) ≡ written visit (at .records) (pointsAt (now (body .entry)) (within (now (body .entry)) (at .offset) (heldAt (now (catalog .entry)) (at .frame + 1) .points) (scopeIn (now (table .entry)))) (path .instances) (at .offset) (heldAt (now (catalog .entry)) (at .frame + 1) .points)) (now (out .entry)) ⌝ }
+    ensures { λ _. ⌜ now (out .exit) ≡ written visit (at .records) (pointsAt (now (body .entry)) (record { scope = within (now (body .entry)) (at .offset) (heldAt (now (catalog .entry)) (at .frame + 1) .points) (scopeIn (now (table .entry))); path = instance .path .instances }) (at .offset) (heldAt (now (catalog .entry)) (at .frame + 1) .points)) (now (out .entry)) ⌝ }
     ensures { λ _. ⌜ now (table .exit) ≡ noted (now (body .entry)) (at .offset) (heldAt (now (catalog .entry)) (at .frame + 1) .points) (now (table .entry)) ⌝ }
 {
     let behind = at.frame + 1;
@@ -225,7 +232,7 @@ fn put_own(
         frame: behind,
     };
     note_run(catalog, behind, body, at.offset, table);
-    put_run(catalog, table, out, visit, body, path, first)
+    put_run(catalog, table, out, visit, body, instance, first)
 }
 
 // As far as before, but at another frame.
@@ -239,15 +246,17 @@ fn at_frame(at: Progress, frame: usize) -> Progress
     }
 }
 
-// The path to instance j of a group that may hold groups of levels - 1 levels.
-fn instance_path(path: InstancePath, levels: usize, j: u16) -> InstancePath
+// Instance j of a group that may hold groups of levels - 1 levels, within an instance.
+fn enter(around: Instance, levels: usize, j: u16) -> Instance
     requires { ⌜ (1 ≤ levels) × (levels ≤ 3) ⌝ }
-    requires { ⌜ length (path .instances) ≡ 3 ⌝ }
-    ensures { λ r. ⌜ r .instances ≡ set (path .instances) (levelOf levels - 2) j ⌝ }
+    requires { ⌜ length (around .path .instances) ≡ 3 ⌝ }
+    ensures { λ r. ⌜ r .path .instances ≡ set (around .path .instances) (levelOf levels - 2) j ⌝ }
 {
-    let mut instances = path.instances;
+    let mut instances = around.path.instances;
     instances[LOWER_LEVELS - levels] = j;
-    InstancePath { instances }
+    Instance {
+        path: InstancePath { instances },
+    }
 }
 
 // Writes of a point what the walk is for.
@@ -256,19 +265,19 @@ fn put_point(
     out: &mut [u64],
     visit: Visit,
     body: &[u16],
-    path: InstancePath,
+    instance: Instance,
     at: Progress,
     point: Point,
 )
-    requires { ⌜ IsTable (now table) × (length (path .instances) ≡ 3) ⌝ }
+    requires { ⌜ IsTable (now table) × (length (instance .path .instances) ≡ 3) ⌝ }
     requires { ⌜ PointFits (now body) (at .offset) visit (pointForm point) ⌝ }
     requires { ⌜ recordWidth * (at .records + 1) ≤ capacity (visit .task) (length (now out)) ⌝ }
-    ensures { λ _. ⌜ now (out .exit) ≡ written visit (at .records) (pointAt (now (body .entry)) (scopeIn (now (table .entry))) (path .instances) (at .offset) (pointForm point) ∷ []) (now (out .entry)) ⌝ }
+    ensures { λ _. ⌜ now (out .exit) ≡ written visit (at .records) (pointAt (now (body .entry)) (instanceIn (now (table .entry)) (instance .path .instances)) (at .offset) (pointForm point) ∷ []) (now (out .entry)) ⌝ }
 {
     let task = visit.task;
     match task {
-        Task::Records => put_record(table, out, visit, body, path, at, point),
-        Task::Search => put_found(out, visit, body, path, at.offset, point),
+        Task::Records => put_record(table, out, visit, body, instance, at, point),
+        Task::Search => put_found(out, visit, body, instance.path, at.offset, point),
     }
 }
 
@@ -278,24 +287,25 @@ fn put_record(
     out: &mut [u64],
     visit: Visit,
     body: &[u16],
-    path: InstancePath,
+    instance: Instance,
     at: Progress,
     point: Point,
 )
-    requires { ⌜ IsTable (now table) × (length (path .instances) ≡ 3) ⌝ }
+    requires { ⌜ IsTable (now table) × (length (instance .path .instances) ≡ 3) ⌝ }
     requires { ⌜ PointFits (now body) (at .offset) visit (pointForm point) ⌝ }
     requires { ⌜ recordWidth * (at .records + 1) ≤ length (now out) ⌝ }
-    ensures { λ _. ⌜ now (out .exit) ≡ sets (now (out .entry)) (recordWidth * at .records) (recordNumbers (recordAt visit (pointAt (now (body .entry)) (scopeIn (now (table .entry))) (path .instances) (at .offset) (pointForm point)))) ⌝ }
+    ensures { λ _. ⌜ now (out .exit) ≡ sets (now (out .entry)) (recordWidth * at .records) (recordNumbers (recordAt visit (pointAt (now (body .entry)) (instanceIn (now (table .entry)) (instance .path .instances)) (at .offset) (pointForm point)))) ⌝ }
 {
+    let path = instance.path.instances;
     let registers = part(body, at.offset, point.size as usize);
     let shown = show(point, registers, table[point.scale as usize]);
     let numbers = [
         visit.index as u64,
         visit.id as u64,
         point.number as u64,
-        path.instances[0] as u64,
-        path.instances[1] as u64,
-        path.instances[2] as u64,
+        path[0] as u64,
+        path[1] as u64,
+        path[2] as u64,
         (visit.address + 2 + at.offset) as u64,
         shown.status,
         shown.raw,
@@ -315,7 +325,7 @@ fn put_found(
 )
     requires { ⌜ PointFits (now body) offset visit (pointForm point) ⌝ }
     requires { ⌜ foundWidth ≤ length (now out) ⌝ }
-    ensures { λ _. ⌜ now (out .exit) ≡ seen (visit .sought) (recordAt visit (pointAt (now (body .entry)) nothing (path .instances) offset (pointForm point))) (now (out .entry)) ⌝ }
+    ensures { λ _. ⌜ now (out .exit) ≡ seen (visit .sought) (recordAt visit (pointAt (now (body .entry)) (record { scope = nothing; path = path .instances }) offset (pointForm point))) (now (out .entry)) ⌝ }
 {
     if out[0] != 0 {
         return;

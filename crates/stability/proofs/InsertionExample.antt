@@ -17,7 +17,7 @@ use Rattle.register_map.specs.Scan as Scan
 use Rattle.register_map.specs.Scan.{Model, WellFormed, scanFrom, scan}
 use Rattle.register_map.specs.Insertion.{placed, lengthened, gapsBefore}
 use Rattle.layout.specs.Points.{ModelPoint, pointAt}
-use Rattle.layout.specs.Layout.{within, groupsSize, fillSize, countUnimplemented, fits, fillOf, pointsAt, groupsAt, contentAt}
+use Rattle.layout.specs.Layout.{within, measured, fillMeasured, countUnimplemented, fits, fillOf, pointsAt, groupsBy, entered, contentAt}
 use Rattle.layout.specs.Reading.{endsWithPad, laidOut, readBy, topOf, reading}
 use Rattle.listing.specs.Listing.{Record, listed, walk, recordsBy, allRecords, withRoom, listing}
 use Rattle.stability.specs.Stability.{MadeOfWholeModels, UnknownModel, movedAnswer, MovedByLower}
@@ -70,7 +70,7 @@ pub old : listing catalog plant 20
     ≡ listed (model1 ∷ record { index = 1; id = 7; address = 7; point = point 50 } ∷ []) 3
 unfolding rows rowAmong registersOf join shownRaw tooWide inRange classOf classified
     frameOf framesFrom isSizeOf checkFrom checked parsed opening scanFrom scan
-    pointAt within groupsSize fillSize countUnimplemented fits fillOf pointsAt groupsAt contentAt
+    pointAt within measured fillMeasured countUnimplemented fits fillOf pointsAt groupsBy entered contentAt
     endsWithPad laidOut readBy topOf reading walk recordsBy allRecords withRoom listing
 old = refl
 

@@ -15,7 +15,7 @@ use Rattle.catalog.specs.Removal.{keeping, allButOne}
 use Rattle.register_map.specs.Headers.{opening}
 use Rattle.register_map.specs.Scan.{scanFrom, scan}
 use Rattle.layout.specs.Points.{ModelPoint, pointAt}
-use Rattle.layout.specs.Layout.{within, groupsSize, fillSize, countUnimplemented, fits, fillOf, pointsAt, groupsAt, contentAt}
+use Rattle.layout.specs.Layout.{within, measured, fillMeasured, countUnimplemented, fits, fillOf, pointsAt, groupsBy, entered, contentAt}
 use Rattle.layout.specs.Reading.{endsWithPad, laidOut, readBy, topOf, reading}
 use Rattle.listing.specs.Listing.{Record, recordWidth, listed, walk, recordsBy, allRecords, withRoom, listing}
 use Rattle.stability.specs.Removed.{keepsId, recordsLeft}
@@ -60,7 +60,7 @@ model7 = record { index = 2; id = 7; address = 11; point = point 50 }
 pub both-listed : listing catalog plant 20 ≡ listed (model1 ∷ model7 ∷ []) 4
 unfolding rows rowAmong registersOf join shownRaw tooWide inRange classOf classified
     frameOf framesFrom isSizeOf checkFrom checked parsed opening scanFrom scan
-    pointAt within groupsSize fillSize countUnimplemented fits fillOf pointsAt groupsAt contentAt
+    pointAt within measured fillMeasured countUnimplemented fits fillOf pointsAt groupsBy entered contentAt
     endsWithPad laidOut readBy topOf reading walk recordsBy allRecords withRoom listing
 both-listed = refl
 

@@ -20,16 +20,16 @@ use Rattle.catalog.proofs.GroupSizes.{point-size}
 use Rattle.catalog.proofs.References.{points-resolve}
 use Rattle.catalog.proofs.GroupNumbers.{point-among}
 use Rattle.layout.specs.Points.{ModelPoint, Scope}
-use Rattle.layout.specs.Layout.{withPoint, within, groupsSize, pointsAt, instances, groupsAt}
+use Rattle.layout.specs.Layout.{withPoint, within, groupsSize, pointsAt, instances, entered, groupsBy, groupsAt}
 use Rattle.layout.specs.Tiling.{lowerPoints}
 use Rattle.layout.specs.Paths.{agreeTo, pathOf}
-use Rattle.layout.proofs.InstancePairs.{pairwise-instances}
+use Rattle.layout.proofs.InstanceLaws.{pairwise-instances}
 use Rattle.layout.proofs.IntoGroups.{SoundBelow, below, beside}
 use Rattle.layout.proofs.Places.{Place}
 use Rattle.layout.proofs.Depths.{levels, agree-behind, Deep, own-depth, inside-deep, behind-deep}
 use Rattle.writing.specs.AfterWriting.{PointAfter}
 use Rattle.writing.proofs.OnePointAfter as one
-use Rattle.writing.proofs.OnePointAfter.{Write}
+use Rattle.writing.proofs.OnePointAfter.{Write, inScope}
 
 module _ (top : Content) (w : ModelPoint) (raw : ℕ) (body : List ℕ) (defined : List Point) (x : Write defined w raw body) where
   -- The body behind this write,
@@ -52,7 +52,7 @@ module _ (top : Content) (w : ModelPoint) (raw : ℕ) (body : List ℕ) (defined
 
   -- Within an instance, a register in reach is what the write makes of it, if it is around it, or if a point of it is meant.
   within-becomes : (path : List ℕ) (u : Scope) (a : ℕ) (around ps : List Point) → Each (SoundPoint around) ps
-      → Each (Place top w) (pointsAt body u path a ps) → (s t : Scope) (m : ℕ)
+      → Each (Place top w) (pointsAt body (inScope u path) a ps) → (s t : Scope) (m : ℕ)
       → (among m (numbersOf (pointFrames ps)) ≡ false → t m ≡ becomes path m (s m))
       → within new a ps t m ≡ becomes path m (within body a ps s m)
   unfolding within pointsAt
@@ -72,14 +72,14 @@ module _ (top : Content) (w : ModelPoint) (raw : ℕ) (body : List ℕ) (defined
 
   -- So for the points of the instance,
   pub own-becomes : (path : List ℕ) (u : Scope) (a : ℕ) (around ps : List Point) → Each (SoundPoint around) ps
-      → Each (Place top w) (pointsAt body u path a ps) → (s t : Scope)
+      → Each (Place top w) (pointsAt body (inScope u path) a ps) → (s t : Scope)
       → Scopes ps path (within body a ps s) (within new a ps t)
   own-becomes path u a around ps sound places s t p i =
       within-becomes path u a around ps sound places s t (p .number) (λ e. clash (sym (point-among p ps i) ∙ e))
 
   -- and for those around it.
   reach-becomes : (path : List ℕ) (u : Scope) (a : ℕ) (around ps enclosing : List Point) → Each (SoundPoint around) ps
-      → Each (Place top w) (pointsAt body u path a ps) → (s t : Scope) → Scopes enclosing path s t
+      → Each (Place top w) (pointsAt body (inScope u path) a ps) → (s t : Scope) → Scopes enclosing path s t
       → Scopes (ps ++ enclosing) path (within body a ps s) (within new a ps t)
   reach-becomes path u a around ps enclosing sound places s t h p i =
       within-becomes path u a around ps sound places s t (p .number) (λ e.
@@ -103,8 +103,8 @@ module _ (top : Content) (w : ModelPoint) (raw : ℕ) (body : List ℕ) (defined
   -- The points of an instance.
   pub points-after : (path : List ℕ) (a : ℕ) (around reach ps : List Point) → Each (SoundPoint around) ps
       → Each (ScaleResolves reach) ps → ((f : Point) → In f reach → In f defined) → (s t : Scope) → Scopes reach path s t
-      → Each (Place top w) (pointsAt body s path a ps)
-      → Pairwise (PointAfter top w raw) (pointsAt body s path a ps) (pointsAt new t path a ps)
+      → Each (Place top w) (pointsAt body (inScope s path) a ps)
+      → Pairwise (PointAfter top w raw) (pointsAt body (inScope s path) a ps) (pointsAt new (inScope t path) a ps)
   unfolding pointsAt
   points-after path a around reach [] sound resolve known s t h places = tt
   points-after path a around reach (p ∷ ps) sound resolve known s t h places = (
@@ -119,9 +119,9 @@ module _ (top : Content) (w : ModelPoint) (raw : ℕ) (body : List ℕ) (defined
       → SoundBelow tops enclosing level g → 2 ≤ level → Deep (w .definition .number) depth level g
       → ((p : Point) → In p enclosing → p .number ≡ w .definition .number → depth ≤ level - 2)
       → ((p : Point) → In p enclosing → In p defined) → ((p : Point) → In p (lowerPoints g) → In p defined)
-      → (s t : Scope) → Scopes enclosing path s t → Each (Place top w) (groupsAt body count level s path offset g)
-      → Pairwise (PointAfter top w raw) (groupsAt body count level s path offset g) (groupsAt new count level t path offset g)
-  unfolding groupsAt
+      → (s t : Scope) → Scopes enclosing path s t → Each (Place top w) (groupsAt body count level (inScope s path) offset g)
+      → Pairwise (PointAfter top w raw) (groupsAt body count level (inScope s path) offset g) (groupsAt new count level (inScope t path) offset g)
+  unfolding groupsBy entered
   groups-after count tops enclosing level path offset noGroup sound low deep shallow around ahead s t h places = tt
   groups-after count tops enclosing level path offset (group hd ps inside behind) sound low deep shallow around ahead s t h
       places =
@@ -139,22 +139,22 @@ module _ (top : Content) (w : ModelPoint) (raw : ℕ) (body : List ℕ) (defined
       omega (arith, own-depth n depth level hd ps inside behind distinct low deep a))
       (λ j. omega (arith, shallow p j e)) in
       let old : (ℕ → ℕ → List ModelPoint) = λ j at.
-      pointsAt body (within body at ps s) (set path (level - 2) j) at ps
-      ++ groupsAt body count (suc level) (within body at ps s) (set path (level - 2) j) (at + pointsSize ps) inside in
+      pointsAt body (entered body level j at ps (inScope s path)) at ps
+      ++ groupsAt body count (suc level) (entered body level j at ps (inScope s path)) (at + pointsSize ps) inside in
       let after : (ℕ → ℕ → List ModelPoint) = λ j at.
-      pointsAt new (within new at ps t) (set path (level - 2) j) at ps
-      ++ groupsAt new count (suc level) (within new at ps t) (set path (level - 2) j) (at + pointsSize ps) inside in
+      pointsAt new (entered new level j at ps (inScope t path)) at ps
+      ++ groupsAt new count (suc level) (entered new level j at ps (inScope t path)) (at + pointsSize ps) inside in
       let each : (j at : ℕ) → Each (Place top w) (old j at) → Pairwise (PointAfter top w raw) (old j at) (after j at) = λ j at e.
       let path′ = set path (level - 2) j in
       let s′ = within body at ps s in
       let t′ = within new at ps t in
-      let own = pointsAt body s′ path′ at ps in
-      let rest = groupsAt body count (suc level) s′ path′ (at + pointsSize ps) inside in
+      let own = pointsAt body (inScope s′ path′) at ps in
+      let rest = groupsAt body count (suc level) (inScope s′ path′) (at + pointsSize ps) inside in
       let parts = each-parts (Place top w) own rest e in
       let scopes = reach-becomes path′ s′ at reach ps enclosing (sound .sound .2) (parts .0) s t
       (deeper enclosing path (level - 2) j s t shallow h) in
-      pairwise-append (PointAfter top w raw) own (pointsAt new t′ path′ at ps) rest
-      (groupsAt new count (suc level) t′ path′ (at + pointsSize ps) inside)
+      pairwise-append (PointAfter top w raw) own (pointsAt new (inScope t′ path′) at ps) rest
+      (groupsAt new count (suc level) (inScope t′ path′) (at + pointsSize ps) inside)
       (points-after path′ at reach reach ps (sound .sound .2) (points-resolve reach ps (sound .sound .2)) reachKnown s′ t′ scopes
       (parts .0))
       (groups-after count tops reach (suc level) path′ (at + pointsSize ps) inside
@@ -163,10 +163,10 @@ module _ (top : Content) (w : ModelPoint) (raw : ℕ) (body : List ℕ) (defined
       (λ p i. ahead p (in-behind p ps (L ++ B) (in-front p L B i))) s′ t′ scopes (parts .1)) in
       let mid = offset + count hd * size in
       let first = instances (count hd) 0 offset size old in
-      let rest = groupsAt body count level s path mid behind in
+      let rest = groupsAt body count level (inScope s path) mid behind in
       let parts = each-parts (Place top w) first rest places in
       pairwise-append (PointAfter top w raw) first (instances (count hd) 0 offset size after) rest
-      (groupsAt new count level t path mid behind)
+      (groupsAt new count level (inScope t path) mid behind)
       (pairwise-instances (Place top w) (PointAfter top w raw) old after each (count hd) 0 offset size (parts .0))
       (groups-after count tops enclosing level path mid behind (beside tops enclosing level hd ps inside behind sound) low
       (behind-deep n depth level hd ps inside behind distinct low deep) shallow around

@@ -22,7 +22,7 @@ use Rattle.catalog.specs.Definitions.{Definition, pointsSize}
 use Rattle.catalog.specs.Soundness.{SoundPoint, SoundDefinition, ScaleResolves}
 use Rattle.catalog.proofs.References.{points-resolve}
 use Rattle.layout.specs.Points.{ModelPoint, Scope}
-use Rattle.layout.specs.Layout.{nothing, topScope, countsOf, noInstance, pointsAt, groupsAt, contentAt}
+use Rattle.layout.specs.Layout.{nothing, topScope, countsOf, noInstance, pointsAt, groupsAt, contentAt, topInstance}
 use Rattle.layout.specs.Reading.{points, allButLast, padLeftOut, readBy}
 use Rattle.layout.specs.Tiling.{lowerPoints, definedPoints}
 use Rattle.layout.specs.Paths.{depthIn, agreeTo, pathOf}
@@ -38,7 +38,7 @@ use Rattle.layout.proofs.ReadOnlyCounts as counts
 use Rattle.writing.specs.Writing.{canHold}
 use Rattle.writing.specs.AfterWriting.{PointAfter}
 use Rattle.writing.proofs.OnePointAfter as one
-use Rattle.writing.proofs.OnePointAfter.{fails, Write}
+use Rattle.writing.proofs.OnePointAfter.{fails, Write, inScope}
 use Rattle.writing.proofs.GroupsAfter as after
 
 -- ---- One model
@@ -142,7 +142,7 @@ module _ (d : Definition) (sound : SoundDefinition d) (body : List ℕ) (ps : Li
 
     -- Its points.
     content-after : Each (Place (d .top) w)
-        (groupsAt body (countsOf (d .top) body) 2 old noInstance (pointsSize (d .top .points)) (d .top .groups))
+        (groupsAt body (countsOf (d .top) body) 2 (inScope old noInstance) (pointsSize (d .top .points)) (d .top .groups))
         → Pairwise (PointAfter (d .top) w raw) (contentAt (d .top) body) (contentAt (d .top) new)
     unfolding contentAt
     content-after lowerPlaces =
@@ -153,12 +153,13 @@ module _ (d : Definition) (sound : SoundDefinition d) (body : List ℕ) (ps : Li
         let shallow : (p : Point) → In p tops → p .number ≡ w .definition .number
         → depthIn (w .definition .number) g ≤ 2 - 2 = λ p i e.
         omega (arith, absent-depth (w .definition .number) g (rw (← e) (below .apart p i))) in
-        let ownPoints = pointsAt body old noInstance 0 tops in
-        let lower = groupsAt body (countsOf (d .top) body) 2 old noInstance (pointsSize tops) g in
+        let ownPoints = pointsAt body (inScope old noInstance) 0 tops in
+        let lower = groupsAt body (countsOf (d .top) body) 2 (inScope old noInstance) (pointsSize tops) g in
         let again =
-        counts.same-groups (d .top) (sound .groups) body new same-length read-only-stay noInstance (pointsSize tops) in
-        pairwise-append R ownPoints (pointsAt new now noInstance 0 tops) lower
-        (groupsAt new (countsOf (d .top) new) 2 now noInstance (pointsSize tops) g)
+        counts.same-groups (d .top) (sound .groups) body new same-length read-only-stay (inScope now noInstance)
+        (pointsSize tops) in
+        pairwise-append R ownPoints (pointsAt new (inScope now noInstance) 0 tops) lower
+        (groupsAt new (countsOf (d .top) new) 2 (inScope now noInstance) (pointsSize tops) g)
         (after.points-after (d .top) w raw body (definedPoints d) write noInstance 0 tops tops tops (sound .points)
         (points-resolve tops tops (sound .points)) topKnown old now scopes ownPlaces)
         (subst (λ qs. Pairwise R lower qs) (sym again)
@@ -171,8 +172,8 @@ module _ (d : Definition) (sound : SoundDefinition d) (body : List ℕ) (ps : Li
   unfolding contentAt
   full-after kept f places =
       let S = topScope (d .top .points) body in
-      let ownPoints = pointsAt body S noInstance 0 (d .top .points) in
-      let lower = groupsAt body (countsOf (d .top) body) 2 S noInstance (pointsSize (d .top .points)) (d .top .groups) in
+      let ownPoints = pointsAt body (inScope S noInstance) 0 (d .top .points) in
+      let lower = groupsAt body (countsOf (d .top) body) 2 (inScope S noInstance) (pointsSize (d .top .points)) (d .top .groups) in
       let parts = each-parts (Place (d .top) w) ownPoints lower places in (
         contentAt (d .top) new,
         read-full (d .id) (d .top) new (ap (λ (n : ℕ). padLeftOut (d .id) (d .top) n) same-length ∙ kept)

@@ -21,7 +21,7 @@ use Rattle.catalog.specs.Frames.{Point, scaleByPoint, sunssf}
 use Rattle.catalog.specs.Rules.{isSizeOf}
 use Rattle.catalog.specs.Definitions.{Content}
 use Rattle.catalog.specs.Soundness.{SoundPoint, ScaleResolves}
-use Rattle.layout.specs.Points.{ModelPoint, Scope, statusOf, scaleOf, registersAt, pointAt}
+use Rattle.layout.specs.Points.{ModelPoint, Scope, Instance, statusOf, scaleOf, registersAt, pointAt}
 use Rattle.layout.specs.Paths.{depthIn, agreeTo, pathOf}
 use Rattle.layout.proofs.ReachOnly.{same-status, same-scale, shownAs, shown-same}
 use Rattle.layout.proofs.Places.{Place}
@@ -34,6 +34,10 @@ use Rattle.writing.proofs.ValueStatus as status
 pub fails : (b : Bool) → (b ≡ true → true ≡ false) → b ≡ false
 fails true f = f refl
 fails false f = refl
+
+-- The instance with a scope and a path.
+abbrev pub inScope : Scope → List ℕ → Instance
+inScope scope path = record { scope = scope; path = path }
 
 -- What is known of a write of a raw number to the point w of a body, by a definition with these points.
 pub record Write (defined : List Point) (w : ModelPoint) (raw : ℕ) (body : List ℕ) : Type 0 where
@@ -89,7 +93,7 @@ module _ (top : Content) (w : ModelPoint) (raw : ℕ) (body : List ℕ) where
     fitting : w .offset + length values ≤ length body
     fitting = omega (arith, count, x .inside)
 
-    module _ (s : Scope) (path : List ℕ) (a : ℕ) (p : Point) (place : Place top w (pointAt body s path a p)) where
+    module _ (s : Scope) (path : List ℕ) (a : ℕ) (p : Point) (place : Place top w (pointAt body (inScope s path) a p)) where
       -- Another point's registers lie before or behind those written.
       away : (a ≡ w .offset → ⊥) → (a + p .size ≤ w .offset) ⊎ (w .offset + length values ≤ a)
       unfolding pointAt
@@ -156,14 +160,14 @@ module _ (top : Content) (w : ModelPoint) (raw : ℕ) (body : List ℕ) where
       factor-stays k e = scale-register k ∙ becomes-other path (p .scale) (s (p .scale)) e
 
       -- The point at its place.
-      module _ (place : Place top w (pointAt body s path a p)) where
+      module _ (place : Place top w (pointAt body (inScope s path) a p)) where
         -- The point as it was,
         abbrev old : ModelPoint
-        old = pointAt body s path a p
+        old = pointAt body (inScope s path) a p
 
         -- and as it is.
         abbrev after : ModelPoint
-        after = pointAt new t path a p
+        after = pointAt new (inScope t path) a p
 
         -- A point elsewhere keeps its registers.
         elsewhere : (a ≡ w .offset → ⊥) → (register : ℕ) → (p .scaleKind ≡ scaleByPoint → t (p .scale) ≡ register)

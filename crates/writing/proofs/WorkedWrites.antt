@@ -16,7 +16,7 @@ use Rattle.catalog.specs.Definitions.{Content, parsed, definitions}
 use Rattle.register_map.specs.Headers.{opening}
 use Rattle.register_map.specs.Scan.{scanFrom, scan}
 use Rattle.layout.specs.Points.{pointAt}
-use Rattle.layout.specs.Layout.{within, groupsSize, fillSize, countUnimplemented, fits, fillOf, pointsAt, instances, groupsAt, contentAt}
+use Rattle.layout.specs.Layout.{within, measured, fillMeasured, countUnimplemented, fits, fillOf, pointsAt, instances, groupsBy, entered, contentAt}
 use Rattle.layout.specs.Reading.{endsWithPad, allButLast, laidOut, readBy, topOf, reading}
 use Rattle.layout.specs.Paths.{depthIn}
 use Rattle.listing.specs.Listing as Listing
@@ -68,8 +68,8 @@ rescaledPlant =
 -- It becomes -2: one register changes.
 pub factor-written : writing catalog plant 1 7 (instance 1) 0xFFFE ≡ written rescaledPlant
 unfolding checkFrom checked framesFrom frameOf isSizeOf rows rowAmong mayScale registersOf twosComplement join shownRaw tooWide
-    integer inRange classOf classified parsed opening scanFrom scan pointAt within groupsSize fillSize countUnimplemented
-    fits fillOf pointsAt instances groupsAt contentAt endsWithPad allButLast laidOut readBy topOf reading walk recordsBy
+    integer inRange classOf classified parsed opening scanFrom scan pointAt within measured fillMeasured countUnimplemented
+    fits fillOf pointsAt instances groupsBy entered contentAt endsWithPad allButLast laidOut readBy topOf reading walk recordsBy
     allRecords firstWith finding split refusal rewritten writing
 factor-written = refl
 
@@ -92,8 +92,8 @@ recordsWith status scale factorStatus factor =
 pub records-changed : map (λ m. shown (listing catalog m 90)) (plant ∷ rescaledPlant ∷ [])
     ≡ recordsWith 4 0 5 11 ∷ recordsWith 0 65534 0 65534 ∷ []
 unfolding checkFrom checked framesFrom frameOf isSizeOf rows rowAmong mayScale registersOf twosComplement join shownRaw tooWide
-    integer inRange classOf classified parsed opening scanFrom scan pointAt within groupsSize fillSize countUnimplemented
-    fits fillOf pointsAt instances groupsAt contentAt endsWithPad allButLast laidOut readBy topOf reading recordNumbers
+    integer inRange classOf classified parsed opening scanFrom scan pointAt within measured fillMeasured countUnimplemented
+    fits fillOf pointsAt instances groupsBy entered contentAt endsWithPad allButLast laidOut readBy topOf reading recordNumbers
     walk recordsBy allRecords withRoom listing
 records-changed = refl
 
@@ -115,8 +115,8 @@ scaledBy number path (Listing.refused n place headers) top = []
 pub scaled-by-instance-1 : scaledBy 7 (instance 1) (allRecords catalog plant) (topOf 900 (definitions catalog))
     ≡ false ∷ false ∷ false ∷ false ∷ false ∷ false ∷ false ∷ true ∷ false ∷ []
 unfolding checkFrom checked framesFrom frameOf isSizeOf rows rowAmong mayScale registersOf twosComplement join shownRaw tooWide
-    integer inRange classOf classified parsed opening scanFrom scan pointAt within groupsSize fillSize countUnimplemented
-    fits fillOf pointsAt instances groupsAt contentAt endsWithPad allButLast laidOut readBy topOf reading walk recordsBy
+    integer inRange classOf classified parsed opening scanFrom scan pointAt within measured fillMeasured countUnimplemented
+    fits fillOf pointsAt instances groupsBy entered contentAt endsWithPad allButLast laidOut readBy topOf reading walk recordsBy
     allRecords firstWith depthIn
 scaled-by-instance-1 = refl
 
@@ -161,7 +161,7 @@ writes =
 pub worked-writes : map (λ (w : Write). writing catalog plant 1 (w .number) (w .path) (w .raw)) writes
     ≡ map (λ (w : Write). w .answer) writes
 unfolding writes checkFrom checked framesFrom frameOf isSizeOf rows rowAmong mayScale registersOf twosComplement join shownRaw
-    tooWide integer inRange classOf classified parsed opening scanFrom scan pointAt within groupsSize fillSize
-    countUnimplemented fits fillOf pointsAt instances groupsAt contentAt endsWithPad allButLast laidOut readBy topOf
+    tooWide integer inRange classOf classified parsed opening scanFrom scan pointAt within measured fillMeasured
+    countUnimplemented fits fillOf pointsAt instances groupsBy entered contentAt endsWithPad allButLast laidOut readBy topOf
     reading walk recordsBy allRecords firstWith finding split refusal rewritten writing
 worked-writes = refl

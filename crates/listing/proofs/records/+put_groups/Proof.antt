@@ -19,7 +19,7 @@ use Rattle.listing.proofs.extents.count_of.Reads as count-of-reads
 use Rattle.listing.proofs.frames.behind_group.Reads as behind-group-reads
 use Rattle.listing.proofs.frames.group_at.Reads as group-at-reads
 use Rattle.listing.proofs.records.at_frame.Reads as at-frame-reads
-use Rattle.listing.proofs.records.instance_path.Reads as instance-path-reads
+use Rattle.listing.proofs.records.enter.Reads as enter-reads
 use Rattle.listing.proofs.records.put_own.Reads as put-own-reads
 use Rattle.listing.proofs.records.+put_groups.{statement}
 use Rattle.listing.proofs.records.+put_groups.Tie.{close}
@@ -43,8 +43,8 @@ known t = (
   group-at-reads.Learnt,
   count-of-reads.Asked,
   count-of-reads.Learnt,
-  instance-path-reads.Asked,
-  instance-path-reads.Learnt,
+  enter-reads.Asked,
+  enter-reads.Learnt,
   put-own-reads.Asked,
   put-own-reads.Learnt,
   asked-below t,
@@ -56,8 +56,8 @@ known t = (
 )
 
 abbrev Inv-loop : lts.InvT-loop
-Inv-loop catalog table₀ out₀ model body levels path frames at₀ j₀ table out at j =
-    Writing body (model .visit) (model .fill) (levelOf levels) (path .instances) table₀ out₀ (at₀ .records) (at₀ .offset)
+Inv-loop catalog table₀ out₀ model body levels instance frames at₀ j₀ table out at j =
+    Writing body (model .visit) (model .fill) (levelOf levels) (instance .path .instances) table₀ out₀ (at₀ .records) (at₀ .offset)
     (heldAt catalog (at₀ .frame) .groups) table out (at .records) (at .offset) j (heldAt catalog (at .frame) .groups)
     × Stands catalog (at .frame)
     × (heldAt catalog (at .frame) .points ≡ [])
@@ -65,7 +65,7 @@ Inv-loop catalog table₀ out₀ model body levels path frames at₀ j₀ table 
     × (j ≤ 65535)
 
 abbrev μ-loop : lts.MeasureT-loop
-μ-loop catalog table₀ out₀ model body levels path frames at₀ j₀ table out at j =
+μ-loop catalog table₀ out₀ model body levels instance frames at₀ j₀ table out at j =
     (frames - at .frame) * 65537 + (65536 - j)
 
 module _ (t : ℕ) where
@@ -87,11 +87,11 @@ module _ (t : ℕ) where
       let at-start = at-loop .before .before .before .before .before in
       (at-loop .loop .inv .0 .isTable, at-start .pre .1 .filling)
 
-  cast-instance-path : lts.Need-cast-instance-path (known t) (asked t) reads.Post Inv-loop μ-loop
-  cast-instance-path c = search needs
+  cast-enter : lts.Need-cast-enter (known t) (asked t) reads.Post Inv-loop μ-loop
+  cast-enter c = search needs
 
-  instance-path-requires : lts.Need-instance-path-requires (known t) (asked t) reads.Post Inv-loop μ-loop
-  instance-path-requires c κs =
+  enter-requires : lts.Need-enter-requires (known t) (asked t) reads.Post Inv-loop μ-loop
+  enter-requires c κs =
       let at-next = c .before .before .before .before in
       let at-group-at = at-next .before .before in
       let at-loop = at-group-at .before .before .before in
@@ -112,8 +112,8 @@ module _ (t : ℕ) where
       let a = at-start .pre .1 in
       let l = at-loop .loop in
       let e = sym (at-group-at .group-at .ensures) ∙ ap groupOrForm (at-next .next .given .1) in
-      let long = length-set (v .path .instances) (levelOf (v .levels) - 2) (l .j) in (
-        (l .inv .0 .isTable, ap length (c .before .before .instance-path .ensures) ∙ long ∙ a .threeLevels),
+      let long = length-set (v .instance .path .instances) (levelOf (v .levels) - 2) (l .j) in (
+        (l .inv .0 .isTable, ap length (c .before .before .enter .ensures) ∙ long ∙ a .threeLevels),
         steps.own-asks a (l .inv .0) (l .inv .1) (l .inv .2) e
             (omega (arith, at-count-of .count-of .ensures .0, c .before .before .before .if2)),
       )
@@ -134,8 +134,8 @@ module _ (t : ℕ) where
   put-groups-requires : lts.Need-put-groups-requires (known t) (asked t) reads.Post Inv-loop μ-loop
   put-groups-requires c κs =
       let at-put-own = c .before .before .before .before .before .before in
-      let at-instance-path = at-put-own .before .before .before in
-      let at-if2 = at-instance-path .before in
+      let at-enter = at-put-own .before .before .before in
+      let at-if2 = at-enter .before in
       let at-count-of = at-if2 .before in
       let at-next = at-count-of .before .before .before in
       let at-group-at = at-next .before .before in
@@ -148,7 +148,7 @@ module _ (t : ℕ) where
       let e = sym (at-group-at .group-at .ensures) ∙ ap groupOrForm (at-next .next .given .1) in
       let inv = l .inv in
       let words : (k : ℕ) → getD (v .catalog .now) k 0 < 65536 = λ k. omega (arith, at-slices .shared-slice-known .given k) in
-      let path = at-instance-path .instance-path .ensures in
+      let path = at-enter .enter .ensures in
       let own = at-put-own .put-own .ensures in (
         omega (arith, steps.level-left a (inv .0) (inv .1) (inv .2) e, at-start .pre .0),
         steps.lower-asks a (inv .0) (inv .1) (inv .2) e (omega (arith, at-count-of .count-of .ensures .0, at-if2 .if2)) words
@@ -173,8 +173,8 @@ module _ (t : ℕ) where
   loop-again c =
       let at-put-groups = c .before .before .before .before .before in
       let at-put-own = at-put-groups .before .before .before .before .before .before .before in
-      let at-instance-path = at-put-own .before .before .before in
-      let at-if2 = at-instance-path .before in
+      let at-enter = at-put-own .before .before .before in
+      let at-if2 = at-enter .before in
       let at-count-of = at-if2 .before in
       let at-next = at-count-of .before .before .before in
       let at-group-at = at-next .before .before in
@@ -187,14 +187,14 @@ module _ (t : ℕ) where
       let e = sym (at-group-at .group-at .ensures) ∙ ap groupOrForm (at-next .next .given .1) in
       let inv = l .inv in
       let words : (k : ℕ) → getD (v .catalog .now) k 0 < 65536 = λ k. omega (arith, at-slices .shared-slice-known .given k) in
-      let path = at-instance-path .instance-path .ensures in
+      let path = at-enter .enter .ensures in
       let own = at-put-own .put-own .ensures in
       let g = at-put-groups .put-groups in
       let lower = g .ensures in
       let on = steps.further a (inv .0) (inv .1) (inv .2) e (omega (arith, at-count-of .count-of .ensures .0, at-if2 .if2)) words
       (own .1 .1) path (own .0) (own .1 .0) (lower .0) (lower .1 .0) (lower .1 .1 .0) (lower .1 .1 .1) in
       subst
-      (λ x. Inv-loop (v .catalog .now) (v .table .now) (v .out .now) (v .model) (v .body .now) (v .levels) (v .path)
+      (λ x. Inv-loop (v .catalog .now) (v .table .now) (v .out .now) (v .model) (v .body .now) (v .levels) (v .instance)
       (length (v .catalog .now) / 8) (v .start) 0 (g .last .1 .0) (g .last .1 .1 .0) x (l .j + 1))
       (sym (c .at-frame .ensures))
       (on, inv .1, inv .2, inv .3, omega (arith, at-count-of .count-of .ensures .1, at-if2 .if2))
@@ -253,7 +253,7 @@ module _ (t : ℕ) where
       let at-frame : ℕ → Progress = λ k. record { records = l .at .records; offset = l .at .offset; frame = k } in
       let f : c .at-frame2 .result ≡ at-frame (pastEnd (v .catalog .now) (l .at .frame + 1)) =
       c .at-frame2 .ensures ∙ ap at-frame (c .before .behind-group .ensures) in
-      subst (λ x. Inv-loop (v .catalog .now) (v .table .now) (v .out .now) (v .model) (v .body .now) (v .levels) (v .path)
+      subst (λ x. Inv-loop (v .catalog .now) (v .table .now) (v .out .now) (v .model) (v .body .now) (v .levels) (v .instance)
       (length (v .catalog .now) / 8) (v .start) 0 (l .table) (l .out) x 0)
       (sym f)
       (w, s .0, s .1, l .inv .3, omega arith)
@@ -297,8 +297,8 @@ pub +put-groups-spec : {M : Type 1} → statement M
     (group-at-requires t)
     (enum-known-next t)
     (count-of-requires t)
-    (cast-instance-path t)
-    (instance-path-requires t)
+    (cast-enter t)
+    (enter-requires t)
     (put-own-requires t)
     (sub-put-groups t)
     (put-groups-requires t)

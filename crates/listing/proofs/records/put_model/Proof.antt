@@ -6,7 +6,7 @@ use native.Mathlib.Omega.{arith}
 use lib.ListN.{length, getD}
 use Rattle.catalog.specs.Definitions.{pointsSize}
 use Rattle.layout.specs.Layout.{noInstance}
-use Rattle.layout.specs.Walks.{heldAt, scopeIn, begun}
+use Rattle.layout.specs.Walks.{heldAt, instanceIn, begun}
 use Rattle.layout.proofs.PointCounts as counts
 use Rattle.listing.specs.Promises.{written}
 use Rattle.listing.proofs.ModelWriting as model
@@ -45,7 +45,7 @@ returns c =
     omega (arith, run .offset, c .if1) in
     let a = model.all-points (v .visit) (v .records) (v .out .now) (pre .0) (pre .1 .0) words (rest .1 .0 .0) (rest .1 .0 .1)
     (rest .0) (rest .1 .1) e in
-    let n = counts.points-counted (v .body .now) (scopeIn (v .table .now)) noInstance 0
+    let n = counts.points-counted (v .body .now) (instanceIn (v .table .now) noInstance) 0
     (begun (length (v .body .now)) 0 (heldAt (v .catalog .now) (v .first) .points)) in
     let wrote = at-put-run .put-run .ensures .1 ∙ ap (λ x. written (v .visit) (v .records) x (v .out .now)) a in
     (omega (arith, run .records, n, ap length a), (wrote, pre .1 .0 .isTable))

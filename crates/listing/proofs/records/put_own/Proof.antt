@@ -68,7 +68,7 @@ returns c =
     let all = all-begun s in
     let words : (k : ℕ) → getD (a .catalog .now) k 0 < 65536 = λ k. omega (arith, known .shared-slice-known .given k) in
     let numbers = numbers-in-table (a .catalog .now) words (a .at .frame + 1) (s .pre .1 .stands) in
-    let points = own-points body (a .at .offset) (own s) (a .table .now) (a .path .instances)
+    let points = own-points body (a .at .offset) (own s) (a .table .now) (a .instance .path .instances)
     (noting .note-run .last .1 .1 .1 .1 .0)
     (s .pre .0 .0) numbers all (noting .note-run .ensures) in (
       subst (λ (ps : List Point). BehindRun (start s) ps (put .result)) all (put .ensures .0),

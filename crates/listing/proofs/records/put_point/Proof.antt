@@ -39,7 +39,7 @@ returns : tie.Need-returns
 returns c =
     let a = c .before .before .before .before .before .before .before .before .before .args in
     c .before .before .put-record .ensures
-    ∙ record-written (a .visit) (a .at .records) (a .body .now) (a .path .instances) (a .at .offset) (pointForm (a .point))
+    ∙ record-written (a .visit) (a .at .records) (a .body .now) (a .instance .path .instances) (a .at .offset) (pointForm (a .point))
     (scopeIn (a .table .now)) (a .out .now) (c .before .before .before .before .enum-told .given .1)
 
 same-length-2 : tie.Need-same-length-2
@@ -49,7 +49,7 @@ returns-2 : tie.Need-returns-2
 returns-2 c =
     let a = c .before .before .before .before .before .before .before .before .before .args in
     c .before .before .put-found .ensures
-    ∙ search-written (a .visit) (a .at .records) (a .body .now) (a .path .instances) (a .at .offset) (pointForm (a .point))
+    ∙ search-written (a .visit) (a .at .records) (a .body .now) (a .instance .path .instances) (a .at .offset) (pointForm (a .point))
     (scopeIn (a .table .now)) (a .out .now) (c .before .before .before .before .enum-told2 .given .1)
 
 pub put-point-spec : {M : Type 1} → statement M

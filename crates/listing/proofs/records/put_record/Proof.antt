@@ -20,10 +20,10 @@ use mir.Val.{Fits}
 use borrow.Author.Needs.{needs, elem-fits-field}
 
 -- An instance number is 16 bits.
-instance-fits : (c : tie.Start) (k : ℕ) → Fits w64 (getD (c .args .t5 .instances) k 0)
+instance-fits : (c : tie.Start) (k : ℕ) → Fits w64 (getD (c .args .instance .path .instances) k 0)
 instance-fits c k =
-    let held = c .good .1 .1 .1 .1 .0 .1 .1 .0 in
-    elem-fits-field w16 w64 (c .args .t5 .instances) (held .0) k (held .1 .1) tt
+    let held = c .good .1 .1 .1 .1 .0 .1 .1 .0 .1 .1 .0 in
+    elem-fits-field w16 w64 (c .args .instance .path .instances) (held .0) k (held .1 .1) tt
 
 cast-part : tie.Need-cast-part
 cast-part c = search needs
@@ -42,7 +42,7 @@ shared-slice-read-show c = search needs
 
 show-requires : tie.Need-show-requires
 show-requires c κs =
-    let s = c .before .before .before .before .before .before .before in
+    let s = c .before .before .before .before .before .before .before .before in
     let a = s .args in
     let p = pointForm (a .point) in
     let rest = drop (a .at .offset) (a .body .now) in
@@ -57,50 +57,50 @@ cast-t17 c = search needs
 cast-t18 : tie.Need-cast-t18
 cast-t18 c = search needs
 
-element-copy-out-t15 : tie.Need-element-copy-out-t15
-element-copy-out-t15 c = search needs
+array-read-t15 : tie.Need-array-read-t15
+array-read-t15 c = search needs
 
 cast-t21 : tie.Need-cast-t21
 cast-t21 c = instance-fits (c .before .before .before .before .before .before .before .before .before .before .before) 0
 
-element-copy-out-t24 : tie.Need-element-copy-out-t24
-element-copy-out-t24 c = search needs
+array-read-t24 : tie.Need-array-read-t24
+array-read-t24 c = search needs
 
 cast-t25 : tie.Need-cast-t25
-cast-t25 c = instance-fits (c .before .before .before .before .before .before .before .before .before .before .before .before) 1
+cast-t25 c = instance-fits (c .before .before .before .before .before .before .before .before .before .before .before) 1
 
-element-copy-out-t28 : tie.Need-element-copy-out-t28
-element-copy-out-t28 c = search needs
+array-read-t28 : tie.Need-array-read-t28
+array-read-t28 c = search needs
 
 cast-t29 : tie.Need-cast-t29
-cast-t29 c = instance-fits (c .before .before .before .before .before .before .before .before .before .before .before .before .before) 2
+cast-t29 c = instance-fits (c .before .before .before .before .before .before .before .before .before .before .before) 2
 
 add-t12 : tie.Need-add-t12
-add-t12 c = omega (arith, c .before .before .before .before .before .before .before .before .before .before .before .before .before .before .pre .1 .0 .address)
+add-t12 c = omega (arith, c .before .before .before .before .before .before .before .before .before .before .before .before .pre .1 .0 .address)
 
 add-t13 : tie.Need-add-t13
 add-t13 c =
-    let asked = c .before .before .before .before .before .before .before .before .before .before .before .before .before .before .before .pre .1 .0 in
+    let asked = c .before .before .before .before .before .before .before .before .before .before .before .before .before .pre .1 .0 in
     omega (arith, asked .inside, asked .short, asked .address)
 
 mul-put : tie.Need-mul-put
 mul-put c =
-    let s = c .before .before .before .before .before .before .before .before .before .before .before .before .before .before .before .before .before in
+    let s = c .before .before .before .before .before .before .before .before .before .before .before .before .before .before .before in
     omega (arith, s .pre .1 .1, s .good .1 .0 .0)
 
 slice-aggregate-put : tie.Need-slice-aggregate-put
 slice-aggregate-put c = search needs
 
 put-requires : tie.Need-put-requires
-put-requires c κs = omega (arith, c .before .before .before .before .before .before .before .before .before .before .before .before .before .before .before .before .before .before .pre .1 .1)
+put-requires c κs = omega (arith, c .before .before .before .before .before .before .before .before .before .before .before .before .before .before .before .before .pre .1 .1)
 
 same-length : tie.Need-same-length
 same-length c = search needs
 
 returns : tie.Need-returns
 returns c =
-    let show = c .before .before .before .before .before .before .before .before .before .before .before .before .before in
-    let a = c .before .before .before .before .before .before .before .before .before .before .before .before .before .before .before .before .before .before .before .before .before .args in
+    let show = c .before .before .before .before .before .before .before .before .before .before in
+    let a = c .before .before .before .before .before .before .before .before .before .before .before .before .before .before .before .before .before .before .before .args in
     let p = pointForm (a .point) in
     let register = scopeIn (a .table .now) (p .scale) in
     let shown = show .show .result in
@@ -108,7 +108,7 @@ returns c =
     subst (λ (rs : List ℕ). ShownOf p rs register shown) (show .before .before .before .part .ensures) (show .show .ensures) in
     c .before .before .put .ensures
     ∙ ap (λ (ns : List ℕ). sets (a .out .now) (recordWidth * a .at .records) ns)
-    (shown-numbers (a .visit) (a .body .now) (a .table .now) (a .t5 .instances) (a .at .offset) p shown is)
+    (shown-numbers (a .visit) (a .body .now) (a .table .now) (a .instance .path .instances) (a .at .offset) p shown is)
 
 pub put-record-spec : {M : Type 1} → statement M
 put-record-spec =
@@ -122,11 +122,11 @@ put-record-spec =
     show-requires
     cast-t17
     cast-t18
-    element-copy-out-t15
+    array-read-t15
     cast-t21
-    element-copy-out-t24
+    array-read-t24
     cast-t25
-    element-copy-out-t28
+    array-read-t28
     cast-t29
     add-t12
     add-t13

@@ -12,17 +12,17 @@ use Rattle.listing.proofs.records.put_run.Statement.{statement}
 use Rattle.listing.proofs.records.put_run.Tie as tie
 
 abbrev Inv-loop : tie.InvT-loop
-Inv-loop catalog table out₀ visit body path at₀ out at =
-    StillWrites catalog body table visit (path .instances) out₀ at₀ out at
+Inv-loop catalog table out₀ visit body instance at₀ out at =
+    StillWrites catalog body table visit (instance .path .instances) out₀ at₀ out at
 
 abbrev μ-loop : tie.MeasureT-loop
-μ-loop catalog table out₀ visit body path at₀ out at = length catalog / 8 - at .frame
+μ-loop catalog table out₀ visit body instance at₀ out at = length catalog / 8 - at .frame
 
 loop-holds : tie.Need-loop-holds Inv-loop μ-loop
 loop-holds c =
     let s = c .before .before .before .before in
     let a = s .args in
-    still-all (a .catalog .now) (a .body .now) (a .table .now) (a .visit) (a .path .instances) (a .out .now) (a .start)
+    still-all (a .catalog .now) (a .body .now) (a .table .now) (a .visit) (a .instance .path .instances) (a .out .now) (a .start)
     (s .pre .1)
 
 point-at-requires : tie.Need-point-at-requires Inv-loop μ-loop
