@@ -5,4 +5,5 @@ pub mod TestLaws
 pub mod EachLaws
 pub mod InLaws
 pub mod FirstFound
+pub mod SelectedLaws
 pub mod PairwiseLaws
