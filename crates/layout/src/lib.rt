@@ -1,1 +1,9 @@
-// One model alone: what its definition says of its body (refusals 27 to 29, or its points).
+// One model alone: its frames in a catalog, its points in reach, and what a record shows of a point.
+// Every public call takes any arguments and carries an equation with the definitions of specs/.
+mod frames;
+
+pub use frames::GroupOr;
+pub use frames::PointOr;
+pub use frames::behind_group;
+pub use frames::group_at;
+pub use frames::point_at;

@@ -1,13 +1,13 @@
 // How many registers and points a model takes by its definition, before anything is written.
-use crate::frames::GroupOr;
-use crate::frames::PointOr;
-use crate::frames::group_at;
-use crate::frames::point_at;
 use catalog::CONSTANT_COUNT;
 use catalog::COUNT_BY_POINT;
 use catalog::FILL;
 use catalog::Head;
 use catalog::PAD;
+use layout::GroupOr;
+use layout::PointOr;
+use layout::group_at;
+use layout::point_at;
 ghost use mathlib.Core.Path.{_≡_};
 ghost use mathlib.Core.Bool.{_&&_};
 ghost use Prim.Native.Nat.{_+_, _*_, _/_, _≤_, min};

@@ -1,7 +1,7 @@
 // What is in reach of a point: a table with the first register of each point, by its number. A number stands
 // for one point of a model, so an instance only overwrites what an instance or a model before it left there.
-use crate::frames::PointOr;
-use crate::frames::point_at;
+use layout::PointOr;
+use layout::point_at;
 ghost use mathlib.Core.Path.{_≡_};
 ghost use Prim.Native.Nat.{_/_, _≤_};
 ghost use lib.ListN.{length};

@@ -10,7 +10,7 @@ use Rattle.catalog.specs.Answers.{pointForm}
 use Rattle.layout.specs.Walks.{heldAt, Stands, noted, begun}
 use Rattle.layout.proofs.Standing as standing
 use Rattle.layout.proofs.NotedPoints.{note-first, note-none, note-past}
-use Rattle.listing.specs.Answers.{pointOrForm}
+use Rattle.layout.specs.Answers.{pointOrForm}
 use Rattle.listing.proofs.scopes.note_run.Statement.{statement}
 use Rattle.listing.proofs.scopes.note_run.Tie as tie
 

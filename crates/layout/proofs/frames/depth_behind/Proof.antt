@@ -1,10 +1,10 @@
--- `listing::frames::depth_behind` meets its contract: a group frame opens a group, an end frame ends one.
+-- `layout::frames::depth_behind` meets its contract: a group frame opens a group, an end frame ends one.
 use mathlib.Core.Path.{sym, ap, _∙_}
 use borrow.Author.Needs.{needs}
 use Rattle.catalog.specs.Answers.{frameForm}
 use Rattle.layout.specs.Walks.{openBehind}
-use Rattle.listing.proofs.frames.depth_behind.Statement.{statement}
-use Rattle.listing.proofs.frames.depth_behind.Tie as tie
+use Rattle.layout.proofs.frames.depth_behind.Statement.{statement}
+use Rattle.layout.proofs.frames.depth_behind.Tie as tie
 
 read-frame-requires : tie.Need-read-frame-requires
 read-frame-requires c κs = search needs

@@ -1,10 +1,10 @@
--- `listing::frames::group_at` meets its contract: the head of a group frame.
+-- `layout::frames::group_at` meets its contract: the head of a group frame.
 use mathlib.Core.Path.{sym, ap, _∙_}
 use borrow.Author.Needs.{needs}
 use Rattle.catalog.specs.Answers.{frameForm}
 use Rattle.layout.specs.Walks.{headOf}
-use Rattle.listing.proofs.frames.group_at.Statement.{statement}
-use Rattle.listing.proofs.frames.group_at.Tie as tie
+use Rattle.layout.proofs.frames.group_at.Statement.{statement}
+use Rattle.layout.proofs.frames.group_at.Tie as tie
 
 read-frame-requires : tie.Need-read-frame-requires
 read-frame-requires c κs = search needs

@@ -1,10 +1,10 @@
--- `listing::frames::point_at` meets its contract: the point of a point frame.
+-- `layout::frames::point_at` meets its contract: the point of a point frame.
 use mathlib.Core.Path.{sym, ap, _∙_}
 use borrow.Author.Needs.{needs}
 use Rattle.catalog.specs.Answers.{frameForm}
 use Rattle.layout.specs.Walks.{pointOf}
-use Rattle.listing.proofs.frames.point_at.Statement.{statement}
-use Rattle.listing.proofs.frames.point_at.Tie as tie
+use Rattle.layout.proofs.frames.point_at.Statement.{statement}
+use Rattle.layout.proofs.frames.point_at.Tie as tie
 
 read-frame-requires : tie.Need-read-frame-requires
 read-frame-requires c κs = search needs
