@@ -1,9 +1,12 @@
 // One model alone: its frames in a catalog, its points in reach, and what a record shows of a point.
 // Every public call takes any arguments and carries an equation with the definitions of specs/.
 mod frames;
+mod points;
 
 pub use frames::GroupOr;
 pub use frames::PointOr;
 pub use frames::behind_group;
 pub use frames::group_at;
 pub use frames::point_at;
+pub use points::Shown;
+pub use points::show;

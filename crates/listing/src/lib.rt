@@ -2,7 +2,6 @@
 // one of them.
 mod extents;
 mod frames;
-mod points;
 mod records;
 mod scopes;
 mod search;

@@ -1,6 +1,5 @@
 // The walk over the points of one model: their records, written into the output list, or the point sought.
 use crate::extents::count_of;
-use crate::points::show;
 use crate::scopes::note_run;
 use crate::surveys::LOWER_LEVELS;
 use catalog::Point;
@@ -9,6 +8,7 @@ use layout::PointOr;
 use layout::behind_group;
 use layout::group_at;
 use layout::point_at;
+use layout::show;
 use registers::part;
 use registers::raw_value;
 ghost use mathlib.Core.Path.{_≡_};

@@ -1,7 +1,7 @@
--- `listing::points::scale_status` meets its contract: the register of a scale point is classified.
+-- `layout::points::scale_status` meets its contract: the register of a scale point is classified.
 use borrow.Author.Needs.{needs}
-use Rattle.listing.proofs.points.scale_status.Statement.{statement}
-use Rattle.listing.proofs.points.scale_status.Tie as tie
+use Rattle.layout.proofs.points.scale_status.Statement.{statement}
+use Rattle.layout.proofs.points.scale_status.Tie as tie
 
 classify-requires : tie.Need-classify-requires
 classify-requires c κs = search needs

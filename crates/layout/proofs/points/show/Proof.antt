@@ -1,12 +1,12 @@
--- `listing::points::show` meets its contract: a point's status, raw value and scale.
+-- `layout::points::show` meets its contract: a point's status, raw value and scale.
 use mathlib.Core.Path.{ap, _∙_}
 use Prim.Native.Nat.{ℕ}
 use borrow.Author.Needs.{needs}
 use Rattle.values.specs.Classes.{Classified}
 use Rattle.catalog.specs.Answers.{pointForm}
 use Rattle.layout.specs.Points.{statusOf, scaleOf}
-use Rattle.listing.proofs.points.show.Statement.{statement}
-use Rattle.listing.proofs.points.show.Tie as tie
+use Rattle.layout.proofs.points.show.Statement.{statement}
+use Rattle.layout.proofs.points.show.Tie as tie
 
 class-of-requires : tie.Need-class-of-requires
 class-of-requires c κs = search needs

@@ -1,7 +1,7 @@
--- `listing::points::status_of` meets its contract: the status, by what the registers were found to be.
+-- `layout::points::status_of` meets its contract: the status, by what the registers were found to be.
 use borrow.Author.Needs.{needs}
-use Rattle.listing.proofs.points.status_of.Statement.{statement}
-use Rattle.listing.proofs.points.status_of.Tie as tie
+use Rattle.layout.proofs.points.status_of.Statement.{statement}
+use Rattle.layout.proofs.points.status_of.Tie as tie
 
 enum-known-class : tie.Need-enum-known-class
 enum-known-class c = search needs

@@ -9,28 +9,23 @@ use values::Class;
 use values::Classified;
 use values::classify;
 ghost use mathlib.Core.Path.{_≡_};
-ghost use mathlib.Core.Bool.{true};
-ghost use lib.ListN.{length};
-ghost use Rattle.registers.specs.Registers.{join};
 ghost use Rattle.values.specs.Classes.{ofClass, classified};
 ghost use Rattle.values.specs.Answers.{classAnswer, classifiedAnswer};
 ghost use Rattle.catalog.specs.Frames.{sunssf};
-ghost use Rattle.catalog.specs.Rules.{isSizeOf};
 ghost use Rattle.catalog.specs.Answers.{pointForm};
 ghost use Rattle.layout.specs.Points.{scaleStatus, statusOf, scaleOf};
-ghost use Rattle.listing.specs.Promises.{ShownOf};
+ghost use Rattle.layout.specs.Answers.{registersClass, ShownOf};
 
 // The status, raw value and scale of a point.
-pub(crate) struct Shown {
-    pub(crate) status: u64,
-    pub(crate) raw: u64,
-    pub(crate) scale: u64,
+pub struct Shown {
+    pub status: u64,
+    pub raw: u64,
+    pub scale: u64,
 }
 
 // A point by its registers and the register of its scale point.
-pub(crate) fn show(point: Point, registers: &[u16], scale_register: u16) -> Shown
-    requires { ⌜ isSizeOf (pointForm point .typeCode) (length (now registers)) ≡ true ⌝ }
-    ensures { λ r. ⌜ ShownOf (pointForm point) (now (registers .entry)) «scale_register» r ⌝ }
+pub fn show(point: Point, registers: &[u16], scale_register: u16) -> Shown
+    ensures { λ r. ⌜ ShownOf (pointForm point) (registersClass (pointForm point .typeCode) (now (registers .entry))) (now (registers .entry)) «scale_register» r ⌝ }
 {
     let class = class_of(point.type_code, registers);
     let status = status_of(point, class, scale_register);
@@ -42,10 +37,9 @@ pub(crate) fn show(point: Point, registers: &[u16], scale_register: u16) -> Show
 }
 
 // The class of a point's registers. Types of more than four registers are unimplemented where all are 0, and
-// else have a value, so that any number but 0 stands for theirs.
+// else have a value, so any raw value but 0 can replace theirs.
 fn class_of(type_code: u16, registers: &[u16]) -> Classified
-    requires { ⌜ isSizeOf «type_code» (length (now registers)) ≡ true ⌝ }
-    ensures { λ r. ⌜ classifiedAnswer r ≡ classified «type_code» (join (now (registers .entry))) ⌝ }
+    ensures { λ r. ⌜ classifiedAnswer r ≡ registersClass «type_code» (now (registers .entry)) ⌝ }
 {
     if registers.len() <= 4 {
         return classify(type_code, raw_value(registers));
