@@ -25,6 +25,7 @@ pub mod PointClasses
 pub mod PointStatus
 -- The frames of a definition as a walk visits them
 pub mod Standing
+pub mod FrameRuns
 pub mod AcceptedModels
 pub mod PassedFrames
 pub mod ModelSearch

@@ -2,6 +2,7 @@
 // Every public call takes any arguments and carries an equation with the definitions of specs/.
 mod frames;
 mod points;
+mod scopes;
 
 pub use frames::GroupOr;
 pub use frames::PointOr;
@@ -10,3 +11,5 @@ pub use frames::group_at;
 pub use frames::point_at;
 pub use points::Shown;
 pub use points::show;
+pub use scopes::NUMBERS;
+pub use scopes::note_run;

@@ -1,12 +1,12 @@
 // The walk over the points of one model: their records, written into the output list, or the point sought.
 use crate::extents::count_of;
-use crate::scopes::note_run;
 use crate::surveys::LOWER_LEVELS;
 use catalog::Point;
 use layout::GroupOr;
 use layout::PointOr;
 use layout::behind_group;
 use layout::group_at;
+use layout::note_run;
 use layout::point_at;
 use layout::show;
 use registers::part;
