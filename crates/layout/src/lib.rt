@@ -1,9 +1,12 @@
 // One model alone: its frames in a catalog, its points in reach, and what a record shows of a point.
 // Every public call takes any arguments and carries an equation with the definitions of specs/.
+mod counts;
 mod frames;
 mod points;
 mod scopes;
 
+pub use counts::count_of;
+pub use counts::is_unimplemented;
 pub use frames::GroupOr;
 pub use frames::PointOr;
 pub use frames::behind_group;

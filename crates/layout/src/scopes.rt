@@ -3,7 +3,7 @@
 use crate::frames::PointOr;
 use crate::frames::point_at;
 ghost use mathlib.Core.Path.{_≡_};
-ghost use lib.ListN.{length, set};
+ghost use lib.ListN.{length, getD, set};
 ghost use Rattle.catalog.specs.Rules.{run};
 ghost use Rattle.layout.specs.Walks.{onward, noted, begun};
 
@@ -38,4 +38,14 @@ fn set_entry(table: &mut [u16], number: usize, register: u16)
     if number < table.len() {
         table[number] = register;
     }
+}
+
+// The entry of a number; 0 where the table lacks it.
+pub(crate) fn entry_of(table: &[u16], number: usize) -> u16
+    ensures { λ r. ⌜ r ≡ getD (now (table .entry)) number 0 ⌝ }
+{
+    if table.len() <= number {
+        return 0;
+    }
+    table[number]
 }

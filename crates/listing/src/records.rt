@@ -1,10 +1,10 @@
 // The walk over the points of one model: their records, written into the output list, or the point sought.
-use crate::extents::count_of;
 use crate::surveys::LOWER_LEVELS;
 use catalog::Point;
 use layout::GroupOr;
 use layout::PointOr;
 use layout::behind_group;
+use layout::count_of;
 use layout::group_at;
 use layout::note_run;
 use layout::point_at;

@@ -16,7 +16,7 @@ use Rattle.listing.proofs.GroupsWriting.{Writing}
 use Rattle.listing.proofs.records.put_groups.Reads as reads
 use Rattle.listing.proofs.records.put_groups.Kinds as kinds
 use Rattle.listing.proofs.records.+put_groups.Lts-put_groups as lts
-use Rattle.listing.proofs.extents.count_of.Reads as count-of-reads
+use Rattle.layout.proofs.count_of.Reads as count-of-reads
 use Rattle.layout.proofs.behind_group.Reads as behind-group-reads
 use Rattle.layout.proofs.group_at.Reads as group-at-reads
 use Rattle.listing.proofs.records.at_frame.Reads as at-frame-reads
@@ -83,10 +83,7 @@ module _ (t : ℕ) where
   enum-known-next c = search needs
 
   count-of-requires : lts.Need-count-of-requires (known t) (asked t) reads.Post Inv-loop μ-loop
-  count-of-requires c κs =
-      let at-loop = c .before .before .before .before .before .before .before in
-      let at-start = at-loop .before .before .before .before .before in
-      (at-loop .loop .inv .0 .isTable, at-start .pre .1 .filling)
+  count-of-requires c κs = search needs
 
   cast-instance-path : lts.Need-cast-instance-path (known t) (asked t) reads.Post Inv-loop μ-loop
   cast-instance-path c = search needs
@@ -168,7 +165,9 @@ module _ (t : ℕ) where
       let at-if2 = at-put-own .before .before .before .before in
       let at-count-of = at-if2 .before in
       let f = ap (λ (x : Progress). x .frame) (c .at-frame .ensures) in
-      omega (arith, f, at-count-of .count-of .ensures .1, at-if2 .if2)
+      let at-loop = at-count-of .before .before .before .before .before .before .before .before in
+      let filling = at-loop .before .before .before .before .before .pre .1 .filling in
+      omega (arith, f, at-count-of .count-of .ensures .1, filling, at-if2 .if2)
 
   loop-again : lts.Need-loop-again (known t) (asked t) reads.Post Inv-loop μ-loop
   loop-again c =
@@ -198,7 +197,7 @@ module _ (t : ℕ) where
       (λ x. Inv-loop (v .catalog .now) (v .table .now) (v .out .now) (v .model) (v .body .now) (v .levels) (v .path)
       (length (v .catalog .now) / 8) (v .start) 0 (g .last .1 .0) (g .last .1 .1 .0) x (l .j + 1))
       (sym (c .at-frame .ensures))
-      (on, inv .1, inv .2, inv .3, omega (arith, at-count-of .count-of .ensures .1, at-if2 .if2))
+      (on, inv .1, inv .2, inv .3, omega (arith, at-count-of .count-of .ensures .1, a .filling, at-if2 .if2))
 
   behind-group-requires : lts.Need-behind-group-requires (known t) (asked t) reads.Post Inv-loop μ-loop
   behind-group-requires c κs = search needs
