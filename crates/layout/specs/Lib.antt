@@ -5,3 +5,4 @@ pub mod Counts
 pub mod Paths
 pub mod Tiling
 pub mod Walks
+pub mod Answers

@@ -9,12 +9,10 @@ use lib.ListN.{length, take, drop, getD}
 use lib.Seq.{sets}
 use Rattle.lists.specs.Each.{Each}
 use Rattle.lists.specs.Tests.{firstWith}
-use Rattle.registers.specs.Registers.{join, shownRaw}
-use Rattle.values.specs.Classes.{classified}
 use Rattle.catalog.specs.Frames as Frames
 use Rattle.catalog.specs.Rules.{isSizeOf}
 use Rattle.catalog.specs.Definitions.{Groups, pointsSize}
-use Rattle.layout.specs.Points.{ModelPoint, Scope, statusOf, scaleOf}
+use Rattle.layout.specs.Points.{ModelPoint, Scope}
 use Rattle.layout.specs.Layout.{countOf, groupsSize, fillSize, countUnimplemented}
 use Rattle.layout.specs.Counts.{groupsPoints, fillPoints, or0}
 use Rattle.layout.specs.Reading.{endsWithPad}
@@ -26,7 +24,6 @@ use Rattle.listing.specs.declared.frames.Found.{Found}
 use Rattle.listing.specs.declared.extents.Run.{Run}
 use Rattle.listing.specs.declared.extents.Extent.{Extent}
 use Rattle.listing.specs.declared.surveys.Survey.{Survey}
-use Rattle.listing.specs.declared.points.Shown.{Shown}
 use Rattle.listing.specs.declared.records.Sought.{Sought}
 use Rattle.listing.specs.declared.records.Task.{Task}
 use Rattle.listing.specs.declared.records.Visit.{Visit}
@@ -94,12 +91,6 @@ abbrev pub ReadyBy : List ℕ → ℕ → List ℕ → List ℕ → Survey → T
 ReadyBy ws id body table Survey.Unknown = Unit {0}
 ReadyBy ws id body table (Survey.Refused number) = Unit {0}
 ReadyBy ws id body table (Survey.Points first points fill) = Ready ws id body table first fill
-
--- What is shown of a point by its registers and the register of its scale point.
-pub record ShownOf (p : Frames.Point) (registers : List ℕ) (register : ℕ) (r : Shown) : Type 0 where
-  pub status : r .status ≡ statusOf p (classified (p .typeCode) (join registers)) register
-  pub raw : r .raw ≡ shownRaw registers
-  pub scale : r .scale ≡ scaleOf p (statusOf p (classified (p .typeCode) (join registers)) register) register
 
 -- The record of a point of a model that is walked.
 abbrev pub recordAt : Visit → ModelPoint → Listing.Record

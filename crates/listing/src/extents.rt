@@ -1,21 +1,17 @@
 // How many registers and points a model takes by its definition, before anything is written.
-use crate::frames::GroupOr;
-use crate::frames::PointOr;
-use crate::frames::group_at;
-use crate::frames::point_at;
-use catalog::CONSTANT_COUNT;
-use catalog::COUNT_BY_POINT;
 use catalog::FILL;
 use catalog::Head;
 use catalog::PAD;
+use layout::GroupOr;
+use layout::PointOr;
+use layout::count_of;
+use layout::group_at;
+use layout::is_unimplemented;
+use layout::point_at;
 ghost use mathlib.Core.Path.{_≡_};
-ghost use mathlib.Core.Bool.{_&&_};
 ghost use Prim.Native.Nat.{_+_, _*_, _/_, _≤_, min};
-ghost use lib.Dec.{eqb};
 ghost use lib.ListN.{length};
-ghost use Rattle.catalog.specs.Frames.{countByPoint};
 ghost use Rattle.catalog.specs.Answers.{headForm};
-ghost use Rattle.layout.specs.Layout.{countOf};
 ghost use Rattle.layout.specs.Walks.{heldAt, Stands, pastEnd, scopeIn, IsTable, AtGroups};
 ghost use Rattle.listing.specs.Promises.{RunOf, ExtentOf, SameExtent, WithGroup};
 
@@ -158,29 +154,4 @@ fn grown(sum: usize, count: usize, size: usize) -> usize
         return CAP;
     }
     grown
-}
-
-// How many instances a group has. `fill` is the count of a fill group.
-pub(crate) fn count_of(table: &[u16], head: Head, fill: usize) -> usize
-    requires { ⌜ IsTable (now table) × (fill ≤ 65535) ⌝ }
-    ensures { λ r. ⌜ r ≡ countOf (scopeIn (now (table .entry))) fill (headForm head) ⌝ }
-    ensures { λ r. ⌜ r ≤ 65535 ⌝ }
-{
-    let kind = head.count_kind;
-    match kind {
-        CONSTANT_COUNT => head.count as usize,
-        COUNT_BY_POINT => table[head.count as usize] as usize,
-        _ => fill,
-    }
-}
-
-// Does the group's count point read FFFF?
-fn is_unimplemented(table: &[u16], head: Head) -> bool
-    requires { ⌜ IsTable (now table) ⌝ }
-    ensures { λ r. ⌜ r ≡ (eqb (headForm head .countKind) countByPoint && eqb (scopeIn (now (table .entry)) (headForm head .count)) 0xFFFF) ⌝ }
-{
-    if head.count_kind != COUNT_BY_POINT {
-        return false;
-    }
-    table[head.count as usize] == 0xFFFF
 }

@@ -2,14 +2,13 @@
 // one of them.
 mod extents;
 mod frames;
-mod points;
 mod records;
-mod scopes;
 mod search;
 mod surveys;
 
 use catalog::Checked;
 use catalog::check;
+use layout::NUMBERS;
 pub use records::InstancePath;
 use records::NO_POINT;
 use records::Sought;
@@ -23,7 +22,6 @@ use register_map::Opening;
 use register_map::header_at;
 use register_map::opened;
 use registers::part;
-use scopes::NUMBERS;
 pub use search::Finding;
 pub use search::Target;
 pub use search::find;

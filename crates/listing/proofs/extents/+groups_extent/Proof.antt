@@ -6,7 +6,7 @@ use lib.ListN.{length}
 use Rattle.layout.specs.Walks.{heldAt, scopeIn, AtGroups}
 use Rattle.layout.proofs.Standing as standing
 use Rattle.layout.proofs.IntoGroups as groups
-use Rattle.listing.specs.Answers.{groupOrForm}
+use Rattle.layout.specs.Answers.{groupOrForm}
 use Rattle.listing.proofs.ExtentSteps as steps
 use Rattle.listing.proofs.ExtentWalks as walks
 use Rattle.listing.proofs.extents.groups_extent.Reads as reads
@@ -15,7 +15,7 @@ use Rattle.listing.proofs.extents.+groups_extent.Lts-groups_extent as l
 use Rattle.listing.proofs.extents.at_end.Reads as at-end-reads
 use Rattle.listing.proofs.extents.run_extent.Reads as run-extent-reads
 use Rattle.listing.proofs.extents.with_group.Reads as with-group-reads
-use Rattle.listing.proofs.frames.group_at.Reads as group-at-reads
+use Rattle.layout.proofs.group_at.Reads as group-at-reads
 use Rattle.listing.proofs.extents.+groups_extent.{statement}
 use Rattle.listing.proofs.extents.+groups_extent.Tie.{close}
 use borrow.Author.Needs.{needs}

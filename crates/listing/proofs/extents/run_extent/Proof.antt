@@ -6,7 +6,7 @@ use borrow.Author.Needs.{needs}
 use lib.ListN.{length}
 use Rattle.catalog.specs.Answers.{pointForm}
 use Rattle.layout.proofs.Standing as standing
-use Rattle.listing.specs.Answers.{pointOrForm}
+use Rattle.layout.specs.Answers.{pointOrForm}
 use Rattle.listing.proofs.RunSteps as steps
 use Rattle.listing.proofs.extents.run_extent.Statement.{statement}
 use Rattle.listing.proofs.extents.run_extent.Tie as tie

@@ -1,10 +1,12 @@
 -- `listing::surveys::survey_known` meets its contract: what the definition says, by the frames and the table.
-use mathlib.Core.Path.{sym, _∙_}
+use mathlib.Core.Path.{_≡_, sym, _∙_}
 use Prim.Native.Nat.{ℕ, _≤_, _<_}
 use native.Mathlib.Omega.{arith}
 use lib.ListN.{length, getD}
+use Rattle.catalog.specs.Rules.{run}
 use Rattle.catalog.specs.Definitions.{pointsSize}
-use Rattle.layout.specs.Walks.{heldAt}
+use Rattle.layout.specs.Walks.{onward, heldAt, noted, begun, begunAt}
+use Rattle.layout.proofs.FrameRuns.{held-noted}
 use Rattle.layout.proofs.AcceptedModels.{accepted-few}
 use Rattle.listing.proofs.SurveyedModels as models
 use Rattle.listing.proofs.SurveyedByFrames as laws
@@ -22,12 +24,16 @@ run-extent-requires c κs =
 is-pad-left-out-requires : tie.Need-is-pad-left-out-requires
 is-pad-left-out-requires c κs = search needs
 
-note-run-requires : tie.Need-note-run-requires
-note-run-requires c κs =
-    let b = c .before .before .before .before .before .before .before in
+-- Where the definition is found, the points recorded are those of its top group.
+top-noted : (b : tie.Start) → let a = b .args in
+    noted (a .body .now) 0 (begun (length (a .body .now)) 0 (run (onward (a .catalog .now) (a .first)))) (a .table .now)
+    ≡ noted (a .body .now) 0 (begunAt (a .catalog .now) (a .body .now) 0 (a .first)) (a .table .now)
+top-noted b =
     let a = b .args in
-    let ws = a .catalog .now in
-    ((b .pre .1 .1 .0, accepted-few ws (b .pre .0)), (b .pre .1 .0 .0, b .pre .1 .0 .1))
+    held-noted (a .catalog .now) (a .first) (b .pre .1 .1 .0) (a .body .now) 0 (a .table .now)
+
+note-run-requires : tie.Need-note-run-requires
+note-run-requires c κs = search needs
 
 sub-t13 : tie.Need-sub-t13
 sub-t13 c =
@@ -50,7 +56,7 @@ returns c =
     let a = b .args in
     let e = sym (at-is-pad-left-out .is-pad-left-out .ensures) ∙ c .before .before .before .before .before .if1 .taken in
     laws.pad-left-out (a .id) (b .pre .0) (b .pre .1 .1 .0) (b .pre .1 .1 .1) (a .body .now) (a .table .now) (b .pre .1 .0 .0)
-    (c .before .before .before .note-run .ensures) (at-run-extent .run-extent .ensures) e
+    (c .before .before .before .note-run .ensures ∙ top-noted b) (at-run-extent .run-extent .ensures) e
 
 returns-2 : tie.Need-returns-2
 returns-2 c =
@@ -64,11 +70,7 @@ returns-2 c =
     (models.below-surveyed (a .id) (heldAt ws (a .first)) (a .body .now) e short, (tt, b .pre .1 .0 .0))
 
 note-run-requires-2 : tie.Need-note-run-requires-2
-note-run-requires-2 c κs =
-    let b = c .before .before .before .before .before .before .before .before .before in
-    let a = b .args in
-    let ws = a .catalog .now in
-    ((b .pre .1 .1 .0, accepted-few ws (b .pre .0)), (b .pre .1 .0 .0, b .pre .1 .0 .1))
+note-run-requires-2 c κs = search needs
 
 groups-extent-requires : tie.Need-groups-extent-requires
 groups-extent-requires c κs =
@@ -79,7 +81,7 @@ groups-extent-requires c κs =
       laws.at-groups (a .id) (b .pre .0) (b .pre .1 .1 .0) (b .pre .1 .1 .1) (r .ensures),
       (
         laws.still-table (a .id) (b .pre .0) (b .pre .1 .1 .0) (b .pre .1 .1 .1) (a .body .now) (a .table .now) (b .pre .1 .0 .0)
-            (c .before .before .before .note-run2 .ensures),
+            (c .before .before .before .note-run2 .ensures ∙ top-noted b),
         omega arith,
       ),
     )
@@ -104,10 +106,10 @@ returns-3 c =
     let long : pointsSize (heldAt ws (a .first) .points) ≤ length (a .body .now) =
     omega (arith, at-if2 .if2 .left, r .ensures .size) in
     let u = laws.unimplemented (a .id) (b .pre .0) (b .pre .1 .1 .0) (b .pre .1 .1 .1) (a .body .now) (a .table .now)
-    (b .pre .1 .0 .0) (n .ensures) words (b .pre .1 .0 .1) e long
+    (b .pre .1 .0 .0) (n .ensures ∙ top-noted b) words (b .pre .1 .0 .1) e long
     (r .ensures) (c .before .groups-extent .ensures .0) (c .if3 .taken) in
     let t = laws.still-table (a .id) (b .pre .0) (b .pre .1 .1 .0) (b .pre .1 .1 .1) (a .body .now) (a .table .now)
-    (b .pre .1 .0 .0) (n .ensures) in
+    (b .pre .1 .0 .0) (n .ensures ∙ top-noted b) in
     (u, (tt, t))
 
 fitted-requires : tie.Need-fitted-requires
@@ -144,7 +146,7 @@ returns-4 c =
     let long : pointsSize (heldAt ws (a .first) .points) ≤ length (a .body .now) =
     omega (arith, at-if2 .if2 .left, r .ensures .size) in
     laws.surveyed-here (a .id) (b .pre .0) (b .pre .1 .1 .0) (b .pre .1 .1 .1) (a .body .now) (a .table .now) (b .pre .1 .0 .0)
-    (n .ensures) words (b .pre .1 .0 .1) e long
+    (n .ensures ∙ top-noted b) words (b .pre .1 .0 .1) e long
     (r .ensures) (c .before .before .groups-extent .ensures .0) (c .before .if3 .left) (c .fitted .ensures)
 
 pub survey-known-spec : {M : Type 1} → statement M

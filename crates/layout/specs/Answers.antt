@@ -1,0 +1,41 @@
+-- What the code's types mean.
+use mathlib.Core.Path.{_≡_}
+use mathlib.Core.Bool.{true, false}
+use mathlib.Core.List.{List}
+use mathlib.Core.Option.{Option, none, some}
+use Prim.Native.Nat.{ℕ}
+use lib.Dec.{leb}
+use lib.ListN.{length}
+use Rattle.registers.specs.Registers.{join, allZero, shownRaw}
+use Rattle.values.specs.Classes.{Classified, classified}
+use Rattle.catalog.specs.Frames as Frames
+use Rattle.catalog.specs.Answers.{headForm, pointForm}
+use Rattle.layout.specs.Points.{statusOf, scaleOf}
+use Rattle.layout.specs.declared.frames.PointOr.{PointOr}
+use Rattle.layout.specs.declared.frames.GroupOr.{GroupOr}
+use Rattle.layout.specs.declared.points.Shown.{Shown}
+
+-- A frame's point, if it is a point frame.
+abbrev pub pointOrForm : PointOr → Option Frames.Point
+pointOrForm (PointOr.Point p) = some (pointForm p)
+pointOrForm PointOr.Other = none
+
+-- A frame's head, if it is a group frame.
+abbrev pub groupOrForm : GroupOr → Option Frames.Head
+groupOrForm (GroupOr.Group h) = some (headForm h)
+groupOrForm GroupOr.Other = none
+
+-- The class that `show` finds of any registers: up to four, that of their raw value; of more, that of 0 where all are 0, else that
+-- of 1. (For registers of a size that the type may have it is that of their raw value: `sized-class`, `proofs/PointClasses.antt`.)
+unfoldable pub registersClass : ℕ → List ℕ → Classified
+registersClass code rs =
+    elim (leb (length rs) 4) [
+      | true ↦ classified code (join rs)
+      | false ↦ elim (allZero rs) [ true ↦ classified code 0 | false ↦ classified code 1 ]
+    ]
+
+-- What is shown of a point by its registers, the class that they have, and the register of its scale point.
+pub record ShownOf (p : Frames.Point) (class : Classified) (registers : List ℕ) (register : ℕ) (r : Shown) : Type 0 where
+  pub status : r .status ≡ statusOf p class register
+  pub raw : r .raw ≡ shownRaw registers
+  pub scale : r .scale ≡ scaleOf p (statusOf p class register) register
