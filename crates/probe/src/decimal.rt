@@ -1,9 +1,7 @@
 // The command `decimal CODE RAW SCALE LENGTH`: a scaled number as text, in a buffer of LENGTH bytes.
 use crate::fields;
-use crate::fields::Number;
 use crate::output;
 use crate::quantity;
-use crate::quantity::Triple;
 use display::DecimalText;
 use display::Quantity;
 
@@ -13,19 +11,14 @@ const CAPACITY: usize = 64;
 // Answers the fields from `at` on. False, with nothing written, where they are bad.
 pub(crate) fn run(line: &[u8], at: usize) -> bool {
     let triple = quantity::triple_at(line, at);
-    let Triple::Of { quantity, next } = triple else {
-        return false;
-    };
-    let room = fields::decimal_field(line, next, CAPACITY as u64);
-    let Number::Of { value, next } = room else {
-        return false;
-    };
-    if !fields::nothing_left(line, next) {
+    let room = fields::decimal_field(line, triple.next, CAPACITY as u64);
+    if !fields::nothing_left(line, room.next) {
         return false;
     }
+    let quantity = triple.quantity;
+    let length = room.value as usize;
     let mut buffer = [0u8; CAPACITY];
-    let length = value as usize;
-    write_decimal(quantity, &mut buffer[..length]);
+    write_decimal(quantity, &mut buffer[0..length]);
     true
 }
 
@@ -33,7 +26,7 @@ pub(crate) fn run(line: &[u8], at: usize) -> bool {
 fn write_decimal(quantity: Quantity, out: &mut [u8]) {
     let written = display::decimal(quantity.type_code, quantity.raw, quantity.scale, out);
     match written {
-        DecimalText::Length(n) => output::text(&out[..n]),
+        DecimalText::Length(n) => output::text_of(out, n),
         DecimalText::Refused { number } => output::refused(number),
     }
 }

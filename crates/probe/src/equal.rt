@@ -2,23 +2,18 @@
 use crate::fields;
 use crate::output;
 use crate::quantity;
-use crate::quantity::Triple;
 use display::Equality;
 use display::Quantity;
 
 // Answers the fields from `at` on. False, with nothing written, where they are bad.
 pub(crate) fn run(line: &[u8], at: usize) -> bool {
     let first = quantity::triple_at(line, at);
-    let Triple::Of { quantity: a, next } = first else {
-        return false;
-    };
-    let second = quantity::triple_at(line, next);
-    let Triple::Of { quantity: b, next } = second else {
-        return false;
-    };
-    if !fields::nothing_left(line, next) {
+    let second = quantity::triple_at(line, first.next);
+    if !fields::nothing_left(line, second.next) {
         return false;
     }
+    let a = first.quantity;
+    let b = second.quantity;
     write_equality(a, b);
     true
 }
@@ -27,8 +22,8 @@ pub(crate) fn run(line: &[u8], at: usize) -> bool {
 fn write_equality(a: Quantity, b: Quantity) {
     let equality = display::equal_quantities(a, b);
     match equality {
-        Equality::Equal => output::text(b"yes"),
-        Equality::Different => output::text(b"no"),
+        Equality::Equal => output::say(output::YES),
+        Equality::Different => output::say(output::NO),
         Equality::Refused { number } => output::refused(number),
     }
 }

@@ -1,52 +1,50 @@
--- `probe::fields::words_field`: the digits that `hex_field` finds are those that are stored.
-use native.Mathlib.Omega.{arith}
+-- `probe::fields::words_field` meets its contract.
+use Rattle.io.proofs.Counting.{counts}
 use borrow.Author.Needs.{needs}
 use Rattle.probe.proofs.fields.words_field.Statement.{statement}
 use Rattle.probe.proofs.fields.words_field.Tie as tie
 
-hex-field-requires : tie.Need-hex-field-requires
-hex-field-requires c κs = search needs
+field-at-requires : tie.Need-field-at-requires
+field-at-requires c κs = search needs
 
-enum-known-field : tie.Need-enum-known-field
-enum-known-field c = search needs
+digits-start-requires : tie.Need-digits-start-requires
+digits-start-requires c κs = search needs
 
-enum-told : tie.Need-enum-told
-enum-told c = search needs
+sub-length : tie.Need-sub-length
+sub-length c = search needs
+
+div-count : tie.Need-div-count
+div-count c = search needs
 
 returns : tie.Need-returns
 returns c = search needs
 
-returns-2 : tie.Need-returns-2
-returns-2 c = search needs
+store-requires : tie.Need-store-requires
+store-requires c κs = search needs
 
-store-words-requires : tie.Need-store-words-requires
-store-words-requires c κs =
-    let h = rw (c .before .before .before .field .given .1) at (c .before .before .before .before .before .hex-field .ensures) in
-    (omega (arith, h), search needs)
+rem-is-good : tie.Need-rem-is-good
+rem-is-good c = search needs
+
+next-if-requires : tie.Need-next-if-requires
+next-if-requires c κs = search needs
 
 same-length : tie.Need-same-length
 same-length c = search needs
 
-returns-3 : tie.Need-returns-3
-returns-3 c = search needs
-
-same-length-2 : tie.Need-same-length-2
-same-length-2 c = search needs
-
-returns-4 : tie.Need-returns-4
-returns-4 c = search needs
+returns-2 : tie.Need-returns-2
+returns-2 c = counts _ _ (search needs)
 
 pub words-field-spec : {M : Type 1} → statement M
 words-field-spec =
     tie.close
     (tie.spec
-    hex-field-requires
-    enum-known-field
-    enum-told
+    field-at-requires
+    digits-start-requires
+    sub-length
+    div-count
     returns
-    returns-2
-    store-words-requires
+    store-requires
+    rem-is-good
+    next-if-requires
     same-length
-    returns-3
-    same-length-2
-    returns-4)
+    returns-2)
