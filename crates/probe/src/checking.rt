@@ -1,27 +1,28 @@
 // The command `check CATALOG`: how many models a catalog has, or why it is refused.
 use crate::fields;
+use crate::fields::ROOM;
 use crate::fields::WORD_DIGITS;
 use crate::output;
+use crate::plants::CATALOG_CAPACITY;
 use catalog::Checked;
-
-// How many words a line can give as the catalog: one frame more than a catalog may have.
-pub(crate) const CATALOG_CAPACITY: usize = 32776;
 
 // Answers the fields from `at` on. False, with nothing written, where they are bad.
 pub(crate) fn run(line: &[u8], at: usize) -> bool {
-    let mut catalog = [0u16; CATALOG_CAPACITY];
-    run_in(line, at, &mut catalog)
+    let mut catalog = [0u16; ROOM];
+    let stored = fields::words_field(line, at, WORD_DIGITS, CATALOG_CAPACITY, &mut catalog);
+    check_if(
+        fields::nothing_left(line, stored.next),
+        &catalog,
+        stored.count,
+    )
 }
 
-// The same, in the room that is lent.
-fn run_in(line: &[u8], at: usize, catalog: &mut [u16]) -> bool {
-    let words = fields::words_field(line, at, WORD_DIGITS, catalog);
-    if !fields::nothing_left(line, words.next) {
-        return false;
+// Writes the answer where the line is good, and says whether it is.
+fn check_if(is_good: bool, catalog: &[u16; ROOM], count: usize) -> bool {
+    if is_good {
+        write_checked(fields::first(catalog, count));
     }
-    let count = words.count;
-    write_checked(&catalog[..count]);
-    true
+    is_good
 }
 
 // Writes what `check` answers.

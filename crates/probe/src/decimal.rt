@@ -2,8 +2,10 @@
 use crate::fields;
 use crate::output;
 use crate::quantity;
+use crate::quantity::Triple;
 use display::DecimalText;
 use display::Quantity;
+ghost use Prim.Native.Nat.{_≤_};
 
 // The longest buffer that a line can ask for.
 const CAPACITY: usize = 64;
@@ -12,19 +14,30 @@ const CAPACITY: usize = 64;
 pub(crate) fn run(line: &[u8], at: usize) -> bool {
     let triple = quantity::triple_at(line, at);
     let room = fields::decimal_field(line, triple.next, CAPACITY as u64);
-    if !fields::nothing_left(line, room.next) {
-        return false;
+    let is_good = fields::nothing_left(line, room.next);
+    if is_good {
+        write_in(triple, room.value as usize);
     }
+    is_good
+}
+
+// Writes what `decimal` answers in a buffer of so many bytes.
+fn write_in(triple: Triple, length: usize)
+    requires { ⌜ length ≤ 64 ⌝ }
+{
     let quantity = triple.quantity;
-    let length = room.value as usize;
     let mut buffer = [0u8; CAPACITY];
     write_decimal(quantity, &mut buffer[0..length]);
-    true
 }
 
 // Writes what `decimal` answers when it is given `out`.
 fn write_decimal(quantity: Quantity, out: &mut [u8]) {
     let written = display::decimal(quantity.type_code, quantity.raw, quantity.scale, out);
+    write_written(written, out);
+}
+
+// Writes an answer of `decimal`, which put its text into `out`.
+fn write_written(written: DecimalText, out: &[u8]) {
     match written {
         DecimalText::Length(n) => output::text_of(out, n),
         DecimalText::Refused { number } => output::refused(number),

@@ -2,24 +2,24 @@
 use crate::fields;
 use crate::output;
 use crate::quantity;
+use crate::quantity::Triple;
 use display::Equality;
-use display::Quantity;
 
 // Answers the fields from `at` on. False, with nothing written, where they are bad.
 pub(crate) fn run(line: &[u8], at: usize) -> bool {
     let first = quantity::triple_at(line, at);
     let second = quantity::triple_at(line, first.next);
-    if !fields::nothing_left(line, second.next) {
-        return false;
+    let is_good = fields::nothing_left(line, second.next);
+    if is_good {
+        write_equality(first, second);
     }
-    let a = first.quantity;
-    let b = second.quantity;
-    write_equality(a, b);
-    true
+    is_good
 }
 
 // Writes what `equal_quantities` answers.
-fn write_equality(a: Quantity, b: Quantity) {
+fn write_equality(first: Triple, second: Triple) {
+    let a = first.quantity;
+    let b = second.quantity;
     let equality = display::equal_quantities(a, b);
     match equality {
         Equality::Equal => output::say(output::YES),

@@ -7,11 +7,11 @@ use display::EventBits;
 pub(crate) fn run(line: &[u8], at: usize) -> bool {
     let code = fields::u16_field(line, at);
     let number = fields::u64_field(line, code.next);
-    if !fields::nothing_left(line, number.next) {
-        return false;
+    let is_good = fields::nothing_left(line, number.next);
+    if is_good {
+        write_bits(code.value, number.value);
     }
-    write_bits(code.value, number.value);
-    true
+    is_good
 }
 
 // Writes what `event_bits` answers.

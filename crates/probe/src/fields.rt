@@ -39,6 +39,10 @@ const NOWHERE: usize = usize::MAX;
 // The hexadecimal digits of a word.
 pub(crate) const WORD_DIGITS: usize = 4;
 
+// The room for the words of a field. It is one number for all, so that one function can fill it as an array: where an
+// array is made and lent as a slice, the prover counts its elements.
+pub(crate) const ROOM: usize = 81920;
+
 // Where `byte` stands first in `s` from `start` on, or the end of `s` where it doesn't.
 pub(crate) fn find(s: &[u8], start: usize, byte: u8) -> usize
     ensures { λ r. ⌜ min start (length (now (s .entry))) ≤ r ⌝ }
@@ -144,28 +148,40 @@ fn decimal_digit(b: u8) -> u64 {
     }
 }
 
-// Stores the words of the field at `at`, of so many digits each, at the start of `out`; `-` is no words. A word of fewer
-// than four digits is stored with what stood in `out` before its digits. Where the field is bad, some words may have
-// been stored.
-pub(crate) fn words_field(line: &[u8], at: usize, digits: usize, out: &mut [u16]) -> Stored
-    requires { ⌜ 0 < digits ⌝ }
-    ensures { λ r. ⌜ Counts (r .count) (now (out .exit)) ⌝ }
+// Stores the words of the field at `at`, of so many digits each and at most `limit` of them, at the start of `out`; `-`
+// is no words. A word of fewer than four digits is stored with what stood in `out` before its digits. Where the field is
+// bad, some words may have been stored.
+pub(crate) fn words_field(
+    line: &[u8],
+    at: usize,
+    digits: usize,
+    limit: usize,
+    out: &mut [u16; ROOM],
+) -> Stored
+    requires { ⌜ (0 < digits) × (limit ≤ 81920) ⌝ }
 {
     let field = field_at(line, at);
     let start = digits_start(line, field.start, field.end);
-    let length = field.end - start;
-    let count = length / digits;
-    if out.len() < count {
-        return Stored {
-            count: 0,
-            next: NOWHERE,
-        };
-    }
-    let is_good = store(line, start, field.end, digits, out) && length % digits == 0;
+    let count = (field.end - start) / digits;
+    let is_whole = (field.end - start) % digits == 0;
+    let next = next_if(is_whole, field.next);
+    let is_good = store(line, start, field.end, digits, limit, out);
     Stored {
         count,
-        next: next_if(is_good, field.next),
+        next: next_if(is_good, next),
     }
+}
+
+// The first words of `s`, as far as it goes.
+pub(crate) fn first<'a>(s: &'a [u16; ROOM], count: usize) -> &'a [u16] {
+    part(s, count)
+}
+
+fn part<'a>(s: &'a [u16], count: usize) -> &'a [u16] {
+    if s.len() < count {
+        return s;
+    }
+    &s[0..count]
 }
 
 // Where the digits of the text from `start` to `end` begin: past the text where it is `-`.
@@ -179,16 +195,22 @@ fn digits_start(line: &[u8], start: usize, end: usize) -> usize
     start
 }
 
-// Stores the digits from `start` to `end`, as far as `out` goes. False where one of the bytes is no digit.
-fn store(line: &[u8], start: usize, end: usize, digits: usize, out: &mut [u16]) -> bool
-    requires { ⌜ (0 < digits) × (end ≤ length (now line)) ⌝ }
-    ensures { λ _. ⌜ length (now (out .exit)) ≡ length (now (out .entry)) ⌝ }
+// Stores the digits from `start` to `end`. False where a byte is no digit, or where there are more words than `limit`.
+fn store(
+    line: &[u8],
+    start: usize,
+    end: usize,
+    digits: usize,
+    limit: usize,
+    out: &mut [u16; ROOM],
+) -> bool
+    requires { ⌜ (0 < digits) × (limit ≤ 81920) × (end ≤ length (now line)) ⌝ }
 {
     let mut i = start;
     while i < end {
         let k = (i - start) / digits;
         let digit = hex_digit(line[i]);
-        if 15 < digit || out.len() <= k {
+        if 15 < digit || limit <= k {
             return false;
         }
         out[k] = with_digit(out[k], digit);

@@ -1,10 +1,11 @@
 // The command `list ENTRIES CATALOG MAP`: the points of a register map by a catalog, put into a list of ENTRIES
 // numbers.
-use crate::checking::CATALOG_CAPACITY;
 use crate::fields;
-use crate::fields::Number;
+use crate::fields::ROOM;
 use crate::output;
+use crate::plants::CATALOG_CAPACITY;
 use crate::plants::MAP_CAPACITY;
+use crate::plants::Plant;
 use crate::plants::plant_at;
 use listing::Listing;
 use listing::WIDTH;
@@ -15,22 +16,32 @@ const LIST_CAPACITY: usize = 20000;
 
 // Answers the fields from `at` on. False, with nothing written, where they are bad.
 pub(crate) fn run(line: &[u8], at: usize) -> bool {
-    let mut catalog = [0u16; CATALOG_CAPACITY];
-    let mut map = [0u16; MAP_CAPACITY];
-    run_in(line, at, &mut catalog, &mut map)
+    let mut catalog = [0u16; ROOM];
+    let mut map = [0u16; ROOM];
+    let room = fields::decimal_field(line, at, LIST_CAPACITY as u64);
+    let plant = plant_at(
+        line,
+        room.next,
+        CATALOG_CAPACITY,
+        &mut catalog,
+        MAP_CAPACITY,
+        &mut map,
+    );
+    list_if(plant, &catalog, &map, room.value as usize)
 }
 
-// The same, in the room that is lent.
-fn run_in(line: &[u8], at: usize, catalog: &mut [u16], map: &mut [u16]) -> bool {
-    let room = fields::decimal_field(line, at, LIST_CAPACITY as u64);
-    let plant = plant_at(line, room.next, catalog, map);
-    if !plant.is_whole {
-        return false;
+// Writes the answer where the line is good, and says whether it is.
+fn list_if(plant: Plant, catalog: &[u16; ROOM], map: &[u16; ROOM], entries: usize) -> bool
+    requires { ⌜ entries ≤ 20000 ⌝ }
+{
+    if plant.is_whole {
+        list_in(
+            fields::first(catalog, plant.words),
+            fields::first(map, plant.registers),
+            entries,
+        );
     }
-    let words = plant.words;
-    let registers = plant.registers;
-    list_in(&catalog[..words], &map[..registers], room.value as usize);
-    true
+    plant.is_whole
 }
 
 // Writes what `list` answers when it is given so many entries.
@@ -44,11 +55,16 @@ fn list_in(catalog: &[u16], map: &[u16], entries: usize)
 // Writes what `list` answers when it is given `out`.
 fn write_listing(catalog: &[u16], map: &[u16], out: &mut [u64]) {
     let listing = listing::list(catalog, map, out);
+    write_points(listing, out);
+}
+
+// Writes an answer of `list`, with the list that it filled.
+fn write_points(listing: Listing, list: &[u64]) {
     match listing {
         Listing::Listed { points, headers } => {
             output::counted(output::POINTS, points as u64);
             output::counted(output::HEADERS, headers as u64);
-            write_records(out, points);
+            write_records(list, points);
         }
         Listing::Refused {
             number,

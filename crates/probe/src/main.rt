@@ -69,9 +69,17 @@ fn answer_round(input: &mut [u8], kept: usize) -> usize
     requires { ⌜ kept ≤ length (now input) ⌝ }
     ensures { λ r. ⌜ r ≤ length (now (input .exit)) ⌝ }
 {
-    let count = kept + io::read_full(STDIN_FILENO, &mut input[kept..]);
+    let count = fill(input, kept);
     let at = answer_lines(&input[0..count]);
     move_to_front(input, at, count)
+}
+
+// Fills the buffer after the bytes that were kept, and returns how many it then holds.
+fn fill(input: &mut [u8], kept: usize) -> usize
+    requires { ⌜ kept ≤ length (now input) ⌝ }
+    ensures { λ r. ⌜ r ≤ length (now (input .exit)) ⌝ }
+{
+    kept + io::read_full(STDIN_FILENO, &mut input[kept..])
 }
 
 // Answers the whole lines, and returns where the one begins that is cut, or the end of `input` where

@@ -1,71 +1,76 @@
 // The command `parse BYTES`: the catalog and the map that the bytes of an input hold, with the room of `readplant`.
 use crate::fields;
+use crate::fields::ROOM;
 use crate::output;
 use input::FRAME_WORDS;
 use input::Parsed;
-ghost use Rattle.io.specs.Counts.{Counts};
 
-// How many bytes a line can give as the input: more than any that is not refused.
-const INPUT_CAPACITY: usize = 81920;
-
-// The hexadecimal digits of a byte.
+// The hexadecimal digits of a byte. A line can give as many bytes as there is room: more than any input that is not
+// refused.
 const BYTE_DIGITS: usize = 2;
 
 // The room for the words of the catalog, and for the registers of the map.
-const ROOM: usize = 8192;
+const PARSED_ROOM: usize = 8192;
 
 // Answers the fields from `at` on. False, with nothing written, where they are bad.
 pub(crate) fn run(line: &[u8], at: usize) -> bool {
-    let mut words = [0u16; INPUT_CAPACITY];
-    let mut bytes = [0u8; INPUT_CAPACITY];
-    run_in(line, at, &mut words, &mut bytes)
+    let mut words = [0u16; ROOM];
+    let stored = fields::words_field(line, at, BYTE_DIGITS, ROOM, &mut words);
+    parse_if(
+        fields::nothing_left(line, stored.next),
+        &words,
+        stored.count,
+    )
 }
 
-// The same, in the room that is lent.
-fn run_in(line: &[u8], at: usize, words: &mut [u16], bytes: &mut [u8]) -> bool {
-    let stored = fields::words_field(line, at, BYTE_DIGITS, words);
-    if !fields::nothing_left(line, stored.next) {
-        return false;
+// Writes the answer where the line is good, and says whether it is.
+fn parse_if(is_good: bool, words: &[u16; ROOM], count: usize) -> bool {
+    if is_good {
+        let mut bytes = [0u8; ROOM];
+        copy_bytes(words, &mut bytes);
+        parse_bytes(&bytes, count);
     }
-    let words_count = stored.count;
-    let count = copy_bytes(&words[..words_count], bytes);
-    parse_in(&bytes[..count]);
-    true
+    is_good
 }
 
-// Copies the low byte of each word, and returns how many they are. Where `bytes` has no room for them it copies none.
-fn copy_bytes(words: &[u16], bytes: &mut [u8]) -> usize
-    ensures { λ r. ⌜ Counts r (now (bytes .exit)) ⌝ }
-{
-    if bytes.len() < words.len() {
-        return 0;
-    }
+// Copies the low byte of each word.
+fn copy_bytes(words: &[u16; ROOM], bytes: &mut [u8; ROOM]) {
     let mut i = 0;
-    while i < words.len() {
+    while i < ROOM {
         bytes[i] = low_byte(words[i]);
         i += 1;
     }
-    words.len()
 }
 
 fn low_byte(word: u16) -> u8 {
     (word % 256) as u8
 }
 
-// Writes what `parse` answers.
-fn parse_in(text: &[u8]) {
-    let mut catalog = [0u16; ROOM];
-    let mut map = [0u16; ROOM];
-    write_parsed(text, &mut catalog, &mut map);
+// Writes the answer for the first bytes.
+fn parse_bytes(bytes: &[u8; ROOM], count: usize) {
+    parse_part(bytes, count);
 }
 
-// The same, in the room that is lent.
-fn write_parsed(text: &[u8], catalog: &mut [u16], map: &mut [u16]) {
-    let parsed = input::parse(text, catalog, map);
+fn parse_part(bytes: &[u8], count: usize) {
+    if count <= bytes.len() {
+        parse_in(&bytes[0..count]);
+    }
+}
+
+// Writes what `parse` answers.
+fn parse_in(text: &[u8]) {
+    let mut catalog = [0u16; PARSED_ROOM];
+    let mut map = [0u16; PARSED_ROOM];
+    let parsed = input::parse(text, &mut catalog, &mut map);
+    write_parsed(parsed, &catalog, &map);
+}
+
+// Writes an answer of `parse`, with what it stored.
+fn write_parsed(parsed: Parsed, catalog: &[u16; PARSED_ROOM], map: &[u16; PARSED_ROOM]) {
     match parsed {
         Parsed::Of { frames, registers } => {
             // The frames fit the room, so the remainder is their number. It shows that the product fits.
-            let words = frames % ROOM * FRAME_WORDS;
+            let words = frames % PARSED_ROOM * FRAME_WORDS;
             output::say(output::PARSED);
             output::words(catalog, words);
             output::say(output::SPACE);

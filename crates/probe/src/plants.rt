@@ -1,24 +1,35 @@
 // Two fields of words, with which a line must end: CATALOG MAP, or FALLBACK MAP.
 use crate::fields;
+use crate::fields::ROOM;
 use crate::fields::WORD_DIGITS;
-ghost use Rattle.io.specs.Counts.{Counts};
+ghost use Prim.Native.Nat.{_≤_};
+
+// How many words a line can give as the catalog: one frame more than a catalog may have.
+pub(crate) const CATALOG_CAPACITY: usize = 32776;
 
 // How many words a line can give as the map: one more than a map may have.
 pub(crate) const MAP_CAPACITY: usize = 65537;
 
-// How many words were stored of each, and the position after the last.
+// How many words were stored of each, and whether they are good and the line ends there.
 pub(crate) struct Plant {
     pub(crate) words: usize,
     pub(crate) registers: usize,
     pub(crate) is_whole: bool,
 }
 
-// Stores the words of the field at `at`, and those of the next.
-pub(crate) fn plant_at(line: &[u8], at: usize, first: &mut [u16], map: &mut [u16]) -> Plant
-    ensures { λ r. ⌜ Counts (r .words) (now (first .exit)) × Counts (r .registers) (now (map .exit)) ⌝ }
+// Stores the words of the field at `at` and those of the next, at most so many of each.
+pub(crate) fn plant_at(
+    line: &[u8],
+    at: usize,
+    most: usize,
+    first: &mut [u16; ROOM],
+    most_registers: usize,
+    map: &mut [u16; ROOM],
+) -> Plant
+    requires { ⌜ (most ≤ 81920) × («most_registers» ≤ 81920) ⌝ }
 {
-    let stored = fields::words_field(line, at, WORD_DIGITS, first);
-    let registers = fields::words_field(line, stored.next, WORD_DIGITS, map);
+    let stored = fields::words_field(line, at, WORD_DIGITS, most, first);
+    let registers = fields::words_field(line, stored.next, WORD_DIGITS, most_registers, map);
     let is_whole = fields::nothing_left(line, registers.next);
     Plant {
         words: stored.count,

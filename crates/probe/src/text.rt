@@ -1,6 +1,8 @@
 // The command `text ADDRESS SIZE FALLBACK MAP`: the words of a text in a register map, or of the fallback.
 use crate::fields;
+use crate::fields::ROOM;
 use crate::output;
+use crate::plants::Plant;
 use crate::plants::plant_at;
 
 // How many words a line can give as the fallback.
@@ -9,34 +11,59 @@ const FALLBACK_CAPACITY: usize = 1024;
 // How many words a line can give as the map.
 const MAP_CAPACITY: usize = 65536;
 
-// Answers the fields from `at` on. False, with nothing written, where they are bad.
-pub(crate) fn run(line: &[u8], at: usize) -> bool {
-    let mut fallback = [0u16; FALLBACK_CAPACITY];
-    let mut map = [0u16; MAP_CAPACITY];
-    run_in(line, at, &mut fallback, &mut map)
+// Where a text lies, and the position after the fields.
+struct Asked {
+    address: u64,
+    size: u64,
+    next: usize,
 }
 
-// The same, in the room that is lent.
-fn run_in(line: &[u8], at: usize, fallback: &mut [u16], map: &mut [u16]) -> bool {
+// Answers the fields from `at` on. False, with nothing written, where they are bad.
+pub(crate) fn run(line: &[u8], at: usize) -> bool {
+    let mut fallback = [0u16; ROOM];
+    let mut map = [0u16; ROOM];
+    let asked = asked_at(line, at);
+    let plant = plant_at(
+        line,
+        asked.next,
+        FALLBACK_CAPACITY,
+        &mut fallback,
+        MAP_CAPACITY,
+        &mut map,
+    );
+    text_if(plant, &fallback, &map, asked)
+}
+
+// The numbers from `at` on.
+fn asked_at(line: &[u8], at: usize) -> Asked {
     let address = fields::u64_field(line, at);
     let size = fields::u64_field(line, address.next);
-    let plant = plant_at(line, size.next, fallback, map);
-    if !plant.is_whole {
-        return false;
+    Asked {
+        address: address.value,
+        size: size.value,
+        next: size.next,
     }
-    let words = plant.words;
-    let registers = plant.registers;
-    write_text(
-        &map[..registers],
-        address.value as usize,
-        size.value as usize,
-        &fallback[..words],
-    );
-    true
+}
+
+// Writes the answer where the line is good, and says whether it is.
+fn text_if<'a>(
+    plant: Plant,
+    fallback: &'a [u16; ROOM],
+    map: &'a [u16; ROOM],
+    asked: Asked,
+) -> bool {
+    if plant.is_whole {
+        write_text(
+            fields::first(map, plant.registers),
+            asked,
+            fields::first(fallback, plant.words),
+        );
+    }
+    plant.is_whole
 }
 
 // Writes what `text` answers, which is a part of one of the two slices: hence one lifetime for both.
-fn write_text<'a>(map: &'a [u16], address: usize, size: usize, fallback: &'a [u16]) {
-    let words = display::text(map, address, size, fallback);
+fn write_text<'a>(map: &'a [u16], asked: Asked, fallback: &'a [u16]) {
+    let words = display::text(map, asked.address as usize, asked.size as usize, fallback);
     output::words(words, words.len());
 }

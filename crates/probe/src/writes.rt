@@ -1,9 +1,11 @@
 // The command `write MODEL POINT I2 I3 I4 RAW CATALOG MAP`: RAW written to a point of a register map, by the index of
 // its model, its number and its instance numbers at levels 2, 3 and 4.
-use crate::checking::CATALOG_CAPACITY;
 use crate::fields;
+use crate::fields::ROOM;
 use crate::output;
+use crate::plants::CATALOG_CAPACITY;
 use crate::plants::MAP_CAPACITY;
+use crate::plants::Plant;
 use crate::plants::plant_at;
 use listing::InstancePath;
 use writing::Written;
@@ -17,37 +19,35 @@ struct Write {
     next: usize,
 }
 
-// Answers the fields from `at` on. False, with nothing written, where they are bad.
-pub(crate) fn run(line: &[u8], at: usize) -> bool {
-    let mut catalog = [0u16; CATALOG_CAPACITY];
-    let mut map = [0u16; MAP_CAPACITY];
-    run_in(line, at, &mut catalog, &mut map)
+// The instance numbers, and the position after them.
+struct Path {
+    path: InstancePath,
+    next: usize,
 }
 
-// The same, in the room that is lent.
-fn run_in(line: &[u8], at: usize, catalog: &mut [u16], map: &mut [u16]) -> bool {
+// Answers the fields from `at` on. False, with nothing written, where they are bad.
+pub(crate) fn run(line: &[u8], at: usize) -> bool {
+    let mut catalog = [0u16; ROOM];
+    let mut map = [0u16; ROOM];
     let asked = write_at(line, at);
-    let plant = plant_at(line, asked.next, catalog, map);
-    if !plant.is_whole {
-        return false;
-    }
-    let words = plant.words;
-    let registers = plant.registers;
-    write_written(&catalog[..words], &mut map[..registers], asked);
-    true
+    let plant = plant_at(
+        line,
+        asked.next,
+        CATALOG_CAPACITY,
+        &mut catalog,
+        MAP_CAPACITY,
+        &mut map,
+    );
+    write_if(plant, &catalog, &mut map, asked)
 }
 
 // The numbers from `at` on.
 fn write_at(line: &[u8], at: usize) -> Write {
     let model = fields::u64_field(line, at);
     let point = fields::u16_field(line, model.next);
-    let i2 = fields::u16_field(line, point.next);
-    let i3 = fields::u16_field(line, i2.next);
-    let i4 = fields::u16_field(line, i3.next);
-    let raw = fields::u64_field(line, i4.next);
-    let path = InstancePath {
-        instances: [i2.value, i3.value, i4.value],
-    };
+    let instances = path_at(line, point.next);
+    let raw = fields::u64_field(line, instances.next);
+    let path = instances.path;
     Write {
         model: model.value,
         point: point.value,
@@ -57,8 +57,42 @@ fn write_at(line: &[u8], at: usize) -> Write {
     }
 }
 
+// The instance numbers from `at` on.
+fn path_at(line: &[u8], at: usize) -> Path {
+    let i2 = fields::u16_field(line, at);
+    let i3 = fields::u16_field(line, i2.next);
+    let i4 = fields::u16_field(line, i3.next);
+    let path = InstancePath {
+        instances: [i2.value, i3.value, i4.value],
+    };
+    Path {
+        path,
+        next: i4.next,
+    }
+}
+
+// Writes the answer where the line is good, and says whether it is.
+fn write_if(plant: Plant, catalog: &[u16; ROOM], map: &mut [u16; ROOM], asked: Write) -> bool {
+    if plant.is_whole {
+        write_part(
+            fields::first(catalog, plant.words),
+            map,
+            plant.registers,
+            asked,
+        );
+    }
+    plant.is_whole
+}
+
+// The same in the first registers of `map`, where it has so many.
+fn write_part(catalog: &[u16], map: &mut [u16], registers: usize, asked: Write) {
+    if registers <= map.len() {
+        write_in(catalog, &mut map[0..registers], asked);
+    }
+}
+
 // Writes what `write` answers, and the map after it.
-fn write_written(catalog: &[u16], map: &mut [u16], asked: Write) {
+fn write_in(catalog: &[u16], map: &mut [u16], asked: Write) {
     let path = asked.path;
     let written = writing::write(
         catalog,
@@ -68,6 +102,11 @@ fn write_written(catalog: &[u16], map: &mut [u16], asked: Write) {
         path,
         asked.raw,
     );
+    write_written(written, map);
+}
+
+// Writes an answer of `write`, and the map after it.
+fn write_written(written: Written, map: &[u16]) {
     match written {
         Written::Done => {
             output::say(output::WRITTEN);

@@ -1,7 +1,5 @@
--- `probe::fields::store` meets its contract. The loop's invariant: a store keeps the length, and `i` is not below `start`.
+-- `probe::fields::store` meets its contract. The loop's invariant: `i` is not below `start`.
 use Prim.Native.Nat.{_≤_, _-_}
-use mathlib.Core.Path.{_≡_}
-use lib.ListN.{length}
 use native.Mathlib.Omega.{arith}
 use borrow.Author.Tests.{leb-false}
 use borrow.Author.Needs.{needs}
@@ -9,10 +7,10 @@ use Rattle.probe.proofs.fields.store.Statement.{statement}
 use Rattle.probe.proofs.fields.store.Tie as tie
 
 abbrev Inv-loop : tie.InvT-loop
-Inv-loop line start end digits out₀ i₀ out i = (length out ≡ length out₀) × (start ≤ i)
+Inv-loop line start end digits limit out₀ i₀ out i = start ≤ i
 
 abbrev μ-loop : tie.MeasureT-loop
-μ-loop line start end digits out₀ i₀ out i = end - i
+μ-loop line start end digits limit out₀ i₀ out i = end - i
 
 loop-holds : tie.Need-loop-holds Inv-loop μ-loop
 loop-holds c = search needs
@@ -29,17 +27,14 @@ shared-slice-read-hex-digit c = search needs
 hex-digit-requires : tie.Need-hex-digit-requires Inv-loop μ-loop
 hex-digit-requires c κs = search needs
 
-same-length : tie.Need-same-length Inv-loop μ-loop
-same-length c = search needs
-
 returns : tie.Need-returns Inv-loop μ-loop
 returns c = search needs
 
 mul-with-digit : tie.Need-mul-with-digit Inv-loop μ-loop
 mul-with-digit c = record { fits = omega (arith, leb-false) }
 
-slice-read-with-digit : tie.Need-slice-read-with-digit Inv-loop μ-loop
-slice-read-with-digit c = search needs
+element-copy-out-with-digit : tie.Need-element-copy-out-with-digit Inv-loop μ-loop
+element-copy-out-with-digit c = omega (arith, leb-false)
 
 with-digit-requires : tie.Need-with-digit-requires Inv-loop μ-loop
 with-digit-requires c κs = search needs
@@ -47,8 +42,8 @@ with-digit-requires c κs = search needs
 mul-out : tie.Need-mul-out Inv-loop μ-loop
 mul-out c = record { fits = omega (arith, leb-false) }
 
-slice-write-out : tie.Need-slice-write-out Inv-loop μ-loop
-slice-write-out c = search needs
+element-write-out : tie.Need-element-write-out Inv-loop μ-loop
+element-write-out c = omega (arith, leb-false)
 
 add-i : tie.Need-add-i Inv-loop μ-loop
 add-i c = search needs
@@ -58,9 +53,6 @@ loop-less c = search needs
 
 loop-again : tie.Need-loop-again Inv-loop μ-loop
 loop-again c = search needs
-
-same-length-2 : tie.Need-same-length-2 Inv-loop μ-loop
-same-length-2 c = search needs
 
 returns-2 : tie.Need-returns-2 Inv-loop μ-loop
 returns-2 c = search needs
@@ -76,15 +68,13 @@ store-spec =
     div-k
     shared-slice-read-hex-digit
     hex-digit-requires
-    same-length
     returns
     mul-with-digit
-    slice-read-with-digit
+    element-copy-out-with-digit
     with-digit-requires
     mul-out
-    slice-write-out
+    element-write-out
     add-i
     loop-less
     loop-again
-    same-length-2
     returns-2)
