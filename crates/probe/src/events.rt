@@ -6,7 +6,7 @@ use display::EventBits;
 // Answers the fields from `at` on. False, with nothing written, where they are bad.
 pub(crate) fn run(line: &[u8], at: usize) -> bool {
     let code = fields::u16_field(line, at);
-    let number = fields::u64_field(line, code.next);
+    let number = fields::decimal_field(line, code.next, u64::MAX);
     let is_good = fields::nothing_left(line, number.next);
     if is_good {
         write_bits(code.value, number.value);

@@ -135,11 +135,6 @@ pub(crate) fn u16_field(line: &[u8], at: usize) -> Number16 {
     }
 }
 
-// The field at `at` as a decimal number of 64 bits.
-pub(crate) fn u64_field(line: &[u8], at: usize) -> Number {
-    decimal_field(line, at, u64::MAX)
-}
-
 // The value of a decimal digit, and 10 for any other byte.
 fn decimal_digit(b: u8) -> u64 {
     match b {

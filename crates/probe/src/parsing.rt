@@ -37,20 +37,17 @@ fn parse_if(is_good: bool, words: &[u16; ROOM], count: usize) -> bool {
 fn copy_bytes(words: &[u16; ROOM], bytes: &mut [u8; ROOM]) {
     let mut i = 0;
     while i < ROOM {
-        bytes[i] = low_byte(words[i]);
+        bytes[i] = (words[i] % 256) as u8;
         i += 1;
     }
 }
 
-fn low_byte(word: u16) -> u8 {
-    (word % 256) as u8
-}
-
-// Writes the answer for the first bytes.
+// Writes the answer for the first bytes. (Lent as an array, `bytes` asks no proof of its length.)
 fn parse_bytes(bytes: &[u8; ROOM], count: usize) {
     parse_part(bytes, count);
 }
 
+// The same, where there are so many.
 fn parse_part(bytes: &[u8], count: usize) {
     if count <= bytes.len() {
         parse_in(&bytes[0..count]);

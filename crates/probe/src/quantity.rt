@@ -11,7 +11,7 @@ pub(crate) struct Triple {
 // The quantity whose first field is at `at`.
 pub(crate) fn triple_at(line: &[u8], at: usize) -> Triple {
     let code = fields::u16_field(line, at);
-    let number = fields::u64_field(line, code.next);
+    let number = fields::decimal_field(line, code.next, u64::MAX);
     let power = fields::u16_field(line, number.next);
     Triple {
         quantity: Quantity {

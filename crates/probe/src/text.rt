@@ -36,8 +36,8 @@ pub(crate) fn run(line: &[u8], at: usize) -> bool {
 
 // The numbers from `at` on.
 fn asked_at(line: &[u8], at: usize) -> Asked {
-    let address = fields::u64_field(line, at);
-    let size = fields::u64_field(line, address.next);
+    let address = fields::decimal_field(line, at, u64::MAX);
+    let size = fields::decimal_field(line, address.next, u64::MAX);
     Asked {
         address: address.value,
         size: size.value,

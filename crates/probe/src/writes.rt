@@ -43,10 +43,10 @@ pub(crate) fn run(line: &[u8], at: usize) -> bool {
 
 // The numbers from `at` on.
 fn write_at(line: &[u8], at: usize) -> Write {
-    let model = fields::u64_field(line, at);
+    let model = fields::decimal_field(line, at, u64::MAX);
     let point = fields::u16_field(line, model.next);
     let instances = path_at(line, point.next);
-    let raw = fields::u64_field(line, instances.next);
+    let raw = fields::decimal_field(line, instances.next, u64::MAX);
     let path = instances.path;
     Write {
         model: model.value,

@@ -13,14 +13,14 @@ abbrev μ-loop : tie.MeasureT-loop
 loop-holds : tie.Need-loop-holds Inv-loop μ-loop
 loop-holds c = search needs
 
-mul-low-byte : tie.Need-mul-low-byte Inv-loop μ-loop
-mul-low-byte c = search needs
+mul-bytes : tie.Need-mul-bytes Inv-loop μ-loop
+mul-bytes c = search needs
 
-element-copy-out-low-byte : tie.Need-element-copy-out-low-byte Inv-loop μ-loop
-element-copy-out-low-byte c = search needs
+element-copy-out-bytes : tie.Need-element-copy-out-bytes Inv-loop μ-loop
+element-copy-out-bytes c = search needs
 
-low-byte-requires : tie.Need-low-byte-requires Inv-loop μ-loop
-low-byte-requires c κs = search needs
+cast-bytes : tie.Need-cast-bytes Inv-loop μ-loop
+cast-bytes c = search needs
 
 element-write-bytes : tie.Need-element-write-bytes Inv-loop μ-loop
 element-write-bytes c = search needs
@@ -44,9 +44,9 @@ copy-bytes-spec =
     Inv-loop
     μ-loop
     loop-holds
-    mul-low-byte
-    element-copy-out-low-byte
-    low-byte-requires
+    mul-bytes
+    element-copy-out-bytes
+    cast-bytes
     element-write-bytes
     add-i
     loop-less
