@@ -28,8 +28,8 @@ abbrev pub groupOrForm : GroupOr → Option Frames.Head
 groupOrForm (GroupOr.Group h) = some (headForm h)
 groupOrForm GroupOr.Other = none
 
--- The class that `show` finds of any registers: up to four, that of their raw value; of more, that of 0 where all are 0, else that
--- of 1. (For registers of a size that the type may have it is that of their raw value: `sized-class`, `proofs/PointClasses.antt`.)
+-- The class that `show` finds of any registers: up to four, the class of their raw value; of more, the class of 0 where all are
+-- 0, else that of 1. (It is the class of the raw value for any size that the type may have: `proofs/PointClasses.antt`.)
 unfoldable pub registersClass : ℕ → List ℕ → Classified
 registersClass code rs =
     elim (leb (length rs) 4) [

@@ -79,7 +79,8 @@ pub fn count_of(table: &[u16], head: Head, fill: usize) -> usize
 
 // Does the group's count point read FFFF?
 pub fn is_unimplemented(table: &[u16], head: Head) -> bool
-    ensures { λ r. ⌜ r ≡ (eqb (headForm head .countKind) countByPoint && eqb (scopeIn (now (table .entry)) (headForm head .count)) 0xFFFF) ⌝ }
+    ensures { λ r. ⌜ r
+        ≡ (eqb (headForm head .countKind) countByPoint && eqb (scopeIn (now (table .entry)) (headForm head .count)) 0xFFFF) ⌝ }
 {
     if head.count_kind != COUNT_BY_POINT {
         return false;

@@ -86,7 +86,8 @@ module _ (t : ℕ) where
       let a = c .before .before .before .before .before .before .before .before .before .before .args in
       let at = l .inv .0 .standing in
       let ws = a .catalog .now in
-      let found = sym (c .before .before .before .before .group-at .ensures) ∙ ap groupOrForm (c .before .before .next .given .1) in
+      let group = c .before .before .before .before .group-at .ensures in
+      let found = sym group ∙ ap groupOrForm (c .before .before .next .given .1) in
       let within = standing.group-next ws (l .sum .next) (at .stands) (at .noPoint) _ found .1 in
       subst (λ ps. Layout.RunOf ps (l .sum .next + 1) (c .run-extent .result))
       (run-whole ws (l .sum .next + 1) within (at .few)) (c .run-extent .ensures)
