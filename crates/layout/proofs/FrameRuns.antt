@@ -59,6 +59,7 @@ run-held ws i s =
 
 -- So recording the run records those points.
 pub held-noted : (ws : List ℕ) (i : ℕ) → Stands ws i → (body : List ℕ) (offset : ℕ) (table : List ℕ)
-    → noted body offset (begun (length body) offset (run (onward ws i))) table ≡ noted body offset (begunAt ws body offset i) table
+    → noted body offset (begun (length body) offset (run (onward ws i))) table
+    ≡ noted body offset (begunAt ws body offset i) table
 held-noted ws i s body offset table =
     ap (λ (ps : List Point). noted body offset (begun (length body) offset ps) table) (run-held ws i s)

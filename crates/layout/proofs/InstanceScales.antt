@@ -1,7 +1,6 @@
 -- An example by computation: two instances of a group, each with its own scale factor.
 use mathlib.Core.Path.{_≡_, refl}
-use mathlib.Core.List.{List, [], _∷_, map}
-use Prim.Native.Nat.{ℕ}
+use mathlib.Core.List.{[], _∷_, map}
 use Rattle.registers.specs.Registers.{join, shownRaw, tooWide}
 use Rattle.point_types.specs.Rows.{rows, rowAmong}
 use Rattle.values.specs.Classes.{twosComplement, integer, inRange, classOf, classified}

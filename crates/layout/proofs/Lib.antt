@@ -27,6 +27,7 @@ pub mod InstanceScales
 -- The frames of a definition as a walk visits them
 pub mod Standing
 pub mod FrameRuns
+pub mod RunSteps
 pub mod AcceptedModels
 pub mod PassedFrames
 pub mod ModelSearch

@@ -152,8 +152,9 @@ shown-at p body offset words sized inside rs e register r shown =
     let fits : p .size ≤ length rest = rw length-drop (omega arith) in
     let n = length-take-le (p .size) rest fits in
     let size = subst (λ (k : ℕ). isSizeOf (p .typeCode) k ≡ true) (sym n) sized in
-    let behind = subst AreRegisters (sym (take-append-drop (p .size) rest)) (each-drop Is16 offset body (each-register body words)) in
-    let own = each-parts Is16 (take (p .size) rest) (drop (p .size) rest) behind .0 in
+    let after = each-drop Is16 offset body (each-register body words) in
+    let parts = subst AreRegisters (sym (take-append-drop (p .size) rest)) after in
+    let own = each-parts Is16 (take (p .size) rest) (drop (p .size) rest) parts .0 in
     let class = sized-class (p .typeCode) (registersAt body offset p) size own in
     subst (λ (x : Classified). ShownOf p x (registersAt body offset p) register r) class
     (subst (λ (qs : List ℕ). ShownOf p (registersClass (p .typeCode) qs) qs register r) e shown)

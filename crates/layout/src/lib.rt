@@ -5,8 +5,10 @@ mod frames;
 mod points;
 mod scopes;
 
+pub use counts::Run;
 pub use counts::count_of;
 pub use counts::is_unimplemented;
+pub use counts::run_extent;
 pub use frames::GroupOr;
 pub use frames::PointOr;
 pub use frames::behind_group;

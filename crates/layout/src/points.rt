@@ -25,7 +25,8 @@ pub struct Shown {
 
 // A point by its registers and the register of its scale point.
 pub fn show(point: Point, registers: &[u16], scale_register: u16) -> Shown
-    ensures { λ r. ⌜ ShownOf (pointForm point) (registersClass (pointForm point .typeCode) (now (registers .entry))) (now (registers .entry)) «scale_register» r ⌝ }
+    ensures { λ r. ⌜ ShownOf (pointForm point) (registersClass (pointForm point .typeCode) (now (registers .entry)))
+        (now (registers .entry)) «scale_register» r ⌝ }
 {
     let class = class_of(point.type_code, registers);
     let status = status_of(point, class, scale_register);

@@ -14,7 +14,9 @@ pub const NUMBERS: usize = 65536;
 // frame `first` on, and the first of them is at an offset of the body. Ends where the body does, so that a pad that
 // is left out is not recorded; a number that the table lacks is skipped.
 pub fn note_run(catalog: &[u16], first: usize, body: &[u16], offset: usize, table: &mut [u16])
-    ensures { λ _. ⌜ now (table .exit) ≡ noted (now (body .entry)) offset (begun (length (now (body .entry))) offset (run (onward (now (catalog .entry)) first))) (now (table .entry)) ⌝ }
+    ensures { λ _. ⌜ now (table .exit)
+        ≡ noted (now (body .entry)) offset
+        (begun (length (now (body .entry))) offset (run (onward (now (catalog .entry)) first))) (now (table .entry)) ⌝ }
 {
     let mut i = first;
     let mut at = offset;

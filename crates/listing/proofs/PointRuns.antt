@@ -27,8 +27,8 @@ use Rattle.listing.proofs.WrittenRecords.{written-none, written-length,
 
 -- The numbers of a record from what is shown of its point.
 pub shown-numbers : (visit : Visit) (body table path : List ℕ) (offset : ℕ) (p : Point) (shown : Shown)
-    → ShownOf p (classified (p .typeCode) (join (registersAt body offset p))) (registersAt body offset p) (scopeIn table (p .scale))
-    shown
+    → ShownOf p (classified (p .typeCode) (join (registersAt body offset p))) (registersAt body offset p)
+    (scopeIn table (p .scale)) shown
     → visit .index ∷ visit .id ∷ p .number ∷ getD path 0 0 ∷ getD path 1 0 ∷ getD path 2 0 ∷ (visit .address + 2 + offset)
     ∷ shown .status ∷ shown .raw ∷ shown .scale ∷ []
     ≡ recordNumbers (recordAt visit (pointAt body (instanceIn table path) offset p))

@@ -15,13 +15,13 @@ use Rattle.catalog.specs.Definitions.{Groups, pointsSize}
 use Rattle.layout.specs.Points.{ModelPoint, Scope}
 use Rattle.layout.specs.Layout.{countOf, groupsSize, fillSize, countUnimplemented}
 use Rattle.layout.specs.Counts.{groupsPoints, fillPoints, or0}
-use Rattle.layout.specs.Reading.{endsWithPad}
+use Rattle.layout.specs.Answers as Layout
 use Rattle.layout.specs.Walks.{heldAt, Stands, Ready, scopeIn, IsTable, AtGroups}
 use Rattle.listing.specs.Listing as Listing
 use Rattle.listing.specs.Finding as Finding
 use Rattle.listing.specs.Finding.{isPoint}
 use Rattle.listing.specs.declared.frames.Found.{Found}
-use Rattle.listing.specs.declared.extents.Run.{Run}
+use Rattle.layout.specs.declared.counts.Run.{Run}
 use Rattle.listing.specs.declared.extents.Extent.{Extent}
 use Rattle.listing.specs.declared.surveys.Survey.{Survey}
 use Rattle.listing.specs.declared.records.Sought.{Sought}
@@ -35,11 +35,8 @@ FoundStands ws (Found.At i) = Stands ws i
 FoundStands ws Found.Nothing = Unit {0}
 
 -- A run is that of the points of the group at frame `first`.
-pub record RunOf (ws : List ℕ) (first : ℕ) (r : Run) : Type 0 where
-  pub size : r .size ≡ pointsSize (heldAt ws first .points)
-  pub points : r .points ≡ length (heldAt ws first .points)
-  pub next : r .next ≡ first + length (heldAt ws first .points)
-  pub pad : r .«ends_with_pad» ≡ endsWithPad (heldAt ws first .points)
+abbrev pub RunOf : List ℕ → ℕ → Run → Type 0
+RunOf ws first r = Layout.RunOf (heldAt ws first .points) first r
 
 -- An extent is that of these groups, with counts from a scope, capped.
 pub record ExtentOf (top : Scope) (gs : Groups) (r : Extent) : Type 0 where

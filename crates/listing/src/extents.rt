@@ -1,31 +1,21 @@
 // How many registers and points a model takes by its definition, before anything is written.
 use catalog::FILL;
 use catalog::Head;
-use catalog::PAD;
 use layout::GroupOr;
-use layout::PointOr;
+use layout::Run;
 use layout::count_of;
 use layout::group_at;
 use layout::is_unimplemented;
-use layout::point_at;
+use layout::run_extent;
 ghost use mathlib.Core.Path.{_≡_};
-ghost use Prim.Native.Nat.{_+_, _*_, _/_, _≤_, min};
-ghost use lib.ListN.{length};
+ghost use Prim.Native.Nat.{_+_, _*_, _≤_, min};
 ghost use Rattle.catalog.specs.Answers.{headForm};
-ghost use Rattle.layout.specs.Walks.{heldAt, Stands, pastEnd, scopeIn, IsTable, AtGroups};
-ghost use Rattle.listing.specs.Promises.{RunOf, ExtentOf, SameExtent, WithGroup};
+ghost use Rattle.layout.specs.Walks.{heldAt, pastEnd, scopeIn, IsTable, AtGroups};
+ghost use Rattle.listing.specs.Promises.{ExtentOf, SameExtent, WithGroup};
 
 // Nested counts can make a size of more than 64 bits. No map has more registers than this, so sizes and
 // numbers of points are capped at it.
 pub(crate) const CAP: usize = 65536;
-
-// The points of a group: their registers, their number, the frame behind them, and whether the last is a pad.
-pub(crate) struct Run {
-    pub(crate) size: usize,
-    pub(crate) points: usize,
-    pub(crate) next: usize,
-    pub(crate) ends_with_pad: bool,
-}
 
 // Groups side by side: their registers and points, those of a fill group left out; the registers and points of
 // an instance of the fill group, 0 where there is none; whether a count point is unimplemented; and the
@@ -37,41 +27,6 @@ pub(crate) struct Extent {
     pub(crate) fill_points: usize,
     pub(crate) unimplemented: bool,
     pub(crate) next: usize,
-}
-
-// The points from frame `first` on.
-pub(crate) fn run_extent(catalog: &[u16], first: usize) -> Run
-    requires { ⌜ Stands (now catalog) first × (length (now catalog) / 8 ≤ 4096) ⌝ }
-    ensures { λ r. ⌜ RunOf (now (catalog .entry)) first r ⌝ }
-{
-    let frames = catalog.len() / 8;
-    let mut size = 0usize;
-    let mut ends_with_pad = false;
-    let mut i = first;
-    while i < frames {
-        let next = point_at(catalog, i);
-        match next {
-            PointOr::Point(point) => {
-                size += point.size as usize;
-                ends_with_pad = point.type_code == PAD;
-                i += 1;
-            }
-            PointOr::Other => {
-                return Run {
-                    size,
-                    points: i - first,
-                    next: i,
-                    ends_with_pad,
-                };
-            }
-        }
-    }
-    Run {
-        size,
-        points: i - first,
-        next: i,
-        ends_with_pad,
-    }
 }
 
 // The groups from frame `first` on, in a group that may hold groups of so many levels. Each frame is met once.

@@ -242,8 +242,9 @@ module _ (t : ℕ) where
       let w = steps.passes a (l .inv .0) (l .inv .1) (l .inv .2) e
       (omega (arith, c .before .before .before .count-of .ensures .0, c .before .before .if2)) in
       let at-frame : ℕ → Progress = λ k. record { records = l .at .records; offset = l .at .offset; frame = k } in
+      let past = c .before .behind-group .ensures ∙ group-passed (v .catalog .now) (l .at .frame) opened in
       let f : c .at-frame2 .result ≡ at-frame (pastEnd (v .catalog .now) (l .at .frame + 1)) =
-      c .at-frame2 .ensures ∙ ap at-frame (c .before .behind-group .ensures ∙ group-passed (v .catalog .now) (l .at .frame) opened) in
+      c .at-frame2 .ensures ∙ ap at-frame past in
       subst (λ x. Inv-loop (v .catalog .now) (v .table .now) (v .out .now) (v .model) (v .body .now) (v .levels) (v .instance)
       (length (v .catalog .now) / 8) (v .start) 0 (l .table) (l .out) x 0)
       (sym f)

@@ -43,11 +43,7 @@ put-run-requires c κs =
     let noting = c .before .before .before .before in
     let s = noting .before .before .before .before .before .before .before in
     let a = s .args in
-    let filled = noting .note-run .ensures
-    ∙ held-noted (a .catalog .now) (a .at .frame + 1) (s .pre .1 .stands) (a .body .now) (a .at .offset) (a .table .now) in
-    let isTable = ap length filled
-    ∙ noted-length (a .body .now) (a .at .offset) (ownBegun s) (a .table .now)
-    ∙ s .pre .0 .0 in (
+    let isTable = ap length (noting .note-run .ensures) ∙ noted-length _ _ _ _ ∙ s .pre .0 .0 in (
       (isTable, s .pre .0 .1),
       subst (λ (ps : List Point). RunAsks (a .catalog .now) (a .body .now) (a .out .now) (a .visit) (start s) ps)
           (sym (all-begun s)) (s .pre .1),
