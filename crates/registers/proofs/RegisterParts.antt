@@ -1,4 +1,4 @@
--- Laws of a part of registers: the first of them are registers; how many a part takes from a place on; whether they are all 0.
+-- Laws of a part of registers: it is registers again; how many a part takes from a place on; whether they are all 0.
 use mathlib.Core.Path.{_≡_, refl, sym, _∙_}
 use mathlib.Core.Bool.{Bool, true, false, _&&_}
 use mathlib.Core.List.{List, [], _∷_}
@@ -10,14 +10,16 @@ use borrow.Author.Tests.{eq-eqb, ne-eqb, eqb-true, eqb-false}
 use lib.Dec.{eqb}
 use lib.ListN.{length, getD, take, drop, length-drop, drop-of-length-le}
 use lib.Seq.{drop-cons, take-all, take-nil}
+use Rattle.lists.proofs.EachLaws.{each-take, each-drop}
 use Rattle.registers.specs.Registers.{AreRegisters, join, allZero}
 use Rattle.registers.proofs.Joining.{positive}
 
--- The first of registers are registers.
+-- The first k of registers, and those after them, are registers.
 pub first-registers : (k : ℕ) (rs : List ℕ) → AreRegisters rs → AreRegisters (take k rs)
-first-registers zero rs a = tt
-first-registers (suc k) [] a = tt
-first-registers (suc k) (r ∷ rs) a = (a .0, first-registers k rs (a .1))
+first-registers = each-take (λ r. r < 65536)
+
+pub later-registers : (k : ℕ) (rs : List ℕ) → AreRegisters rs → AreRegisters (drop k rs)
+later-registers = each-drop (λ r. r < 65536)
 
 -- Behind the end nothing is taken.
 pub part-behind : (rs : List ℕ) (start count : ℕ) → length rs ≤ start → [] ≡ take count (drop start rs)

@@ -15,9 +15,6 @@ passed : {A B : Type 0} (first : Bool) (id : ℕ) → (A → id ≡ 1) → (B �
 passed first id l r (inl w) = first-id first id .1 (λ q. l w)
 passed first id l r (inr w) = first-id first id .1 (λ q. clash (sym q ∙ r w))
 
-returns : tie.Need-returns
-returns c = simp (c .before .if1 .taken, ne-eqb _ _ (c .if2 .taken))
-
 returns-2 : tie.Need-returns-2
 returns-2 c =
     let j = c .before in
@@ -67,4 +64,7 @@ returns-7 c =
     )
 
 pub header-of-spec : {M : Type 1} → statement M
-header-of-spec = tie.close (tie.spec returns returns-2 returns-3 returns-4 returns-5 returns-6 returns-7)
+header-of-spec =
+    tie.close
+    (tie.spec (λ c. simp (c .before .if1 .taken, ne-eqb _ _ (c .if2 .taken)))
+    returns-2 returns-3 returns-4 returns-5 returns-6 returns-7)

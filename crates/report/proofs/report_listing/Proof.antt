@@ -11,18 +11,6 @@ use Rattle.report.proofs.ReportCases.{refusal-made, listing-made}
 use Rattle.report.proofs.report_listing.Statement.{statement}
 use Rattle.report.proofs.report_listing.Tie as tie
 
-list-requires : tie.Need-list-requires
-list-requires c κs = search needs
-
-enum-known-listing : tie.Need-enum-known-listing
-enum-known-listing c = search needs
-
-put-refusal-requires : tie.Need-put-refusal-requires
-put-refusal-requires c κs = search needs
-
-enum-known-listing-2 : tie.Need-enum-known-listing-2
-enum-known-listing-2 c = search needs
-
 put-listing-requires : tie.Need-put-listing-requires
 put-listing-requires c κs =
     let a = c .before .before .before .before .before .before .before .before .before .before .args in
@@ -61,11 +49,4 @@ returns-2 c =
 pub report-listing-spec : {M : Type 1} → statement M
 report-listing-spec =
     tie.close
-    (tie.spec
-    list-requires
-    enum-known-listing
-    put-refusal-requires
-    enum-known-listing-2
-    put-listing-requires
-    returns
-    returns-2)
+    (tie.spec (search needs) (search needs) (search needs) (search needs) put-listing-requires returns returns-2)

@@ -12,19 +12,10 @@ use Rattle.values.proofs.NoNaN.{no-nan-pattern}
 use Rattle.values.proofs.number_of.Statement.{statement}
 use Rattle.values.proofs.number_of.Tie as tie
 
-enum-told : tie.Need-enum-told
-enum-told c = search needs
-
 twos-complement-requires : tie.Need-twos-complement-requires
 twos-complement-requires c κs =
     let s = c .before .before in
     (signed-width (rowMeans (s .args .row)) (s .pre .0 .listed) (ap kindMeans (c .enum-told .given .1)), s .pre .0 .fits)
-
-enum-told-2 : tie.Need-enum-told-2
-enum-told-2 c = search needs
-
-enum-told-3 : tie.Need-enum-told-3
-enum-told-3 c = search needs
 
 cast-t6 : tie.Need-cast-t6
 cast-t6 c =
@@ -56,13 +47,5 @@ returns-3 c =
 pub number-of-spec : {M : Type 1} → statement M
 number-of-spec =
     tie.close
-    (tie.spec
-    enum-told
-    twos-complement-requires
-    enum-told-2
-    enum-told-3
-    cast-t6
-    float-from-bits-t7
-    returns
-    returns-2
+    (tie.spec (search needs) twos-complement-requires (search needs) (search needs) cast-t6 float-from-bits-t7 returns returns-2
     returns-3)

@@ -7,22 +7,10 @@ use Rattle.values.proofs.ClassCases as cases
 use Rattle.values.proofs.value_of.Statement.{statement}
 use Rattle.values.proofs.value_of.Tie as tie
 
-class-in-requires : tie.Need-class-in-requires
-class-in-requires c κs = search needs
-
-enum-told : tie.Need-enum-told
-enum-told c = search needs
-
 number-of-requires : tie.Need-number-of-requires
 number-of-requires c κs =
     let k = c .before .before in
     (k .before .pre, sym (k .class-in .ensures) ∙ ap classAnswer (c .enum-told .given .1))
-
-enum-told-2 : tie.Need-enum-told-2
-enum-told-2 c = search needs
-
-enum-told-3 : tie.Need-enum-told-3
-enum-told-3 c = search needs
 
 returns : tie.Need-returns
 returns c =
@@ -46,12 +34,4 @@ returns-3 c =
 pub value-of-spec : {M : Type 1} → statement M
 value-of-spec =
     tie.close
-    (tie.spec
-    class-in-requires
-    enum-told
-    number-of-requires
-    enum-told-2
-    enum-told-3
-    returns
-    returns-2
-    returns-3)
+    (tie.spec (λ c κs. search needs) (search needs) number-of-requires (search needs) (search needs) returns returns-2 returns-3)

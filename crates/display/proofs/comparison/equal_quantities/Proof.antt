@@ -8,24 +8,6 @@ use Rattle.display.proofs.EqualityCases.{first-refused, second-refused,
 use Rattle.display.proofs.comparison.equal_quantities.Statement.{statement}
 use Rattle.display.proofs.comparison.equal_quantities.Tie as tie
 
-accept-requires : tie.Need-accept-requires
-accept-requires c κs = search needs
-
-accept-requires-2 : tie.Need-accept-requires-2
-accept-requires-2 c κs = search needs
-
-enum-known-first : tie.Need-enum-known-first
-enum-known-first c = search needs
-
-enum-known-first-2 : tie.Need-enum-known-first-2
-enum-known-first-2 c = search needs
-
-enum-known-second : tie.Need-enum-known-second
-enum-known-second c = search needs
-
-enum-known-second-2 : tie.Need-enum-known-second-2
-enum-known-second-2 c = search needs
-
 is-same-requires : tie.Need-is-same-requires
 is-same-requires c κs =
     let y = c .before in
@@ -37,9 +19,6 @@ is-same-requires c κs =
       parts-within (p .«type_code») (p .raw) (scaleFactor (p .scale)) (x .first2 .given .0 .0) (sym (x .first2 .given .1) ∙ a .accept .ensures),
       parts-within (q .«type_code») (q .raw) (scaleFactor (q .scale)) (y .second2 .given .0 .0) (sym (y .second2 .given .1) ∙ b .accept2 .ensures),
     )
-
-equal-if-requires : tie.Need-equal-if-requires
-equal-if-requires c κs = search needs
 
 returns : tie.Need-returns
 returns c =
@@ -80,15 +59,5 @@ returns-3 c =
 pub equal-quantities-spec : {M : Type 1} → statement M
 equal-quantities-spec =
     tie.close
-    (tie.spec
-    accept-requires
-    accept-requires-2
-    enum-known-first
-    enum-known-first-2
-    enum-known-second
-    enum-known-second-2
-    is-same-requires
-    equal-if-requires
-    returns
-    returns-2
-    returns-3)
+    (tie.spec (search needs) (search needs) (search needs) (search needs) (search needs) (search needs) is-same-requires
+    (search needs) returns returns-2 returns-3)

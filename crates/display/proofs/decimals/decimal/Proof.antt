@@ -12,15 +12,6 @@ use Rattle.display.proofs.StoredTexts.{put-start, put-length}
 use Rattle.display.proofs.decimals.decimal.Statement.{statement}
 use Rattle.display.proofs.decimals.decimal.Tie as tie
 
-accept-requires : tie.Need-accept-requires
-accept-requires c κs = search needs
-
-enum-known-accepted : tie.Need-enum-known-accepted
-enum-known-accepted c = search needs
-
-enum-known-accepted-2 : tie.Need-enum-known-accepted-2
-enum-known-accepted-2 c = search needs
-
 -- The amount that was accepted.
 accepted : (c : tie.After-accepted2)
     → WasAmount
@@ -60,9 +51,6 @@ returns-2 c =
     let e = amount-refused (a .type-code) (a .raw) s (length (a .out .now)) n r in
     (ap lengthOf (sym e), (ap (λ (d : Decimal). stored d (a .out .now)) (sym e), tt))
 
-same-length : tie.Need-same-length
-same-length c = search needs
-
 returns-3 : tie.Need-returns-3
 returns-3 c =
     let p = c .before .before in
@@ -79,12 +67,4 @@ returns-3 c =
 pub decimal-spec : {M : Type 1} → statement M
 decimal-spec =
     tie.close
-    (tie.spec
-    accept-requires
-    enum-known-accepted
-    enum-known-accepted-2
-    returns
-    put-amount-requires
-    returns-2
-    same-length
-    returns-3)
+    (tie.spec (search needs) (search needs) (search needs) returns put-amount-requires returns-2 (search needs) returns-3)

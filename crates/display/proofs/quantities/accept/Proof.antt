@@ -11,21 +11,6 @@ use Rattle.display.proofs.AmountCases.{type-refused, value-refused, sca
 use Rattle.display.proofs.quantities.accept.Statement.{statement}
 use Rattle.display.proofs.quantities.accept.Tie as tie
 
-unscaled-value-requires : tie.Need-unscaled-value-requires
-unscaled-value-requires c κs = search needs
-
-scale-factor-in-range-requires : tie.Need-scale-factor-in-range-requires
-scale-factor-in-range-requires c κs = search needs
-
-enum-told : tie.Need-enum-told
-enum-told c = search needs
-
-enum-told-2 : tie.Need-enum-told-2
-enum-told-2 c = search needs
-
-enum-known-unscaled : tie.Need-enum-known-unscaled
-enum-known-unscaled c = search needs
-
 -- The number that was found.
 found : (c : tie.After-unscaled)
     → NumberOf
@@ -91,14 +76,5 @@ returns-4 c =
 pub accept-spec : {M : Type 1} → statement M
 accept-spec =
     tie.close
-    (tie.spec
-    unscaled-value-requires
-    scale-factor-in-range-requires
-    enum-told
-    enum-told-2
-    enum-known-unscaled
-    returns
-    scaled-requires
-    returns-2
-    returns-3
-    returns-4)
+    (tie.spec (search needs) (search needs) (search needs) (search needs) (search needs) returns scaled-requires returns-2
+    returns-3 returns-4)

@@ -7,15 +7,6 @@ use Rattle.input.proofs.DigitValues.{digit-of-value, digit-of-none, val
 use Rattle.input.proofs.digits.digit_or_0.Statement.{statement}
 use Rattle.input.proofs.digits.digit_or_0.Tie as tie
 
-digit-of-requires : tie.Need-digit-of-requires
-digit-of-requires c κs = search needs
-
-enum-known-value : tie.Need-enum-known-value
-enum-known-value c = search needs
-
-enum-told : tie.Need-enum-told
-enum-told c = search needs
-
 returns : tie.Need-returns
 returns c =
     let d = c .before .before .before in
@@ -32,4 +23,4 @@ returns-2 c =
 
 pub digit-or-0-spec : {M : Type 1} → statement M
 digit-or-0-spec =
-    tie.close (tie.spec digit-of-requires enum-known-value enum-told returns returns-2)
+    tie.close (tie.spec (search needs) (search needs) (search needs) returns returns-2)

@@ -6,15 +6,6 @@ use Rattle.input.proofs.DigitValues.{is-digit, is-no-digit}
 use Rattle.input.proofs.digits.is_digit.Statement.{statement}
 use Rattle.input.proofs.digits.is_digit.Tie as tie
 
-digit-of-requires : tie.Need-digit-of-requires
-digit-of-requires c κs = search needs
-
-enum-told : tie.Need-enum-told
-enum-told c = search needs
-
-enum-told-2 : tie.Need-enum-told-2
-enum-told-2 c = search needs
-
 returns : tie.Need-returns
 returns c =
     let d = c .before .before in
@@ -27,4 +18,5 @@ returns-2 c =
     sym (is-no-digit (d .before .args .byte) (sym (d .digit-of .ensures) ∙ ap digitForm (c .enum-told2 .given .1)))
 
 pub is-digit-spec : {M : Type 1} → statement M
-is-digit-spec = tie.close (tie.spec digit-of-requires enum-told enum-told-2 returns returns-2)
+is-digit-spec =
+    tie.close (tie.spec (search needs) (search needs) (search needs) returns returns-2)

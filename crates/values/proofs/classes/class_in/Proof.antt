@@ -6,16 +6,10 @@ use Rattle.values.proofs.ClassCases as cases
 use Rattle.values.proofs.classes.class_in.Statement.{statement}
 use Rattle.values.proofs.classes.class_in.Tie as tie
 
-is-unimplemented-requires : tie.Need-is-unimplemented-requires
-is-unimplemented-requires c κs = search needs
-
 returns : tie.Need-returns
 returns c =
     let a = c .before .before .args in
     sym (cases.unimplemented-pattern (rowMeans (a .row)) (a .raw) (sym (c .before .is-unimplemented .ensures) ∙ c .if1 .taken))
-
-in-range-requires : tie.Need-in-range-requires
-in-range-requires c κs = search needs
 
 returns-2 : tie.Need-returns-2
 returns-2 c =
@@ -34,4 +28,5 @@ returns-3 c =
     (sym (c .before .in-range .ensures) ∙ c .if2 .left))
 
 pub class-in-spec : {M : Type 1} → statement M
-class-in-spec = tie.close (tie.spec is-unimplemented-requires returns in-range-requires returns-2 returns-3)
+class-in-spec =
+    tie.close (tie.spec (search needs) returns (λ c κs. search needs) returns-2 returns-3)

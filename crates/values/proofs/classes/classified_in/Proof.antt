@@ -9,9 +9,6 @@ use Rattle.values.proofs.ClassCases as cases
 use Rattle.values.proofs.classes.classified_in.Statement.{statement}
 use Rattle.values.proofs.classes.classified_in.Tie as tie
 
-too-wide-requires : tie.Need-too-wide-requires
-too-wide-requires c κs = search needs
-
 returns : tie.Need-returns
 returns c =
     let s = c .before .before in
@@ -30,4 +27,4 @@ returns-2 c =
     ∙ sym (cases.of-class (s .args .row .code) (s .args .raw) (rowMeans (s .args .row)) (s .pre) (sym (i .before .too-wide .ensures) ∙ i .if1 .left))
 
 pub classified-in-spec : {M : Type 1} → statement M
-classified-in-spec = tie.close (tie.spec too-wide-requires returns class-in-requires returns-2)
+classified-in-spec = tie.close (tie.spec (search needs) returns class-in-requires returns-2)

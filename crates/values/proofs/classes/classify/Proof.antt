@@ -11,12 +11,6 @@ use Rattle.values.proofs.ClassCases.{unknown}
 use Rattle.values.proofs.classes.classify.Statement.{statement}
 use Rattle.values.proofs.classes.classify.Tie as tie
 
-row-of-requires : tie.Need-row-of-requires
-row-of-requires c κs = search needs
-
-enum-known-found : tie.Need-enum-known-found
-enum-known-found c = search needs
-
 -- The row that was found is the table's.
 at : (c : tie.After-found) → rowOf (c .before .before .before .args .type-code) ≡ some (rowMeans (c .found .given .0 .0))
 at c = sym (c .before .before .row-of .ensures) ∙ ap foundMeans (c .found .given .1)
@@ -25,9 +19,6 @@ classified-in-requires : tie.Need-classified-in-requires
 classified-in-requires c κs =
     let f = c .before in
     listed (f .before .before .before .args .type-code) (rowMeans (f .found .given .0 .0)) (at f)
-
-enum-told : tie.Need-enum-told
-enum-told c = search needs
 
 returns : tie.Need-returns
 returns c =
@@ -44,4 +35,4 @@ returns-2 c =
 pub classify-spec : {M : Type 1} → statement M
 classify-spec =
     tie.close
-    (tie.spec row-of-requires enum-known-found classified-in-requires enum-told returns returns-2)
+    (tie.spec (search needs) (search needs) classified-in-requires (search needs) returns returns-2)

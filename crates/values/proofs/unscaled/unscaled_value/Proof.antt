@@ -13,12 +13,6 @@ use Rattle.values.proofs.UnscaledCases.{unknown, not-scalable, no-value
 use Rattle.values.proofs.unscaled.unscaled_value.Statement.{statement}
 use Rattle.values.proofs.unscaled.unscaled_value.Tie as tie
 
-row-of-requires : tie.Need-row-of-requires
-row-of-requires c κs = search needs
-
-enum-known-found : tie.Need-enum-known-found
-enum-known-found c = search needs
-
 -- The row that was found is the table's.
 at : (c : tie.After-found) → rowOf (c .before .before .before .args .type-code) ≡ some (rowMeans (c .found .given .0 .0))
 at c = sym (c .before .before .row-of .ensures) ∙ ap foundMeans (c .found .given .1)
@@ -33,9 +27,6 @@ classified-in-requires : tie.Need-classified-in-requires
 classified-in-requires c κs =
     let f = c .before .before .before in
     listed (f .before .before .before .args .type-code) (rowMeans (f .found .given .0 .0)) (at f)
-
-is-value-in-requires : tie.Need-is-value-in-requires
-is-value-in-requires c κs = search needs
 
 -- Whether it is a value.
 value : (c : tie.After-is-value-in)
@@ -71,9 +62,6 @@ integer-by-sign-requires c κs =
       fits = value-fits (a .type-code) (a .raw) r (at f) (value (c .before) ∙ not-false _ (c .if2 .left));
     }
 
-enum-told : tie.Need-enum-told
-enum-told c = search needs
-
 returns-3 : tie.Need-returns-3
 returns-3 c =
     let v = c .before in
@@ -95,14 +83,5 @@ returns-4 c =
 pub unscaled-value-spec : {M : Type 1} → statement M
 unscaled-value-spec =
     tie.close
-    (tie.spec
-    row-of-requires
-    enum-known-found
-    returns
-    classified-in-requires
-    is-value-in-requires
-    returns-2
-    integer-by-sign-requires
-    enum-told
-    returns-3
-    returns-4)
+    (tie.spec (search needs) (search needs) returns classified-in-requires (search needs) returns-2 integer-by-sign-requires
+    (search needs) returns-3 returns-4)
