@@ -29,5 +29,6 @@ slice-aggregate-is-refusal c =
 pub gives-spec : {M : Type 1} → statement M
 gives-spec =
     tie.close
-    (tie.spec (search needs) (search needs) array-share-prefix-text slice-aggregate-same (search needs) (search needs)
-    array-share-prefix-text-2 slice-aggregate-is-refusal (search needs) (search needs) (search needs))
+    (tie.spec (λ c κs. search needs) (λ c. search needs) array-share-prefix-text slice-aggregate-same (λ c κs. search needs)
+    (λ c. search needs) array-share-prefix-text-2 slice-aggregate-is-refusal (λ c κs. search needs) (λ c. search needs)
+    (λ c. search needs))

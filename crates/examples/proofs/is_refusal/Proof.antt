@@ -8,6 +8,7 @@ use Rattle.examples.proofs.is_refusal.Tie as tie
 pub is-refusal-spec : {M : Type 1} → statement M
 is-refusal-spec =
     tie.close
-    (tie.spec (search needs)
+    (tie.spec (λ c. search needs)
     (λ c. sym (length-take-le 8 (c .before .before .before .before .args .expected .now) (c .before .if1 .left)))
-    (search needs) (search needs) (search needs) (search needs) (search needs) (search needs) (search needs) (search needs))
+    (λ c. search needs) (λ c κs. search needs) (λ c. search needs) (λ c. search needs) (λ c. search needs) (λ c. search needs)
+    (λ c κs. search needs) (λ c. search needs))

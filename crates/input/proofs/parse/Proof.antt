@@ -85,5 +85,6 @@ returns-3 c =
 pub parse-spec : {M : Type 1} → statement M
 parse-spec =
     tie.close
-    (tie.spec (search needs) (search needs) (search needs) add-survey-map survey-map-requires (search needs) (search needs)
-    mul-store-words store-words-requires store-words-requires-2 returns returns-2 (search needs) (search needs) returns-3)
+    (tie.spec (λ c κs. search needs) (λ c. search needs) (λ c. search needs) add-survey-map survey-map-requires
+    (λ c. search needs) (λ c. search needs) mul-store-words store-words-requires store-words-requires-2 returns returns-2
+    (λ c. search needs) (λ c. search needs) returns-3)

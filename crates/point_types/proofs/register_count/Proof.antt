@@ -10,6 +10,6 @@ pub register-count-spec : {M : Type 1} → statement M
 unfolding registersOf
 register-count-spec =
     tie.close
-    (tie.spec (search needs) (search needs) (search needs)
+    (tie.spec (λ c κs. search needs) (λ c. search needs) (λ c. search needs)
     (λ c. simp (registersOf, sym (c .before .before .before .row-of .ensures) ∙ ap foundMeans (c .before .found .given .1)))
     (λ c. simp (registersOf, sym (c .before .before .row-of .ensures) ∙ ap foundMeans (c .enum-told .given .1))))

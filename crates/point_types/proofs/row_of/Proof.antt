@@ -27,9 +27,10 @@ pub row-of-spec : {M : Type 1} → statement M
 unfolding rows rowAmong
 row-of-spec =
     tie.close
-    (tie.spec (search needs) (search needs) (search needs) (search needs) (search needs) (search needs) (search needs)
-    (search needs) (search needs) (search needs) (search needs) (search needs) (search needs) (search needs) (search needs)
-    (search needs) (search needs) (search needs) (search needs) (search needs)
+    (tie.spec (λ c κs. search needs) (λ c κs. search needs) (λ c κs. search needs) (λ c κs. search needs) (λ c κs. search needs)
+    (λ c κs. search needs) (λ c κs. search needs) (λ c κs. search needs) (λ c κs. search needs) (λ c κs. search needs)
+    (λ c κs. search needs) (λ c κs. search needs) (λ c κs. search needs) (λ c κs. search needs) (λ c κs. search needs)
+    (λ c κs. search needs) (λ c κs. search needs) (λ c κs. search needs) (λ c κs. search needs) (λ c κs. search needs)
     (λ c. c .row-found .ensures ∙ sym (ap rowOf (c .before .match .keys1)))
     (λ c. c .row-found2 .ensures ∙ sym (ap rowOf (c .before .match .keys2)))
     (λ c. c .row-found3 .ensures ∙ sym (ap rowOf (c .before .match .keys3)))

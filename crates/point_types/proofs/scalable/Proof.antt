@@ -10,6 +10,6 @@ pub scalable-spec : {M : Type 1} → statement M
 unfolding mayScale
 scalable-spec =
     tie.close
-    (tie.spec (search needs) (search needs) (search needs)
+    (tie.spec (λ c κs. search needs) (λ c. search needs) (λ c. search needs)
     (λ c. simp (mayScale, sym (c .before .before .before .row-of .ensures) ∙ ap foundMeans (c .before .found .given .1)))
     (λ c. simp (mayScale, sym (c .before .before .row-of .ensures) ∙ ap foundMeans (c .enum-told .given .1))))

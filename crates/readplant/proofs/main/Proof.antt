@@ -43,6 +43,7 @@ print-requires-2 c κs =
 pub main-spec : {M : Type 1} → statement M
 main-spec =
     tie.close
-    (tie.spec (search needs) (search needs) (search needs) (search needs) (search needs) (search needs) (search needs)
-    (search needs) array-share-prefix-text slice-aggregate-print-3 print-requires (search needs) (search needs) (search needs)
-    array-share-prefix-text-2 slice-aggregate-print-6 print-requires-2 (search needs) (search needs))
+    (tie.spec (λ c. search needs) (λ c κs. search needs) (λ c. search needs) (λ c. search needs) (λ c κs. search needs)
+    (λ c. search needs) (λ c. search needs) (λ c. search needs) array-share-prefix-text slice-aggregate-print-3 print-requires
+    (λ c. search needs) (λ c. search needs) (λ c. search needs) array-share-prefix-text-2 slice-aggregate-print-6
+    print-requires-2 (λ c. search needs) (λ c. search needs))

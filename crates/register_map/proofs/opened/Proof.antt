@@ -38,4 +38,4 @@ pub opened-spec : {M : Type 1} → statement M
 opened-spec =
     tie.close
     (tie.spec (λ c. sym (opening-long (c .before .args .map .now) (c .if1 .taken)))
-    returns-2 (search needs) returns-3 (search needs) returns-4 returns-5)
+    returns-2 (λ c. search needs) returns-3 (λ c. search needs) returns-4 returns-5)

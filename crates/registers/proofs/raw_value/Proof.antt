@@ -66,5 +66,5 @@ returns-2 c =
 pub raw-value-spec : {M : Type 1} → statement M
 raw-value-spec =
     tie.close
-    (tie.spec Inv-loop μ-loop returns loop-holds mul-raw (search needs) (search needs) (search needs) (search needs) add-raw
-    (search needs) (search needs) loop-again returns-2)
+    (tie.spec Inv-loop μ-loop returns loop-holds mul-raw (λ c. search needs) (λ c. search needs) (λ c. search needs)
+    (λ c κs. search needs) add-raw (λ c. search needs) (λ c. search needs) loop-again returns-2)

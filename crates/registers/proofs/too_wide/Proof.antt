@@ -14,4 +14,4 @@ returns c =
     ap (λ (ones : ℕ). ltb ones (a .raw)) (c .all-ones .ensures) ∙ above-ones (a .count) (a .raw) (omega arith)
 
 pub too-wide-spec : {M : Type 1} → statement M
-too-wide-spec = tie.close (tie.spec (search needs) returns)
+too-wide-spec = tie.close (tie.spec (λ c κs. search needs) returns)

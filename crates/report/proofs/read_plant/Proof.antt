@@ -71,5 +71,5 @@ returns-2 c =
 pub read-plant-spec : {M : Type 1} → statement M
 read-plant-spec =
     tie.close
-    (tie.spec (search needs) (search needs) (search needs) (search needs) mul-part (search needs) (search needs) (search needs)
-    returns returns-2)
+    (tie.spec (λ c κs. search needs) (λ c. search needs) (λ c κs. search needs) (λ c. search needs) mul-part
+    (λ c κs. search needs) (λ c κs. search needs) (λ c κs. search needs) returns returns-2)

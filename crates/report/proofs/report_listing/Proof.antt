@@ -49,4 +49,5 @@ returns-2 c =
 pub report-listing-spec : {M : Type 1} → statement M
 report-listing-spec =
     tie.close
-    (tie.spec (search needs) (search needs) (search needs) (search needs) put-listing-requires returns returns-2)
+    (tie.spec (λ c κs. search needs) (λ c. search needs) (λ c κs. search needs) (λ c. search needs) put-listing-requires returns
+    returns-2)

@@ -51,5 +51,5 @@ pub decode-spec : {M : Type 1} → statement M
 decode-spec =
     tie.close
     (tie.spec (λ c. sym (cases.beyond (c .before .args .type-code) (c .before .args .t2) (omega arith)))
-    (search needs) (search needs) (search needs) array-share-prefix-registers slice-aggregate-raw-value (search needs)
-    value-of-requires (search needs) returns-2 returns-3)
+    (λ c κs. search needs) (λ c. search needs) (λ c. search needs) array-share-prefix-registers slice-aggregate-raw-value
+    (λ c κs. search needs) value-of-requires (λ c. search needs) returns-2 returns-3)

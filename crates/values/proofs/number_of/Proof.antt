@@ -47,5 +47,5 @@ returns-3 c =
 pub number-of-spec : {M : Type 1} → statement M
 number-of-spec =
     tie.close
-    (tie.spec (search needs) twos-complement-requires (search needs) (search needs) cast-t6 float-from-bits-t7 returns returns-2
-    returns-3)
+    (tie.spec (λ c. search needs) twos-complement-requires (λ c. search needs) (λ c. search needs) cast-t6 float-from-bits-t7
+    returns returns-2 returns-3)

@@ -33,4 +33,4 @@ returns-2 c =
 pub twos-complement-spec : {M : Type 1} → statement M
 twos-complement-spec =
     tie.close
-    (tie.spec (search needs) (search needs) returns (search needs) (search needs) sub-result-2 returns-2)
+    (tie.spec (λ c κs. search needs) (λ c. search needs) returns (λ c. search needs) (λ c. search needs) sub-result-2 returns-2)

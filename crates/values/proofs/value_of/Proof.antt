@@ -34,4 +34,5 @@ returns-3 c =
 pub value-of-spec : {M : Type 1} → statement M
 value-of-spec =
     tie.close
-    (tie.spec (λ c κs. search needs) (search needs) number-of-requires (search needs) (search needs) returns returns-2 returns-3)
+    (tie.spec (λ c κs. search needs) (λ c. search needs) number-of-requires (λ c. search needs) (λ c. search needs) returns
+    returns-2 returns-3)

@@ -59,5 +59,5 @@ returns-3 c =
 pub equal-quantities-spec : {M : Type 1} → statement M
 equal-quantities-spec =
     tie.close
-    (tie.spec (search needs) (search needs) (search needs) (search needs) (search needs) (search needs) is-same-requires
-    (search needs) returns returns-2 returns-3)
+    (tie.spec (λ c κs. search needs) (λ c κs. search needs) (λ c. search needs) (λ c. search needs) (λ c. search needs)
+    (λ c. search needs) is-same-requires (λ c κs. search needs) returns returns-2 returns-3)

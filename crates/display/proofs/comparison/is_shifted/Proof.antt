@@ -36,4 +36,4 @@ returns-4 c =
 pub is-shifted-spec : {M : Type 1} → statement M
 is-shifted-spec =
     tie.close
-    (tie.spec returns returns-2 (search needs) (λ c. some-power c) returns-3 (λ c. some-power (c .before)) returns-4)
+    (tie.spec returns returns-2 (λ c κs. search needs) (λ c. some-power c) returns-3 (λ c. some-power (c .before)) returns-4)

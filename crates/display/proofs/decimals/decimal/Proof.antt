@@ -67,4 +67,5 @@ returns-3 c =
 pub decimal-spec : {M : Type 1} → statement M
 decimal-spec =
     tie.close
-    (tie.spec (search needs) (search needs) (search needs) returns put-amount-requires returns-2 (search needs) returns-3)
+    (tie.spec (λ c κs. search needs) (λ c. search needs) (λ c. search needs) returns put-amount-requires returns-2
+    (λ c. search needs) returns-3)

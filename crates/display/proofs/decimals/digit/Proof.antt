@@ -7,6 +7,6 @@ use Rattle.display.proofs.decimals.digit.Tie as tie
 pub digit-spec : {M : Type 1} → statement M
 digit-spec =
     tie.close
-    (tie.spec (search needs)
+    (tie.spec (λ c κs. search needs)
     (λ c. rw (c .power-of-ten .ensures) (positive (c .before .args .k)))
-    (search needs) (search needs) (λ c. rw (c .power-of-ten .ensures)))
+    (λ c. search needs) (λ c. search needs) (λ c. rw (c .power-of-ten .ensures)))

@@ -16,4 +16,4 @@ returns c =
     (rw (put-on-zeros {n = 20} put (omega arith), number-length n, count), omega (arith, put-length put))
 
 pub digits-of-spec : {M : Type 1} → statement M
-digits-of-spec = tie.close (tie.spec (search needs) (search needs) returns)
+digits-of-spec = tie.close (tie.spec (λ c. search needs) (λ c κs. search needs) returns)

@@ -28,4 +28,5 @@ returns-2 c =
 pub put-amount-spec : {M : Type 1} → statement M
 put-amount-spec =
     tie.close
-    (tie.spec (search needs) (search needs) (search needs) returns (search needs) (search needs) returns-2)
+    (tie.spec (λ c κs. search needs) (λ c κs. search needs) (λ c. search needs) returns (λ c κs. search needs)
+    (λ c. search needs) returns-2)

@@ -16,4 +16,5 @@ returns c =
     (put-same (ap (λ (k : ℕ). lastDigits k n) (d .digit-count .ensures .0)) (p .put-digits .ensures .0), omega arith)
 
 pub put-number-spec : {M : Type 1} → statement M
-put-number-spec = tie.close (tie.spec (search needs) (search needs) (search needs) returns)
+put-number-spec =
+    tie.close (tie.spec (λ c κs. search needs) (λ c κs. search needs) (λ c. search needs) returns)

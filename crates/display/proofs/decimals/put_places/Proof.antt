@@ -39,6 +39,6 @@ returns c =
 pub put-places-spec : {M : Type 1} → statement M
 put-places-spec =
     tie.close
-    (tie.spec (search needs)
+    (tie.spec (λ c κs. search needs)
     (λ c. rw (c .power-of-ten .ensures) (positive (c .before .before .before .args .places)))
-    (search needs) (search needs) (search needs) put-digits-requires same-length returns)
+    (λ c κs. search needs) (λ c. search needs) (λ c. search needs) put-digits-requires same-length returns)

@@ -10,6 +10,6 @@ use Rattle.display.proofs.decimals.put_sign.Tie as tie
 pub put-sign-spec : {M : Type 1} → statement M
 put-sign-spec =
     tie.close
-    (tie.spec (search needs) (search needs)
+    (tie.spec (λ c. search needs) (λ c. search needs)
     (λ c. (put-same (ap sign (sym (c .if1 .taken))) (put-byte (c .before .args .out .now) 0 minusSign), omega arith))
     (λ c. (put-same (ap sign (sym (c .if1 .left))) (record { stored = refl; behind = refl }), omega arith)))

@@ -35,4 +35,5 @@ returns-3 c =
     )
 
 pub event-bits-spec : {M : Type 1} → statement M
-event-bits-spec = tie.close (tie.spec (search needs) returns (search needs) returns-2 returns-3)
+event-bits-spec =
+    tie.close (tie.spec (λ c κs. search needs) returns (λ c κs. search needs) returns-2 returns-3)

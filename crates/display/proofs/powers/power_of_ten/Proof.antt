@@ -9,4 +9,4 @@ unfolding tenfold
 returns c = power-at 20 (c .args .k) (c .pre)
 
 pub power-of-ten-spec : {M : Type 1} → statement M
-power-of-ten-spec = tie.close (tie.spec (search needs) (search needs) returns)
+power-of-ten-spec = tie.close (tie.spec (λ c. search needs) (λ c. search needs) returns)

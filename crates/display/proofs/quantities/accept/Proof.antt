@@ -76,5 +76,5 @@ returns-4 c =
 pub accept-spec : {M : Type 1} → statement M
 accept-spec =
     tie.close
-    (tie.spec (search needs) (search needs) (search needs) (search needs) (search needs) returns scaled-requires returns-2
-    returns-3 returns-4)
+    (tie.spec (λ c κs. search needs) (λ c κs. search needs) (λ c. search needs) (λ c. search needs) (λ c. search needs) returns
+    scaled-requires returns-2 returns-3 returns-4)

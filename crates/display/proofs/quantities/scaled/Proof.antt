@@ -21,4 +21,4 @@ returns-2 c =
     ((refl, refl), (ap zeros (sym e), m ∙ ap places (sym e)))
 
 pub scaled-spec : {M : Type 1} → statement M
-scaled-spec = tie.close (tie.spec returns (search needs) returns-2)
+scaled-spec = tie.close (tie.spec returns (λ c. search needs) returns-2)

@@ -35,6 +35,6 @@ loop-again c =
 pub text-length-spec : {M : Type 1} → statement M
 text-length-spec =
     tie.close
-    (tie.spec Inv-loop μ-loop (search needs) (search needs) (search needs) returns (search needs) returns-2 (search needs)
-    loop-again
+    (tie.spec Inv-loop μ-loop (λ c. search needs) (λ c. search needs) (λ c. search needs) returns (λ c. search needs) returns-2
+    (λ c. search needs) loop-again
     (λ c. omega (arith, text-end (c .before .before .args .string .now) (c .before .loop .i) (c .loop-test .left))))

@@ -9,7 +9,7 @@ use Rattle.input.proofs.digits.digit_of.Tie as tie
 pub digit-of-spec : {M : Type 1} → statement M
 digit-of-spec =
     tie.close
-    (tie.spec (search needs) (search needs) (search needs) (search needs) (search needs)
+    (tie.spec (λ c. search needs) (λ c. search needs) (λ c. search needs) (λ c. search needs) (λ c. search needs)
     (λ c. sym (decimal-digit (c .before .before .args .byte) (omega arith) (omega arith)))
     (λ c. sym (upper-digit (c .before .before .before .before .args .byte) (omega arith) (omega arith)))
     (λ c. sym (lower-digit (c .before .before .before .before .before .before .args .byte) (omega arith) (omega arith)))

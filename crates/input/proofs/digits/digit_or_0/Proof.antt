@@ -23,4 +23,5 @@ returns-2 c =
 
 pub digit-or-0-spec : {M : Type 1} → statement M
 digit-or-0-spec =
-    tie.close (tie.spec (search needs) (search needs) (search needs) returns returns-2)
+    tie.close
+    (tie.spec (λ c κs. search needs) (λ c. search needs) (λ c. search needs) returns returns-2)

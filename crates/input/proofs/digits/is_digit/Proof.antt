@@ -19,4 +19,5 @@ returns-2 c =
 
 pub is-digit-spec : {M : Type 1} → statement M
 is-digit-spec =
-    tie.close (tie.spec (search needs) (search needs) (search needs) returns returns-2)
+    tie.close
+    (tie.spec (λ c κs. search needs) (λ c. search needs) (λ c. search needs) returns returns-2)

@@ -7,5 +7,5 @@ use Rattle.input.proofs.lines.is_catalog_line.Tie as tie
 pub is-catalog-line-spec : {M : Type 1} → statement M
 is-catalog-line-spec =
     tie.close
-    (tie.spec (λ c. simp (ne-eqb _ _ (c .if1 .taken))) (search needs)
+    (tie.spec (λ c. simp (ne-eqb _ _ (c .if1 .taken))) (λ c κs. search needs)
     (λ c. simp (eq-eqb _ _ (c .before .if1 .left), ← c .are-digits .ensures)))

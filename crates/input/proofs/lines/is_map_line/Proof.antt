@@ -13,4 +13,4 @@ is-map-line-spec =
     (tie.spec (λ c. simp (lt-leb _ _ (c .if1 .taken)))
     (λ c. simp (le-leb _ _ (c .before .if1 .left), lt-leb _ _ (c .if2 .taken)))
     (λ c. simp (le-leb _ _ (c .before .before .if1 .left), le-leb _ _ (c .before .if2 .left), ne-eqb _ _ (c .if3 .taken)))
-    (search needs) returns-4)
+    (λ c κs. search needs) returns-4)

@@ -39,5 +39,5 @@ store-words-spec =
     (λ c. omega (arith, room-for-four (c .before .before .before .loop .inv) (c .before .before .loop-test .taken)))
     (λ c. feed-stored (c .before .before .before .loop .inv) (c .before .before .loop-test .taken) (c .if1 .taken))
     (λ c κs. omega (arith, room-for-four (c .before .before .before .loop .inv) (c .before .before .loop-test .taken)))
-    (search needs) (search needs) (search needs) add-at-2 loop-less-2 loop-again-2 (search needs)
+    (λ c. search needs) (λ c. search needs) (λ c. search needs) add-at-2 loop-less-2 loop-again-2 (λ c. search needs)
     (λ c. none-left (c .before .loop .inv) (c .loop-test .left)))

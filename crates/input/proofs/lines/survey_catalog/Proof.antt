@@ -71,6 +71,6 @@ returns-4 c =
 pub survey-catalog-spec : {M : Type 1} → statement M
 survey-catalog-spec =
     tie.close
-    (tie.spec Inv-loop μ-loop loop-holds (search needs) (search needs) returns (search needs) (search needs) (search needs)
-    (search needs) (search needs) returns-2 (search needs) returns-3 (search needs) (search needs) (search needs) loop-again
-    (search needs) returns-4)
+    (tie.spec Inv-loop μ-loop loop-holds (λ c κs. search needs) (λ c. search needs) returns (λ c. search needs)
+    (λ c. search needs) (λ c. search needs) (λ c κs. search needs) (λ c. search needs) returns-2 (λ c. search needs) returns-3
+    (λ c. search needs) (λ c. search needs) (λ c. search needs) loop-again (λ c. search needs) returns-4)

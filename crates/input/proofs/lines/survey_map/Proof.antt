@@ -60,5 +60,6 @@ returns-3 c =
 pub survey-map-spec : {M : Type 1} → statement M
 survey-map-spec =
     tie.close
-    (tie.spec Inv-loop μ-loop loop-holds (search needs) (search needs) (search needs) (search needs) (search needs) returns
-    (search needs) (search needs) returns-2 (search needs) (search needs) (search needs) (search needs) loop-again returns-3)
+    (tie.spec Inv-loop μ-loop loop-holds (λ c κs. search needs) (λ c. search needs) (λ c. search needs) (λ c. search needs)
+    (λ c κs. search needs) returns (λ c. search needs) (λ c. search needs) returns-2 (λ c. search needs) (λ c. search needs)
+    (λ c. search needs) (λ c. search needs) loop-again returns-3)

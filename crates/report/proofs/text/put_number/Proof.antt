@@ -33,4 +33,5 @@ returns c =
 pub put-number-spec : {M : Type 1} → statement M
 put-number-spec =
     tie.close
-    (tie.spec (search needs) (search needs) slice-aggregate-put-bytes put-bytes-requires (search needs) returns)
+    (tie.spec (λ c κs. search needs) (λ c. search needs) slice-aggregate-put-bytes put-bytes-requires (λ c. search needs)
+    returns)

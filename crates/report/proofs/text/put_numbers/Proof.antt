@@ -39,6 +39,6 @@ returns c =
 pub put-numbers-spec : {M : Type 1} → statement M
 put-numbers-spec =
     tie.close
-    (tie.spec Inv-loop μ-loop loop-holds (search needs) (search needs)
+    (tie.spec Inv-loop μ-loop loop-holds (λ c. search needs) (λ c. search needs)
     (λ c κs. omega (arith, put-length (c .before .before .before .loop .inv .0)))
-    (search needs) (search needs) loop-again (λ c. put-length (c .before .loop .inv .0)) returns)
+    (λ c. search needs) (λ c. search needs) loop-again (λ c. put-length (c .before .loop .inv .0)) returns)

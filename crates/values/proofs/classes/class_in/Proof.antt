@@ -29,4 +29,4 @@ returns-3 c =
 
 pub class-in-spec : {M : Type 1} → statement M
 class-in-spec =
-    tie.close (tie.spec (search needs) returns (λ c κs. search needs) returns-2 returns-3)
+    tie.close (tie.spec (λ c κs. search needs) returns (λ c κs. search needs) returns-2 returns-3)

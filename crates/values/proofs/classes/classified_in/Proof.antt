@@ -27,4 +27,5 @@ returns-2 c =
     ∙ sym (cases.of-class (s .args .row .code) (s .args .raw) (rowMeans (s .args .row)) (s .pre) (sym (i .before .too-wide .ensures) ∙ i .if1 .left))
 
 pub classified-in-spec : {M : Type 1} → statement M
-classified-in-spec = tie.close (tie.spec (search needs) returns class-in-requires returns-2)
+classified-in-spec =
+    tie.close (tie.spec (λ c κs. search needs) returns class-in-requires returns-2)

@@ -35,4 +35,4 @@ returns-2 c =
 pub classify-spec : {M : Type 1} → statement M
 classify-spec =
     tie.close
-    (tie.spec (search needs) (search needs) classified-in-requires (search needs) returns returns-2)
+    (tie.spec (λ c κs. search needs) (λ c. search needs) classified-in-requires (λ c. search needs) returns returns-2)

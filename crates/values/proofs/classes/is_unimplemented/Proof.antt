@@ -6,5 +6,5 @@ use Rattle.values.proofs.classes.is_unimplemented.Tie as tie
 pub is-unimplemented-spec : {M : Type 1} → statement M
 is-unimplemented-spec =
     tie.close
-    (tie.spec (search needs) (search needs) (λ c. search needs)
+    (tie.spec (λ c. search needs) (λ c. search needs) (λ c. search needs)
     (λ c. rw (c .before .unimplemented .given .1)))

@@ -8,5 +8,5 @@ use Rattle.values.proofs.classes.is_value.Tie as tie
 pub is-value-spec : {M : Type 1} → statement M
 is-value-spec =
     tie.close
-    (tie.spec (search needs) (search needs)
+    (tie.spec (λ c κs. search needs) (λ c κs. search needs)
     (λ c. c .is-value-in .ensures ∙ ap isValue (c .before .classify .ensures)))

@@ -32,4 +32,5 @@ returns-3 c =
 pub integer-by-sign-spec : {M : Type 1} → statement M
 integer-by-sign-spec =
     tie.close
-    (tie.spec (search needs) twos-complement-by-sign-requires (search needs) (search needs) returns returns-2 returns-3)
+    (tie.spec (λ c. search needs) twos-complement-by-sign-requires (λ c. search needs) (λ c. search needs) returns returns-2
+    returns-3)

@@ -26,4 +26,5 @@ returns-2 c =
 
 pub twos-complement-by-sign-spec : {M : Type 1} → statement M
 twos-complement-by-sign-spec =
-    tie.close (tie.spec (search needs) returns (search needs) (search needs) returns-2)
+    tie.close
+    (tie.spec (λ c κs. search needs) returns (λ c. search needs) (λ c. search needs) returns-2)

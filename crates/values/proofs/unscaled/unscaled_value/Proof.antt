@@ -83,5 +83,5 @@ returns-4 c =
 pub unscaled-value-spec : {M : Type 1} → statement M
 unscaled-value-spec =
     tie.close
-    (tie.spec (search needs) (search needs) returns classified-in-requires (search needs) returns-2 integer-by-sign-requires
-    (search needs) returns-3 returns-4)
+    (tie.spec (λ c κs. search needs) (λ c. search needs) returns classified-in-requires (λ c κs. search needs) returns-2
+    integer-by-sign-requires (λ c. search needs) returns-3 returns-4)
