@@ -14,7 +14,7 @@ use Rattle.report.proofs.report_listing.Tie as tie
 put-listing-requires : tie.Need-put-listing-requires
 put-listing-requires c κs =
     let a = c .before .before .before .before .before .before .before .before .before .before .args in
-    let room : length (a .list .now) ≡ 4000 = search needs in
+    let room : length (a .list .now) ≡ listRoom = search needs in
     let found = listing (a .catalog .now) (a .map .now) listRoom in
     let g = c .before .before .before .before .listing2 .given in
     let tells = ap answer (sym (g .1)) ∙ (rw room at (c .before .before .before .before .before .before .list .ensures .0)) in
@@ -26,7 +26,7 @@ put-listing-requires c κs =
 returns : tie.Need-returns
 returns c =
     let a = c .before .before .before .before .before .before .before .before .before .args in
-    let room : length (a .list .now) ≡ 4000 = search needs in
+    let room : length (a .list .now) ≡ listRoom = search needs in
     let found = listing (a .catalog .now) (a .map .now) listRoom in
     let g = c .before .before .before .listing .given in
     let tells = ap answer (sym (g .1)) ∙ (rw room at (c .before .before .before .before .before .list .ensures .0)) in
@@ -37,7 +37,7 @@ returns c =
 returns-2 : tie.Need-returns-2
 returns-2 c =
     let a = c .before .before .before .before .before .before .before .before .before .before .before .args in
-    let room : length (a .list .now) ≡ 4000 = search needs in
+    let room : length (a .list .now) ≡ listRoom = search needs in
     let found = listing (a .catalog .now) (a .map .now) listRoom in
     let g = c .before .before .before .before .before .listing2 .given in
     let tells = ap answer (sym (g .1)) ∙ (rw room at (c .before .before .before .before .before .before .before .list .ensures .0)) in

@@ -7,7 +7,6 @@ use Rattle.point_types.specs.Rows.{rowOf}
 use Rattle.point_types.specs.Answers.{foundMeans, rowMeans}
 use Rattle.point_types.proofs.Table.{own-code, listed}
 use Rattle.values.specs.Classes.{classified}
-use Rattle.values.proofs.ClassCases.{unknown}
 use Rattle.values.proofs.classes.classify.Statement.{statement}
 use Rattle.values.proofs.classes.classify.Tie as tie
 
@@ -27,12 +26,9 @@ returns c =
     c .classified-in .ensures
     ∙ ap (λ (code : ℕ). classified code (a .raw)) (sym (own-code (a .type-code) (rowMeans (f .found .given .0 .0)) (at f)))
 
-returns-2 : tie.Need-returns-2
-returns-2 c =
-    let r = c .before .before in
-    sym (unknown (r .before .args .type-code) (r .before .args .raw) (sym (r .row-of .ensures) ∙ ap foundMeans (c .enum-told .given .1)))
-
 pub classify-spec : {M : Type 1} → statement M
+unfolding classified
 classify-spec =
     tie.close
-    (tie.spec (λ c κs. search needs) (λ c. search needs) classified-in-requires (λ c. search needs) returns returns-2)
+    (tie.spec (λ c κs. search needs) (λ c. search needs) classified-in-requires (λ c. search needs) returns
+    (λ c. simp (classified, sym (c .before .before .row-of .ensures) ∙ ap foundMeans (c .enum-told .given .1))))
