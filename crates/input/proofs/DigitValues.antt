@@ -7,7 +7,7 @@ use native.Mathlib.Omega.{arith}
 use borrow.Author.Tests.{le-leb, lt-leb, leb-true}
 use lib.Dec.{leb}
 use Rattle.lists.proofs.TestOutcomes.{impossible, clash, by-test}
-use Rattle.input.specs.Digits.{digitValue, isDigit, digitOr0}
+use Rattle.input.specs.Digits.{digitValue}
 
 module _ (b : ℕ) where
   within : (first last : ℕ) → first ≤ b → b ≤ last → (leb first b && leb b last) ≡ true
@@ -78,21 +78,3 @@ value-small b v =
     (λ _. by-test Small (leb 65 b && leb b 70) (λ t e. let q : b - 65 + 10 ≡ v = cc in omega (arith, inside b 65 70 t))
     (λ _. by-test Small (leb 97 b && leb b 102) (λ t e. let q : b - 97 + 10 ≡ v = cc in omega (arith, inside b 97 102 t))
     (λ _ e. impossible (cc))))
-
--- A byte with a value is a digit of that value, and one without is none.
-module _ (b : ℕ) where
-  pub is-digit : (v : ℕ) → digitValue b ≡ some v → isDigit b ≡ true
-  unfolding isDigit
-  is-digit v e = simp (isDigit, e)
-
-  pub is-no-digit : digitValue b ≡ none → isDigit b ≡ false
-  unfolding isDigit
-  is-no-digit e = simp (isDigit, e)
-
-  pub digit-of-value : (v : ℕ) → digitValue b ≡ some v → digitOr0 b ≡ v
-  unfolding digitOr0
-  digit-of-value v e = simp (digitOr0, e)
-
-  pub digit-of-none : digitValue b ≡ none → digitOr0 b ≡ 0
-  unfolding digitOr0
-  digit-of-none e = simp (digitOr0, e)
