@@ -2,9 +2,9 @@
 use mathlib.Core.Path.{sym, ap, _∙_}
 use borrow.Author.Needs.{needs}
 use Rattle.display.specs.Answers.{scaleFactor, quantityAmount}
-use Rattle.display.specs.Equality.{equalIf}
+use Rattle.display.specs.Equality.{equalIf, equality}
 use Rattle.display.proofs.AmountCases.{was-refused, was-amount, parts-within}
-use Rattle.display.proofs.EqualityCases.{first-refused, second-refused, both-accepted}
+use Rattle.display.proofs.EqualityCases.{both-accepted}
 use Rattle.display.proofs.comparison.equal_quantities.Statement.{statement}
 use Rattle.display.proofs.comparison.equal_quantities.Tie as tie
 
@@ -21,14 +21,14 @@ is-same-requires c κs =
     )
 
 returns : tie.Need-returns
+unfolding equality
 returns c =
     let f = c .before in
     let a = f .before .before .before in
-    let p = quantityAmount (a .before .args .a) in
-    let q = quantityAmount (a .before .args .b) in
-    sym (first-refused p q (f .first .given .0 .0) (was-refused p (f .first .given .0 .0) (sym (f .first .given .1) ∙ a .accept .ensures)))
+    rw (was-refused (quantityAmount (a .before .args .a)) (f .first .given .0 .0) (sym (f .first .given .1) ∙ a .accept .ensures))
 
 returns-2 : tie.Need-returns-2
+unfolding equality
 returns-2 c =
     let y = c .before in
     let x = y .before .before .before in
@@ -36,10 +36,8 @@ returns-2 c =
     let a = b .before in
     let p = quantityAmount (a .before .args .a) in
     let q = quantityAmount (a .before .args .b) in
-    sym
-    (second-refused p q (x .first2 .given .0 .0) (y .second .given .0 .0)
-    (was-amount p (x .first2 .given .0 .0) (sym (x .first2 .given .1) ∙ a .accept .ensures))
-    (was-refused q (y .second .given .0 .0) (sym (y .second .given .1) ∙ b .accept2 .ensures)))
+    let w = was-amount p (x .first2 .given .0 .0) (sym (x .first2 .given .1) ∙ a .accept .ensures) in
+    rw (w .is, was-refused q (y .second .given .0 .0) (sym (y .second .given .1) ∙ b .accept2 .ensures))
 
 returns-3 : tie.Need-returns-3
 returns-3 c =
