@@ -8,21 +8,6 @@ use Rattle.point_types.proofs.Table.{no-row-outside}
 use Rattle.point_types.proofs.row_of.Statement.{statement}
 use Rattle.point_types.proofs.row_of.Tie as tie
 
-returns-21 : tie.Need-returns-21
-returns-21 c =
-    let r = c .match .rest in
-    let k = c .before .args .type-code in
-    let r16 = r .0 .0 .0 .0 in
-    let r12 = r16 .0 .0 .0 .0 in
-    let r8 = r12 .0 .0 .0 .0 in
-    let r4 = r8 .0 .0 .0 .0 in
-    sym (no-row-outside k (λ l h.
-    let l5 : 5 ≤ k = omega (arith, l, r4 .0 .0 .0 .1, r4 .0 .0 .1, r4 .0 .1, r4 .1) in
-    let l9 : 9 ≤ k = omega (arith, l5, r8 .0 .0 .0 .1, r8 .0 .0 .1, r8 .0 .1, r8 .1) in
-    let l13 : 13 ≤ k = omega (arith, l9, r12 .0 .0 .0 .1, r12 .0 .0 .1, r12 .0 .1, r12 .1) in
-    let l17 : 17 ≤ k = omega (arith, l13, r16 .0 .0 .0 .1, r16 .0 .0 .1, r16 .0 .1, r16 .1) in
-    omega (arith, l17, h, r .0 .0 .0 .1, r .0 .0 .1, r .0 .1, r .1)))
-
 pub row-of-spec : {M : Type 1} → statement M
 unfolding rows rowAmong
 row-of-spec =
@@ -51,4 +36,16 @@ row-of-spec =
     (λ c. c .row-found18 .ensures ∙ sym (ap rowOf (c .before .match .keys18)))
     (λ c. c .row-found19 .ensures ∙ sym (ap rowOf (c .before .match .keys19)))
     (λ c. c .row-found20 .ensures ∙ sym (ap rowOf (c .before .match .keys20)))
-    returns-21)
+    (λ c.
+    let r = c .match .rest in
+    let k = c .before .args .type-code in
+    let r16 = r .0 .0 .0 .0 in
+    let r12 = r16 .0 .0 .0 .0 in
+    let r8 = r12 .0 .0 .0 .0 in
+    let r4 = r8 .0 .0 .0 .0 in
+    sym (no-row-outside k (λ l h.
+    let l5 : 5 ≤ k = omega (arith, l, r4 .0 .0 .0 .1, r4 .0 .0 .1, r4 .0 .1, r4 .1) in
+    let l9 : 9 ≤ k = omega (arith, l5, r8 .0 .0 .0 .1, r8 .0 .0 .1, r8 .0 .1, r8 .1) in
+    let l13 : 13 ≤ k = omega (arith, l9, r12 .0 .0 .0 .1, r12 .0 .0 .1, r12 .0 .1, r12 .1) in
+    let l17 : 17 ≤ k = omega (arith, l13, r16 .0 .0 .0 .1, r16 .0 .0 .1, r16 .0 .1, r16 .1) in
+    omega (arith, l17, h, r .0 .0 .0 .1, r .0 .0 .1, r .0 .1, r .1)))))

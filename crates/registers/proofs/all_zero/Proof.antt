@@ -1,10 +1,11 @@
 -- `all_zero`: what is left of the registers decides.
 use mathlib.Core.Path.{_≡_, sym, _∙_}
 use Prim.Native.Nat.{_-_}
+use native.Mathlib.Omega.{arith}
 use borrow.Author.Needs.{needs}
 use borrow.Author.Tests.{eq-eqb, ne-eqb}
 use lib.Dec.{eqb}
-use lib.ListN.{length, drop}
+use lib.ListN.{length, getD, drop}
 use Rattle.lists.proofs.EveryLaws.{every-on, every-not, every-end}
 use Rattle.registers.specs.Registers.{allZero}
 use Rattle.registers.proofs.all_zero.Statement.{statement}
@@ -20,13 +21,19 @@ returns : tie.Need-returns Inv-loop μ-loop
 returns c =
     let l = c .before .before .before in
     let rs = l .before .args .registers .now in
-    sym (every-not (λ r. eqb r 0) rs (l .loop .i) (c .before .before .loop-test .taken) (ne-eqb _ _ (c .if1 .taken))) ∙ l .loop .inv
+    sym
+    (every-not (λ r. eqb r 0) rs (l .loop .i) (c .before .before .loop-test .taken)
+    (ne-eqb (getD rs (l .loop .i) 0) 0 (λ q. omega (arith, q, c .if1 .taken))))
+    ∙ l .loop .inv
 
 loop-again : tie.Need-loop-again Inv-loop μ-loop
 loop-again c =
     let l = c .before .before .before in
     let rs = l .before .args .registers .now in
-    sym (every-on (λ r. eqb r 0) rs (l .loop .i) (c .before .before .loop-test .taken) (eq-eqb _ _ (c .if1 .left))) ∙ l .loop .inv
+    sym
+    (every-on (λ r. eqb r 0) rs (l .loop .i) (c .before .before .loop-test .taken)
+    (eq-eqb (getD rs (l .loop .i) 0) 0 (omega (arith, c .if1 .left))))
+    ∙ l .loop .inv
 
 returns-2 : tie.Need-returns-2 Inv-loop μ-loop
 returns-2 c =
