@@ -1,7 +1,7 @@
 -- Facts about each element of a list, carried over.
 use mathlib.Core.List.{List, [], _∷_, _++_, map}
 use Prim.Native.Nat.{ℕ, zero, suc}
-use lib.ListN.{drop}
+use lib.ListN.{take, drop}
 use Rattle.lists.specs.Each.{Each}
 use Rattle.lists.specs.Members.{In, first, later}
 
@@ -29,7 +29,12 @@ pub each-any : {A : Type 0} (P : A → Type 0) (xs : List A) → ((x : A) → In
 each-any P [] f = tt
 each-any P (x ∷ xs) f = (f x first, each-any P xs (λ y i. f y (later i)))
 
--- Of each behind the first so many.
+-- Of each of the first i, and of each after them.
+pub each-take : {A : Type 0} (P : A → Type 0) (i : ℕ) (xs : List A) → Each P xs → Each P (take i xs)
+each-take P zero xs e = tt
+each-take P (suc i) [] e = tt
+each-take P (suc i) (x ∷ xs) e = (e .0, each-take P i xs (e .1))
+
 pub each-drop : {A : Type 0} (P : A → Type 0) (i : ℕ) (xs : List A) → Each P xs → Each P (drop i xs)
 each-drop P zero xs e = e
 each-drop P (suc i) [] e = tt
