@@ -30,3 +30,4 @@ pub mod PassedFrames
 pub mod ModelSearch
 pub mod IntoGroups
 pub mod NotedPoints
+pub mod LocatingSteps

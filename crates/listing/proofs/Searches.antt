@@ -16,7 +16,8 @@ use Rattle.register_map.specs.Scan.{Model, sizeOf, Ending, marked, broken}
 use Rattle.layout.specs.Points.{ModelPoint}
 use Rattle.layout.specs.Reading.{Reading, unknown, faulty, points}
 use Rattle.listing.specs.Listing.{Record, recordOf, Answer, listed, walk}
-use Rattle.listing.specs.Finding.{isPoint, isRecord}
+use Rattle.layout.specs.Paths.{isPoint}
+use Rattle.listing.specs.Finding.{isRecord}
 use Rattle.listing.specs.Promises.{foundNumbers, foundWidth, seen, searched, foundIn}
 use Rattle.listing.specs.declared.records.Sought.{Sought}
 use Rattle.listing.proofs.WalkSteps.{not-listed, in-front-listed, walk-unknown, walk-faulty, walk-points}

@@ -12,7 +12,7 @@ use lib.ListN.{length, getD, drop, set, length-append, length-map}
 use lib.Seq.{sets, drop-cons, length-sets}
 use Rattle.layout.specs.Points.{ModelPoint}
 use Rattle.listing.specs.Listing.{Record, recordNumbers, recordWidth, entries}
-use Rattle.listing.specs.Finding.{isPoint}
+use Rattle.layout.specs.Paths.{isPoint}
 use Rattle.listing.specs.Promises.{recordAt, foundNumbers, foundWidth, seen, searched, visited, written, capacity}
 use Rattle.listing.specs.declared.records.Sought.{Sought}
 use Rattle.listing.specs.declared.records.Task.{Task}

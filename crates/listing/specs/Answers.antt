@@ -5,6 +5,7 @@ use Prim.Native.Nat.{ℕ}
 use Rattle.catalog.specs.Frames as Frames
 use Rattle.catalog.specs.Answers.{headForm, pointForm}
 use Rattle.catalog.specs.Definitions.{Content}
+use Rattle.layout.specs.Locating as Locating
 use Rattle.layout.specs.Walks.{heldAt, Surveyed, surveyedUnknown, surveyedRefused, surveyedPoints}
 use Rattle.listing.specs.Listing as Listing
 use Rattle.listing.specs.declared.Listing as Code
@@ -15,6 +16,7 @@ use Rattle.listing.specs.declared.frames.PointOr.{PointOr}
 use Rattle.listing.specs.declared.frames.GroupOr.{GroupOr}
 use Rattle.listing.specs.declared.frames.Found.{Found}
 use Rattle.listing.specs.declared.surveys.Survey.{Survey}
+use Rattle.listing.specs.declared.locating.Located.{Located}
 
 -- The answer of `list`.
 abbrev pub answer : Code.Listing → Listing.Told
@@ -52,3 +54,8 @@ abbrev pub surveyForm : Survey → Surveyed
 surveyForm Survey.Unknown = surveyedUnknown
 surveyForm (Survey.Refused number) = surveyedRefused number
 surveyForm (Survey.Points first points fill) = surveyedPoints points
+
+-- A point that was located, if one was.
+abbrev pub locatedForm : Located → Option Locating.Located
+locatedForm (Located.At l) = some (record { offset = l .offset; definition = pointForm (l .point) })
+locatedForm Located.Nothing = none

@@ -4,19 +4,10 @@ use mathlib.Core.List.{List}
 use mathlib.Core.Option.{none, some}
 use Prim.Native.Nat.{ℕ}
 use lib.Dec.{eqb}
-use lib.ListN.{getD}
 use Rattle.lists.specs.Tests.{firstWith}
-use Rattle.layout.specs.Points.{ModelPoint}
+use Rattle.layout.specs.Paths.{isPoint}
 use Rattle.listing.specs.Listing.{Record, allRecords}
 use Rattle.listing.specs.Listing as Listing
-
--- Are a point's instance numbers at levels 2, 3 and 4 those of a path? (A level that it does not have has 0.)
-abbrev pub isAt : List ℕ → ModelPoint → Bool
-isAt path p = eqb (p .level2) (getD path 0 0) && (eqb (p .level3) (getD path 1 0) && eqb (p .level4) (getD path 2 0))
-
--- Is it the point with a number at a path?
-abbrev pub isPoint : ℕ → List ℕ → ModelPoint → Bool
-isPoint number path p = eqb (p .definition .number) number && isAt path p
 
 -- Is it the record of that point in the model with an index?
 abbrev pub isRecord : ℕ → ℕ → List ℕ → Record → Bool

@@ -21,7 +21,7 @@ use Rattle.layout.specs.Reading.{endsWithPad}
 use Rattle.layout.specs.Walks.{heldAt, Stands, Ready, scopeIn, IsTable, AtGroups}
 use Rattle.listing.specs.Listing as Listing
 use Rattle.listing.specs.Finding as Finding
-use Rattle.listing.specs.Finding.{isPoint}
+use Rattle.layout.specs.Paths.{isPoint}
 use Rattle.listing.specs.declared.frames.Found.{Found}
 use Rattle.listing.specs.declared.extents.Run.{Run}
 use Rattle.listing.specs.declared.extents.Extent.{Extent}
@@ -94,6 +94,14 @@ abbrev pub ReadyBy : List ℕ → ℕ → List ℕ → List ℕ → Survey → T
 ReadyBy ws id body table Survey.Unknown = Unit {0}
 ReadyBy ws id body table (Survey.Refused number) = Unit {0}
 ReadyBy ws id body table (Survey.Points first points fill) = Ready ws id body table first fill
+
+-- What locating a point in groups requires: the frames of sound groups, at a level, that end at offset 65536 or before.
+pub record LocateAsks (ws table : List ℕ) (fill levels frame offset : ℕ) : Type 0 where
+  pub standing : AtGroups ws frame levels
+  pub isTable : IsTable table
+  pub atMost3 : levels ≤ 3
+  pub filling : fill ≤ 65535
+  pub inside : offset + groupsSize (countOf (scopeIn table) fill) (heldAt ws frame .groups) ≤ 65536
 
 -- What is shown of a point by its registers and the register of its scale point.
 pub record ShownOf (p : Frames.Point) (registers : List ℕ) (register : ℕ) (r : Shown) : Type 0 where

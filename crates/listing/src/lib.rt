@@ -2,6 +2,7 @@
 // one of them.
 mod extents;
 mod frames;
+mod locating;
 mod points;
 mod records;
 mod scopes;

@@ -1,0 +1,102 @@
+// Finds one point of a model by arithmetic on its definition: each frame is read a few times, and no instance is walked.
+use crate::extents::count_of;
+use crate::extents::groups_extent;
+use crate::extents::run_extent;
+use crate::frames::GroupOr;
+use crate::frames::PointOr;
+use crate::frames::group_at;
+use crate::frames::point_at;
+use crate::records::InstancePath;
+use crate::surveys::LOWER_LEVELS;
+use catalog::Point;
+use registers::all_zero;
+ghost use mathlib.Core.Path.{_≡_};
+ghost use Prim.Native.Nat.{_+_, _-_, _/_, _≤_};
+ghost use lib.ListN.{length, drop, getD};
+ghost use Rattle.registers.specs.Registers as Registers;
+ghost use Rattle.layout.specs.Layout.{countOf};
+ghost use Rattle.layout.specs.Walks.{heldAt, Stands, levelOf, scopeIn, begun};
+ghost use Rattle.layout.specs.Locating.{locatedAmong, locatedOwn, locatedIn};
+ghost use Rattle.listing.specs.Answers.{locatedForm};
+ghost use Rattle.listing.specs.Promises.{LocateAsks};
+
+// What is searched for in a model: a point's number and its instance path.
+pub(crate) struct Key {
+    pub(crate) number: u16,
+    pub(crate) path: InstancePath,
+}
+
+// A point that was located: its offset in the body, and its definition in the catalog.
+pub(crate) struct Location {
+    pub(crate) offset: usize,
+    pub(crate) point: Point,
+}
+
+// The point searched for, or that there is none.
+pub(crate) enum Located {
+    At(Location),
+    Nothing,
+}
+
+// A frame of the definition, and the offset in the body where its points or groups begin.
+pub(crate) struct Position {
+    pub(crate) frame: usize,
+    pub(crate) offset: usize,
+}
+
+// Looks for the point among the own points of an instance that may hold groups of `levels` levels. They have the instance
+// number 0 at every deeper level.
+fn locate_own(
+    catalog: &[u16],
+    start: Position,
+    limit: usize,
+    levels: usize,
+    key: Key,
+) -> Located
+    requires { ⌜ Stands (now catalog) (start .frame) × (length (now catalog) / 8 ≤ 4096) ⌝ }
+    requires { ⌜ (limit ≤ 65536) × (levels ≤ 3) × (length (key .path .instances) ≡ 3) ⌝ }
+    ensures { λ r. ⌜ locatedForm r ≡ locatedOwn (key .number) (key .path .instances) (4 - levels) (start .offset) (begun limit (start .offset) (heldAt (now (catalog .entry)) (start .frame) .points)) ⌝ }
+{
+    if is_zero_from(key.path, LOWER_LEVELS - levels) {
+        return locate_run(catalog, start, limit, key.number);
+    }
+    Located::Nothing
+}
+
+// Are all numbers of a path from index `first` on 0?
+fn is_zero_from(path: InstancePath, first: usize) -> bool
+    requires { ⌜ (first ≤ 3) × (length (path .instances) ≡ 3) ⌝ }
+    ensures { λ r. ⌜ r ≡ Registers.allZero (drop first (path .instances)) ⌝ }
+{
+    let numbers = path.instances;
+    all_zero(&numbers[first..])
+}
+
+// Looks for the point with a number among the points from a frame on. Ends at offset `limit`, so that a pad that is
+// left out is not found.
+fn locate_run(catalog: &[u16], start: Position, limit: usize, number: u16) -> Located
+    requires { ⌜ Stands (now catalog) (start .frame) × (length (now catalog) / 8 ≤ 4096) ⌝ }
+    requires { ⌜ limit ≤ 65536 ⌝ }
+    ensures { λ r. ⌜ locatedForm r ≡ locatedAmong number (start .offset) (begun limit (start .offset) (heldAt (now (catalog .entry)) (start .frame) .points)) ⌝ }
+{
+    let mut at = start;
+    while at.offset < limit {
+        let next = point_at(catalog, at.frame);
+        match next {
+            PointOr::Point(point) => {
+                if point.number == number {
+                    return Located::At(Location {
+                        offset: at.offset,
+                        point,
+                    });
+                }
+                at = Position {
+                    frame: at.frame + 1,
+                    offset: at.offset + point.size as usize,
+                };
+            }
+            PointOr::Other => return Located::Nothing,
+        }
+    }
+    Located::Nothing
+}
