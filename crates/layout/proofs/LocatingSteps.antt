@@ -41,3 +41,37 @@ module _ (number limit offset : ℕ) where
         ≡ locatedAmong number (offset + p .size) (begun limit (offset + p .size) ps)
     unfolding locatedAmong
     not-first n = rw (begun-first limit offset p ps inside, ne-eqb (p .number) number n, locatedAmong)
+
+-- ---- A group among its siblings
+
+module _ (count : Head → ℕ) (number : ℕ) (path : List ℕ) (level offset : ℕ) (h : Head) (ps : List Point)
+    (inside behind : Groups) where
+  -- The registers of an instance, and the path's number at this level.
+  abbrev size : ℕ
+  size = pointsSize ps + groupsSize count inside
+
+  abbrev j : ℕ
+  j = getD path (level - 2) 0
+
+  abbrev after : Option Located
+  after = locatedIn count number path level (offset + count h * size) behind
+
+  -- The group has the instance with that number,
+  pub instance-there : j < count h → locatedIn count number path level offset (group h ps inside behind)
+      ≡ orElse
+      (orElse (locatedOwn number path level (offset + j * size) ps)
+      (locatedIn count number path (suc level) (offset + j * size + pointsSize ps) inside))
+      after
+  unfolding locatedIn
+  instance-there l = rw (lt-ltb j (count h) l, locatedIn)
+
+  -- or it has not.
+  pub no-instance : count h ≤ j → locatedIn count number path level offset (group h ps inside behind) ≡ after
+  unfolding locatedIn
+  no-instance l = rw (le-ltb j (count h) l, locatedIn)
+
+-- At the end of the siblings there is none.
+pub no-sibling : (count : Head → ℕ) (number : ℕ) (path : List ℕ) (level offset : ℕ)
+    → locatedIn count number path level offset noGroup ≡ none
+unfolding locatedIn
+no-sibling count number path level offset = refl

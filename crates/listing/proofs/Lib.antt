@@ -20,6 +20,7 @@ pub mod RecordsTiling
 pub mod RunSteps
 pub mod ExtentSteps
 pub mod ExtentWalks
+pub mod LocatedGroups
 pub mod SurveyedModels
 pub mod SurveyedByFrames
 -- Points and records

@@ -18,7 +18,7 @@ use Rattle.layout.specs.Points.{ModelPoint, Scope, statusOf, scaleOf}
 use Rattle.layout.specs.Layout.{countOf, groupsSize, fillSize, countUnimplemented}
 use Rattle.layout.specs.Counts.{groupsPoints, fillPoints, or0}
 use Rattle.layout.specs.Reading.{endsWithPad}
-use Rattle.layout.specs.Walks.{heldAt, Stands, Ready, scopeIn, IsTable, AtGroups}
+use Rattle.layout.specs.Walks.{heldAt, Stands, pastEnd, Ready, scopeIn, IsTable, AtGroups}
 use Rattle.listing.specs.Listing as Listing
 use Rattle.listing.specs.Finding as Finding
 use Rattle.layout.specs.Paths.{isPoint}
@@ -26,6 +26,7 @@ use Rattle.listing.specs.declared.frames.Found.{Found}
 use Rattle.listing.specs.declared.extents.Run.{Run}
 use Rattle.listing.specs.declared.extents.Extent.{Extent}
 use Rattle.listing.specs.declared.surveys.Survey.{Survey}
+use Rattle.listing.specs.declared.locating.Shape.{Shape}
 use Rattle.listing.specs.declared.points.Shown.{Shown}
 use Rattle.listing.specs.declared.records.Sought.{Sought}
 use Rattle.listing.specs.declared.records.Task.{Task}
@@ -102,6 +103,16 @@ pub record LocateAsks (ws table : List ℕ) (fill levels frame offset : ℕ) : T
   pub atMost3 : levels ≤ 3
   pub filling : fill ≤ 65535
   pub inside : offset + groupsSize (countOf (scopeIn table) fill) (heldAt ws frame .groups) ≤ 65536
+
+-- A shape is that of the group at a frame: its size is capped, and is exact where the group's registers are at most 65,536.
+pub record ShapeOf (ws : List ℕ) (counting : Frames.Head → ℕ) (h : Frames.Head) (frame : ℕ) (r : Shape) : Type 0 where
+  pub count : r .count ≡ counting h
+  pub few : r .count ≤ 65535
+  pub own : r .«own_size» ≡ pointsSize (heldAt ws (frame + 1) .points)
+  pub size : r .size ≡ r .«own_size» + min (groupsSize counting (heldAt ws (frame + 1) .groups)) 65536
+  pub short : r .«own_size» ≤ 262144
+  pub inside : r .inside ≡ frame + 1 + length (heldAt ws (frame + 1) .points)
+  pub next : r .next ≡ pastEnd ws (frame + 1)
 
 -- What is shown of a point by its registers and the register of its scale point.
 pub record ShownOf (p : Frames.Point) (registers : List ℕ) (register : ℕ) (r : Shown) : Type 0 where

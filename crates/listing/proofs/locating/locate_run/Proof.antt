@@ -69,7 +69,7 @@ loop-again c =
     let f = sym (c .before .before .before .before .before .before .before .before .point-at .ensures) ∙ ap pointOrForm (c .before .before .before .before .before .before .next .given .1) in
     let next = standing.point-next (a .catalog .now) (l .at .frame) (l .inv .1) p f in (
       sym (not-first (a .number) (a .limit) (l .at .offset) p (heldAt (a .catalog .now) (l .at .frame + 1) .points) (omega arith)
-      (c .before .before .before .if2 .left))
+          (c .before .before .before .if2 .left))
           ∙ ap (λ (ps : List Point). locatedAmong (a .number) (l .at .offset) (begun (a .limit) (l .at .offset) ps)) (sym (next .0))
           ∙ l .inv .0,
       next .2,
