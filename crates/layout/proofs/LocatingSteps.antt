@@ -45,30 +45,27 @@ module _ (number limit offset : ℕ) where
 -- ---- A group among its siblings
 
 module _ (count : Head → ℕ) (number : ℕ) (path : List ℕ) (level offset : ℕ) (h : Head) (ps : List Point)
-    (inside behind : Groups) where
-  -- The registers of an instance, and the path's number at this level.
+    (inside behind : Groups) (j : ℕ) (q : j ≡ getD path (level - 2) 0) where
+  -- The registers of an instance.
   abbrev size : ℕ
   size = pointsSize ps + groupsSize count inside
-
-  abbrev j : ℕ
-  j = getD path (level - 2) 0
 
   abbrev after : Option Located
   after = locatedIn count number path level (offset + count h * size) behind
 
-  -- The group has the instance with that number,
+  -- The group has the instance with the path's number at this level,
   pub instance-there : j < count h → locatedIn count number path level offset (group h ps inside behind)
       ≡ orElse
       (orElse (locatedOwn number path level (offset + j * size) ps)
       (locatedIn count number path (suc level) (offset + j * size + pointsSize ps) inside))
       after
   unfolding locatedIn
-  instance-there l = rw (lt-ltb j (count h) l, locatedIn)
+  instance-there l = simp (locatedIn, ← q, lt-ltb j (count h) l)
 
   -- or it has not.
   pub no-instance : count h ≤ j → locatedIn count number path level offset (group h ps inside behind) ≡ after
   unfolding locatedIn
-  no-instance l = rw (le-ltb j (count h) l, locatedIn)
+  no-instance l = simp (locatedIn, ← q, le-ltb j (count h) l)
 
 -- At the end of the siblings there is none.
 pub no-sibling : (count : Head → ℕ) (number : ℕ) (path : List ℕ) (level offset : ℕ)

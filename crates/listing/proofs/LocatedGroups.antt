@@ -165,10 +165,7 @@ module _ {ws table : List ℕ} {fill levels frame offset : ℕ} (asks : LocateAs
         );
       }
 
-  module _ (number : ℕ) (path : List ℕ) where
-    abbrev j : ℕ
-    j = getD path (levelOf levels - 2) 0
-
+  module _ (number : ℕ) (path : List ℕ) {j : ℕ} (q : j ≡ getD path (levelOf levels - 2) 0) where
     -- What locating gives here, and past the group.
     abbrev result : Option Located
     result = locatedIn count number path (levelOf levels) offset (heldAt ws frame .groups)
@@ -186,7 +183,7 @@ module _ {ws table : List ℕ} {fill levels frame offset : ℕ} (asks : LocateAs
     pub goes-past : r .count ≤ j → result ≡ past
     goes-past l =
         ap (locatedIn count number path (levelOf levels) offset) here
-        ∙ steps.no-instance count number path (levelOf levels) offset h points lower next (omega (arith, l, shape .count))
+        ∙ steps.no-instance count number path (levelOf levels) offset h points lower next j q (omega (arith, l, shape .count))
         ∙ past-is
 
     module _ (l : j < r .count) where
@@ -266,11 +263,22 @@ module _ {ws table : List ℕ} {fill levels frame offset : ℕ} (asks : LocateAs
           ∙ ap (locatedIn count number path (levelOf (levels - 1)) start₁)
           (sym (ap (λ i. heldAt ws i .groups) (shape .inside) ∙ there .1)) in
           ap (locatedIn count number path (levelOf levels) offset) here
-          ∙ steps.instance-there count number path (levelOf levels) offset h points lower next counted
+          ∙ steps.instance-there count number path (levelOf levels) offset h points lower next j q counted
           ∙ ap (λ o. orElse (orElse o (locatedIn count number path (suc (levelOf levels)) (offset + j * each + pointsSize points) lower))
           (locatedIn count number path (levelOf levels) (offset + count h * each) next)) first
           ∙ ap (λ o. orElse (orElse own-result o) (locatedIn count number path (levelOf levels) (offset + count h * each) next)) second
           ∙ ap (orElse (orElse own-result lower-result)) past-is
+
+      -- It is found among the instance's own points, or in the groups in it, or what is past the group decides.
+      pub found-own : {x : Located} → own-result ≡ some x → some x ≡ result
+      found-own o = sym (goes-in ∙ ap (λ y. orElse (orElse y lower-result) past) o)
+
+      pub found-lower : {x : Located} → own-result ≡ none → lower-result ≡ some x → some x ≡ result
+      found-lower o i =
+          sym (goes-in ∙ ap (λ y. orElse (orElse y lower-result) past) o ∙ ap (λ y. orElse y past) i)
+
+      pub found-neither : own-result ≡ none → lower-result ≡ none → result ≡ past
+      found-neither o i = goes-in ∙ ap (λ y. orElse (orElse y lower-result) past) o ∙ ap (λ y. orElse y past) i
 
 -- No group is left.
 pub ends : {ws table : List ℕ} {fill levels frame offset : ℕ} (asks : LocateAsks ws table fill levels frame offset)

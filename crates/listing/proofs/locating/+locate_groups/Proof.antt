@@ -1,9 +1,25 @@
-use Prim.Native.Nat.{ℕ, _<_}
+-- `listing::locating::locate_groups` meets its contract: at each group, the instance or what is past the group decides as all do.
+use mathlib.Core.Path.{_≡_, refl, sym, ap, subst, _∙_}
+use mathlib.Core.Logic.{⊎-elim}
+use mathlib.Core.Option.{Option, some}
+use Prim.Native.Nat.{ℕ, _-_, _/_, _<_}
+use native.Mathlib.Omega.{arith}
+use borrow.Author.Needs.{needs}
 use borrow.Fn.Kinds.{In}
 use borrow.Fn.PlainCycle.{Measures, is, falls, and}
-use Rattle.listing.proofs.locating.locate_groups.Reads as locate-groups
-use Rattle.listing.proofs.locating.locate_groups.Kinds as locate-groups-kinds
-use Rattle.listing.proofs.locating.+locate_groups.Lts-locate_groups as locate-groups-lts
+use lib.ListN.{length, getD}
+use Rattle.catalog.specs.Frames.{frameIn}
+use Rattle.catalog.specs.Answers.{headForm}
+use Rattle.layout.specs.Layout.{countOf}
+use Rattle.layout.specs.Walks.{heldAt, pastEnd, headOf, levelOf, scopeIn}
+use Rattle.layout.specs.Locating.{Located, orElse, locatedIn}
+use Rattle.layout.proofs.Standing as standing
+use Rattle.listing.specs.Answers.{groupOrForm, locatedForm}
+use Rattle.listing.specs.Promises.{LocateAsks}
+use Rattle.listing.proofs.LocatedGroups as steps
+use Rattle.listing.proofs.locating.locate_groups.Reads as reads
+use Rattle.listing.proofs.locating.locate_groups.Kinds as kinds
+use Rattle.listing.proofs.locating.+locate_groups.Lts-locate_groups as lts
 use Rattle.listing.proofs.frames.group_at.Reads as group-at-reads
 use Rattle.listing.proofs.locating.locate_own.Reads as locate-own-reads
 use Rattle.listing.proofs.locating.number_at.Reads as number-at-reads
@@ -11,29 +27,18 @@ use Rattle.listing.proofs.locating.shape_of.Reads as shape-of-reads
 use Rattle.listing.proofs.locating.+locate_groups.{statement}
 use Rattle.listing.proofs.locating.+locate_groups.Tie.{close}
 
-abbrev μ-locate-groups : Measures 2 locate-groups-kinds.ps ℕ
-μ-locate-groups κs a = ?
+-- The levels fall.
+abbrev μ : Measures 2 kinds.ps ℕ
+μ κs a = a .1 .1 .1 .0
 
-abbrev locate-groups-at : ℕ → In 2 locate-groups-kinds.ps
-locate-groups-at t =
-    and 2 locate-groups-kinds.ps (is 2 locate-groups-kinds.ps μ-locate-groups t) locate-groups.Pre
+abbrev asked : ℕ → In 2 kinds.ps
+asked t = and 2 kinds.ps (is 2 kinds.ps μ t) reads.Pre
 
-abbrev locate-groups-below : ℕ → In 2 locate-groups-kinds.ps
-locate-groups-below t =
-    and
-    2
-    locate-groups-kinds.ps
-    (falls 2 locate-groups-kinds.ps _<_ μ-locate-groups t)
-    locate-groups.Pre
+abbrev asked-below : ℕ → In 2 kinds.ps
+asked-below t = and 2 kinds.ps (falls 2 kinds.ps _<_ μ t) reads.Pre
 
-abbrev locate-groups-Inv-loop : locate-groups-lts.InvT-loop
-locate-groups-Inv-loop catalog table fill levels key frames at₀ at = ?
-
-abbrev locate-groups-μ-loop : locate-groups-lts.MeasureT-loop
-locate-groups-μ-loop catalog table fill levels key frames at₀ at = ?
-
--- src/locating.rt:77:5
-locate-groups-loop-holds : (t : ℕ) → locate-groups-lts.Need-loop-holds (
+abbrev known : ℕ → lts.Claims
+known t = (
   group-at-reads.Asked,
   group-at-reads.Learnt,
   shape-of-reads.Asked,
@@ -42,424 +47,225 @@ locate-groups-loop-holds : (t : ℕ) → locate-groups-lts.Need-loop-holds (
   number-at-reads.Learnt,
   locate-own-reads.Asked,
   locate-own-reads.Learnt,
-  locate-groups-below t,
-  locate-groups.Post,
-) (locate-groups-at t) locate-groups.Post locate-groups-Inv-loop locate-groups-μ-loop
-locate-groups-loop-holds t c = ?
+  asked-below t,
+  reads.Post,
+)
 
--- src/locating.rt:78:13
-locate-groups-group-at-requires : (t : ℕ) → locate-groups-lts.Need-group-at-requires (
-  group-at-reads.Asked,
-  group-at-reads.Learnt,
-  shape-of-reads.Asked,
-  shape-of-reads.Learnt,
-  number-at-reads.Asked,
-  number-at-reads.Learnt,
-  locate-own-reads.Asked,
-  locate-own-reads.Learnt,
-  locate-groups-below t,
-  locate-groups.Post,
-) (locate-groups-at t) locate-groups.Post locate-groups-Inv-loop locate-groups-μ-loop
-locate-groups-group-at-requires t c κs = ?
+abbrev Inv-loop : lts.InvT-loop
+Inv-loop catalog table fill levels key frames at₀ at =
+    LocateAsks catalog table fill levels (at .frame) (at .offset)
+    × (locatedIn (countOf (scopeIn table) fill) (key .number) (key .path .instances) (levelOf levels) (at .offset)
+    (heldAt catalog (at .frame) .groups)
+    ≡ locatedIn (countOf (scopeIn table) fill) (key .number) (key .path .instances) (levelOf levels) (at₀ .offset)
+    (heldAt catalog (at₀ .frame) .groups))
+    × (frames ≡ length catalog / 8)
 
--- src/locating.rt:80:28
-locate-groups-enum-known-next : (t : ℕ) → locate-groups-lts.Need-enum-known-next (
-  group-at-reads.Asked,
-  group-at-reads.Learnt,
-  shape-of-reads.Asked,
-  shape-of-reads.Learnt,
-  number-at-reads.Asked,
-  number-at-reads.Learnt,
-  locate-own-reads.Asked,
-  locate-own-reads.Learnt,
-  locate-groups-below t,
-  locate-groups.Post,
-) (locate-groups-at t) locate-groups.Post locate-groups-Inv-loop locate-groups-μ-loop
-locate-groups-enum-known-next t c = ?
+abbrev μ-loop : lts.MeasureT-loop
+μ-loop catalog table fill levels key frames at₀ at = frames - at .frame
 
--- src/locating.rt:81:21
-locate-groups-shape-of-requires : (t : ℕ) → locate-groups-lts.Need-shape-of-requires (
-  group-at-reads.Asked,
-  group-at-reads.Learnt,
-  shape-of-reads.Asked,
-  shape-of-reads.Learnt,
-  number-at-reads.Asked,
-  number-at-reads.Learnt,
-  locate-own-reads.Asked,
-  locate-own-reads.Learnt,
-  locate-groups-below t,
-  locate-groups.Post,
-) (locate-groups-at t) locate-groups.Post locate-groups-Inv-loop locate-groups-μ-loop
-locate-groups-shape-of-requires t c κs = ?
+module _ (t : ℕ) where
+  -- The places at which the group's shape and the path's number are known.
+  abbrev AtShape : Type 0
+  AtShape = lts.After-shape-of (known t) (asked t) reads.Post Inv-loop μ-loop
 
--- src/locating.rt:82:21
-locate-groups-number-at-requires : (t : ℕ) → locate-groups-lts.Need-number-at-requires (
-  group-at-reads.Asked,
-  group-at-reads.Learnt,
-  shape-of-reads.Asked,
-  shape-of-reads.Learnt,
-  number-at-reads.Asked,
-  number-at-reads.Learnt,
-  locate-own-reads.Asked,
-  locate-own-reads.Learnt,
-  locate-groups-below t,
-  locate-groups.Post,
-) (locate-groups-at t) locate-groups.Post locate-groups-Inv-loop locate-groups-μ-loop
-locate-groups-number-at-requires t c κs = ?
+  abbrev AtNumber : Type 0
+  AtNumber = lts.After-number-at (known t) (asked t) reads.Post Inv-loop μ-loop
 
--- src/locating.rt:85:32
-locate-groups-add-locate-groups : (t : ℕ) → locate-groups-lts.Need-add-locate-groups (
-  group-at-reads.Asked,
-  group-at-reads.Learnt,
-  shape-of-reads.Asked,
-  shape-of-reads.Learnt,
-  number-at-reads.Asked,
-  number-at-reads.Learnt,
-  locate-own-reads.Asked,
-  locate-own-reads.Learnt,
-  locate-groups-below t,
-  locate-groups.Post,
-) (locate-groups-at t) locate-groups.Post locate-groups-Inv-loop locate-groups-μ-loop
-locate-groups-add-locate-groups t c = ?
+  -- The head of the group.
+  head-there : (c : AtShape)
+      → headOf (frameIn (c .before .before .before .before .before .before .before .before .before .before .args .catalog .now) (c .before .before .before .before .before .before .before .loop .at .frame)) ≡ some (headForm (c .before .before .next .given .0 .0))
+  head-there c = sym (c .before .before .before .before .group-at .ensures) ∙ ap groupOrForm (c .before .before .next .given .1)
 
--- src/locating.rt:86:45
-locate-groups-mul-locate-own : (t : ℕ) → locate-groups-lts.Need-mul-locate-own (
-  group-at-reads.Asked,
-  group-at-reads.Learnt,
-  shape-of-reads.Asked,
-  shape-of-reads.Learnt,
-  number-at-reads.Asked,
-  number-at-reads.Learnt,
-  locate-own-reads.Asked,
-  locate-own-reads.Learnt,
-  locate-groups-below t,
-  locate-groups.Post,
-) (locate-groups-at t) locate-groups.Post locate-groups-Inv-loop locate-groups-μ-loop
-locate-groups-mul-locate-own t c = ?
+  loop-holds : lts.Need-loop-holds (known t) (asked t) reads.Post Inv-loop μ-loop
+  loop-holds c = (c .before .before .pre .1 .0, refl, refl)
 
--- src/locating.rt:86:33
-locate-groups-add-locate-own : (t : ℕ) → locate-groups-lts.Need-add-locate-own (
-  group-at-reads.Asked,
-  group-at-reads.Learnt,
-  shape-of-reads.Asked,
-  shape-of-reads.Learnt,
-  number-at-reads.Asked,
-  number-at-reads.Learnt,
-  locate-own-reads.Asked,
-  locate-own-reads.Learnt,
-  locate-groups-below t,
-  locate-groups.Post,
-) (locate-groups-at t) locate-groups.Post locate-groups-Inv-loop locate-groups-μ-loop
-locate-groups-add-locate-own t c = ?
+  group-at-requires : lts.Need-group-at-requires (known t) (asked t) reads.Post Inv-loop μ-loop
+  group-at-requires c κs = search needs
 
--- src/locating.rt:90:33
-locate-groups-add-locate-groups-2 : (t : ℕ) → locate-groups-lts.Need-add-locate-groups-2 (
-  group-at-reads.Asked,
-  group-at-reads.Learnt,
-  shape-of-reads.Asked,
-  shape-of-reads.Learnt,
-  number-at-reads.Asked,
-  number-at-reads.Learnt,
-  locate-own-reads.Asked,
-  locate-own-reads.Learnt,
-  locate-groups-below t,
-  locate-groups.Post,
-) (locate-groups-at t) locate-groups.Post locate-groups-Inv-loop locate-groups-μ-loop
-locate-groups-add-locate-groups-2 t c = ?
+  enum-known-next : lts.Need-enum-known-next (known t) (asked t) reads.Post Inv-loop μ-loop
+  enum-known-next c = search needs
 
--- src/locating.rt:92:72
-locate-groups-sub-locate-own : (t : ℕ) → locate-groups-lts.Need-sub-locate-own (
-  group-at-reads.Asked,
-  group-at-reads.Learnt,
-  shape-of-reads.Asked,
-  shape-of-reads.Learnt,
-  number-at-reads.Asked,
-  number-at-reads.Learnt,
-  locate-own-reads.Asked,
-  locate-own-reads.Learnt,
-  locate-groups-below t,
-  locate-groups.Post,
-) (locate-groups-at t) locate-groups.Post locate-groups-Inv-loop locate-groups-μ-loop
-locate-groups-sub-locate-own t c = ?
+  shape-of-requires : lts.Need-shape-of-requires (known t) (asked t) reads.Post Inv-loop μ-loop
+  shape-of-requires c κs =
+      let asks = c .before .before .before .before .before .before .loop .inv .0 in (
+        asks .standing,
+        (
+          (asks .isTable, asks .atMost3, asks .filling),
+          sym (c .before .before .before .group-at .ensures) ∙ ap groupOrForm (c .before .next .given .1),
+        ),
+      )
 
--- src/locating.rt:92:25
-locate-groups-locate-own-requires : (t : ℕ) → locate-groups-lts.Need-locate-own-requires (
-  group-at-reads.Asked,
-  group-at-reads.Learnt,
-  shape-of-reads.Asked,
-  shape-of-reads.Learnt,
-  number-at-reads.Asked,
-  number-at-reads.Learnt,
-  locate-own-reads.Asked,
-  locate-own-reads.Learnt,
-  locate-groups-below t,
-  locate-groups.Post,
-) (locate-groups-at t) locate-groups.Post locate-groups-Inv-loop locate-groups-μ-loop
-locate-groups-locate-own-requires t c κs = ?
+  number-at-requires : lts.Need-number-at-requires (known t) (asked t) reads.Post Inv-loop μ-loop
+  number-at-requires c κs =
+      let asks = c .before .before .before .before .before .before .before .loop .inv .0 in
+      (steps.level-left asks (head-there c) (c .shape-of .ensures), asks .atMost3, c .before .before .before .before .before .before .before .before .before .before .pre .1 .1)
 
--- src/locating.rt:93:40
-locate-groups-enum-known-found : (t : ℕ) → locate-groups-lts.Need-enum-known-found (
-  group-at-reads.Asked,
-  group-at-reads.Learnt,
-  shape-of-reads.Asked,
-  shape-of-reads.Learnt,
-  number-at-reads.Asked,
-  number-at-reads.Learnt,
-  locate-own-reads.Asked,
-  locate-own-reads.Learnt,
-  locate-groups-below t,
-  locate-groups.Post,
-) (locate-groups-at t) locate-groups.Post locate-groups-Inv-loop locate-groups-μ-loop
-locate-groups-enum-known-found t c = ?
+  add-locate-groups : lts.Need-add-locate-groups (known t) (asked t) reads.Post Inv-loop μ-loop
+  add-locate-groups c = search needs
 
--- src/locating.rt:94:25
-locate-groups-returns : (t : ℕ) → locate-groups-lts.Need-returns (
-  group-at-reads.Asked,
-  group-at-reads.Learnt,
-  shape-of-reads.Asked,
-  shape-of-reads.Learnt,
-  number-at-reads.Asked,
-  number-at-reads.Learnt,
-  locate-own-reads.Asked,
-  locate-own-reads.Learnt,
-  locate-groups-below t,
-  locate-groups.Post,
-) (locate-groups-at t) locate-groups.Post locate-groups-Inv-loop locate-groups-μ-loop
-locate-groups-returns t c = ?
+  mul-locate-own : lts.Need-mul-locate-own (known t) (asked t) reads.Post Inv-loop μ-loop
+  mul-locate-own c =
+      let a = c .before .before .before .before .before .before .before .before .before .before .before .before .before .before .before .args in
+      let l : c .before .before .before .before .number-at .result < c .before .before .before .before .before .shape-of .result .count = omega (arith, c .before .before .if2) in
+      omega (
+        arith,
+        steps.instance-within (c .before .before .before .before .before .before .before .before .before .before .before .before .loop .inv .0) (head-there (c .before .before .before .before .before)) (c .before .before .before .before .before .shape-of .ensures) (a .key .number) (a .key .path .instances)
+            (c .before .before .before .before .number-at .ensures) l,
+      )
 
-locate-groups-enum-told : (t : ℕ) → locate-groups-lts.Need-enum-told (
-  group-at-reads.Asked,
-  group-at-reads.Learnt,
-  shape-of-reads.Asked,
-  shape-of-reads.Learnt,
-  number-at-reads.Asked,
-  number-at-reads.Learnt,
-  locate-own-reads.Asked,
-  locate-own-reads.Learnt,
-  locate-groups-below t,
-  locate-groups.Post,
-) (locate-groups-at t) locate-groups.Post locate-groups-Inv-loop locate-groups-μ-loop
-locate-groups-enum-told t c = ?
+  add-locate-own : lts.Need-add-locate-own (known t) (asked t) reads.Post Inv-loop μ-loop
+  add-locate-own c =
+      let a = c .before .before .before .before .before .before .before .before .before .before .before .before .before .before .before .before .args in
+      let l : c .before .before .before .before .before .number-at .result < c .before .before .before .before .before .before .shape-of .result .count = omega (arith, c .before .before .before .if2) in
+      omega (
+        arith,
+        steps.instance-within (c .before .before .before .before .before .before .before .before .before .before .before .before .before .loop .inv .0) (head-there (c .before .before .before .before .before .before)) (c .before .before .before .before .before .before .shape-of .ensures) (a .key .number) (a .key .path .instances)
+            (c .before .before .before .before .before .number-at .ensures) l,
+      )
 
--- src/locating.rt:96:69
-locate-groups-sub-locate-groups : (t : ℕ) → locate-groups-lts.Need-sub-locate-groups (
-  group-at-reads.Asked,
-  group-at-reads.Learnt,
-  shape-of-reads.Asked,
-  shape-of-reads.Learnt,
-  number-at-reads.Asked,
-  number-at-reads.Learnt,
-  locate-own-reads.Asked,
-  locate-own-reads.Learnt,
-  locate-groups-below t,
-  locate-groups.Post,
-) (locate-groups-at t) locate-groups.Post locate-groups-Inv-loop locate-groups-μ-loop
-locate-groups-sub-locate-groups t c = ?
+  add-locate-groups-2 : lts.Need-add-locate-groups-2 (known t) (asked t) reads.Post Inv-loop μ-loop
+  add-locate-groups-2 c =
+      let a = c .before .before .before .before .before .before .before .before .before .before .before .before .before .before .before .before .before .before .args in
+      let l : c .before .before .before .before .before .before .before .number-at .result < c .before .before .before .before .before .before .before .before .shape-of .result .count = omega (arith, c .before .before .before .before .before .if2) in
+      omega (
+        arith,
+        steps.own-within (c .before .before .before .before .before .before .before .before .before .before .before .before .before .before .before .loop .inv .0) (head-there (c .before .before .before .before .before .before .before .before)) (c .before .before .before .before .before .before .before .before .shape-of .ensures) (a .key .number) (a .key .path .instances)
+            (c .before .before .before .before .before .before .before .number-at .ensures) l,
+      )
 
--- src/locating.rt:96:25
-locate-groups-locate-groups-requires : (t : ℕ) → locate-groups-lts.Need-locate-groups-requires (
-  group-at-reads.Asked,
-  group-at-reads.Learnt,
-  shape-of-reads.Asked,
-  shape-of-reads.Learnt,
-  number-at-reads.Asked,
-  number-at-reads.Learnt,
-  locate-own-reads.Asked,
-  locate-own-reads.Learnt,
-  locate-groups-below t,
-  locate-groups.Post,
-) (locate-groups-at t) locate-groups.Post locate-groups-Inv-loop locate-groups-μ-loop
-locate-groups-locate-groups-requires t c κs = ?
+  sub-locate-own : lts.Need-sub-locate-own (known t) (asked t) reads.Post Inv-loop μ-loop
+  sub-locate-own c =
+      steps.level-left (c .before .before .before .before .before .before .before .before .before .before .before .before .before .before .before .loop .inv .0) (head-there (c .before .before .before .before .before .before .before .before)) (c .before .before .before .before .before .before .before .before .shape-of .ensures)
 
--- src/locating.rt:97:40
-locate-groups-enum-known-found-2 : (t : ℕ) → locate-groups-lts.Need-enum-known-found-2 (
-  group-at-reads.Asked,
-  group-at-reads.Learnt,
-  shape-of-reads.Asked,
-  shape-of-reads.Learnt,
-  number-at-reads.Asked,
-  number-at-reads.Learnt,
-  locate-own-reads.Asked,
-  locate-own-reads.Learnt,
-  locate-groups-below t,
-  locate-groups.Post,
-) (locate-groups-at t) locate-groups.Post locate-groups-Inv-loop locate-groups-μ-loop
-locate-groups-enum-known-found-2 t c = ?
+  locate-own-requires : lts.Need-locate-own-requires (known t) (asked t) reads.Post Inv-loop μ-loop
+  locate-own-requires c κs =
+      let a = c .before .before .before .before .before .before .before .before .before .before .before .before .before .before .before .before .before .before .args in
+      let l : c .before .before .before .before .before .before .before .number-at .result < c .before .before .before .before .before .before .before .before .shape-of .result .count = omega (arith, c .before .before .before .before .before .if2) in
+      let asks = c .before .before .before .before .before .before .before .before .before .before .before .before .before .before .before .loop .inv .0 in (
+        (steps.own-stands (c .before .before .before .before .before .before .before .before .before .before .before .before .before .before .before .loop .inv .0) (head-there (c .before .before .before .before .before .before .before .before)) (c .before .before .before .before .before .before .before .before .shape-of .ensures), asks .standing .few),
+        (
+          steps.own-within (c .before .before .before .before .before .before .before .before .before .before .before .before .before .before .before .loop .inv .0) (head-there (c .before .before .before .before .before .before .before .before)) (c .before .before .before .before .before .before .before .before .shape-of .ensures) (a .key .number) (a .key .path .instances)
+              (c .before .before .before .before .before .before .before .number-at .ensures) l,
+          omega (arith, asks .atMost3),
+          c .before .before .before .before .before .before .before .before .before .before .before .before .before .before .before .before .before .before .pre .1 .1,
+        ),
+      )
 
--- src/locating.rt:98:25
-locate-groups-returns-2 : (t : ℕ) → locate-groups-lts.Need-returns-2 (
-  group-at-reads.Asked,
-  group-at-reads.Learnt,
-  shape-of-reads.Asked,
-  shape-of-reads.Learnt,
-  number-at-reads.Asked,
-  number-at-reads.Learnt,
-  locate-own-reads.Asked,
-  locate-own-reads.Learnt,
-  locate-groups-below t,
-  locate-groups.Post,
-) (locate-groups-at t) locate-groups.Post locate-groups-Inv-loop locate-groups-μ-loop
-locate-groups-returns-2 t c = ?
+  enum-known-found : lts.Need-enum-known-found (known t) (asked t) reads.Post Inv-loop μ-loop
+  enum-known-found c = search needs
 
-locate-groups-enum-told-2 : (t : ℕ) → locate-groups-lts.Need-enum-told-2 (
-  group-at-reads.Asked,
-  group-at-reads.Learnt,
-  shape-of-reads.Asked,
-  shape-of-reads.Learnt,
-  number-at-reads.Asked,
-  number-at-reads.Learnt,
-  locate-own-reads.Asked,
-  locate-own-reads.Learnt,
-  locate-groups-below t,
-  locate-groups.Post,
-) (locate-groups-at t) locate-groups.Post locate-groups-Inv-loop locate-groups-μ-loop
-locate-groups-enum-told-2 t c = ?
+  returns : lts.Need-returns (known t) (asked t) reads.Post Inv-loop μ-loop
+  returns c =
+      let a = c .before .before .before .before .before .before .before .before .before .before .before .before .before .before .before .before .before .before .before .before .before .before .args in
+      let l : c .before .before .before .before .before .before .before .before .before .before .before .number-at .result < c .before .before .before .before .before .before .before .before .before .before .before .before .shape-of .result .count = omega (arith, c .before .before .before .before .before .before .before .before .before .if2) in
+      let e = sym (c .before .before .before .locate-own .ensures) ∙ ap locatedForm (c .before .found .given .1) in
+      steps.found-own (c .before .before .before .before .before .before .before .before .before .before .before .before .before .before .before .before .before .before .before .loop .inv .0) (head-there (c .before .before .before .before .before .before .before .before .before .before .before .before)) (c .before .before .before .before .before .before .before .before .before .before .before .before .shape-of .ensures) (a .key .number) (a .key .path .instances)
+      (c .before .before .before .before .before .before .before .before .before .before .before .number-at .ensures) l e ∙ c .before .before .before .before .before .before .before .before .before .before .before .before .before .before .before .before .before .before .before .loop .inv .1
 
--- src/locating.rt:103:41
-locate-groups-mul-t25 : (t : ℕ) → locate-groups-lts.Need-mul-t25 (
-  group-at-reads.Asked,
-  group-at-reads.Learnt,
-  shape-of-reads.Asked,
-  shape-of-reads.Learnt,
-  number-at-reads.Asked,
-  number-at-reads.Learnt,
-  locate-own-reads.Asked,
-  locate-own-reads.Learnt,
-  locate-groups-below t,
-  locate-groups.Post,
-) (locate-groups-at t) locate-groups.Post locate-groups-Inv-loop locate-groups-μ-loop
-locate-groups-mul-t25 t c = ?
+  enum-told : lts.Need-enum-told (known t) (asked t) reads.Post Inv-loop μ-loop
+  enum-told c = search needs
 
--- src/locating.rt:103:29
-locate-groups-add-t26 : (t : ℕ) → locate-groups-lts.Need-add-t26 (
-  group-at-reads.Asked,
-  group-at-reads.Learnt,
-  shape-of-reads.Asked,
-  shape-of-reads.Learnt,
-  number-at-reads.Asked,
-  number-at-reads.Learnt,
-  locate-own-reads.Asked,
-  locate-own-reads.Learnt,
-  locate-groups-below t,
-  locate-groups.Post,
-) (locate-groups-at t) locate-groups.Post locate-groups-Inv-loop locate-groups-μ-loop
-locate-groups-add-t26 t c = ?
+  sub-locate-groups : lts.Need-sub-locate-groups (known t) (asked t) reads.Post Inv-loop μ-loop
+  sub-locate-groups c =
+      steps.level-left (c .before .before .before .before .before .before .before .before .before .before .before .before .before .before .before .before .before .before .loop .inv .0) (head-there (c .before .before .before .before .before .before .before .before .before .before .before)) (c .before .before .before .before .before .before .before .before .before .before .before .shape-of .ensures)
 
--- src/locating.rt:77:5
-locate-groups-loop-less : (t : ℕ) → locate-groups-lts.Need-loop-less (
-  group-at-reads.Asked,
-  group-at-reads.Learnt,
-  shape-of-reads.Asked,
-  shape-of-reads.Learnt,
-  number-at-reads.Asked,
-  number-at-reads.Learnt,
-  locate-own-reads.Asked,
-  locate-own-reads.Learnt,
-  locate-groups-below t,
-  locate-groups.Post,
-) (locate-groups-at t) locate-groups.Post locate-groups-Inv-loop locate-groups-μ-loop
-locate-groups-loop-less t c = ?
+  locate-groups-requires : lts.Need-locate-groups-requires (known t) (asked t) reads.Post Inv-loop μ-loop
+  locate-groups-requires c κs =
+      let a = c .before .before .before .before .before .before .before .before .before .before .before .before .before .before .before .before .before .before .before .before .before .args in
+      let l : c .before .before .before .before .before .before .before .before .before .before .number-at .result < c .before .before .before .before .before .before .before .before .before .before .before .shape-of .result .count = omega (arith, c .before .before .before .before .before .before .before .before .if2) in
+      let z = steps.level-left (c .before .before .before .before .before .before .before .before .before .before .before .before .before .before .before .before .before .before .loop .inv .0) (head-there (c .before .before .before .before .before .before .before .before .before .before .before)) (c .before .before .before .before .before .before .before .before .before .before .before .shape-of .ensures) in (
+        omega (arith, z, c .before .before .before .before .before .before .before .before .before .before .before .before .before .before .before .before .before .before .before .before .before .pre .0),
+        (
+          steps.lower-asks (c .before .before .before .before .before .before .before .before .before .before .before .before .before .before .before .before .before .before .loop .inv .0) (head-there (c .before .before .before .before .before .before .before .before .before .before .before)) (c .before .before .before .before .before .before .before .before .before .before .before .shape-of .ensures) (a .key .number) (a .key .path .instances)
+              (c .before .before .before .before .before .before .before .before .before .before .number-at .ensures) l,
+          c .before .before .before .before .before .before .before .before .before .before .before .before .before .before .before .before .before .before .before .before .before .pre .1 .1,
+        ),
+      )
 
--- src/locating.rt:77:5
-locate-groups-loop-again : (t : ℕ) → locate-groups-lts.Need-loop-again (
-  group-at-reads.Asked,
-  group-at-reads.Learnt,
-  shape-of-reads.Asked,
-  shape-of-reads.Learnt,
-  number-at-reads.Asked,
-  number-at-reads.Learnt,
-  locate-own-reads.Asked,
-  locate-own-reads.Learnt,
-  locate-groups-below t,
-  locate-groups.Post,
-) (locate-groups-at t) locate-groups.Post locate-groups-Inv-loop locate-groups-μ-loop
-locate-groups-loop-again t c = ?
+  enum-known-found-2 : lts.Need-enum-known-found-2 (known t) (asked t) reads.Post Inv-loop μ-loop
+  enum-known-found-2 c = search needs
 
--- src/locating.rt:106:31
-locate-groups-enum-told-3 : (t : ℕ) → locate-groups-lts.Need-enum-told-3 (
-  group-at-reads.Asked,
-  group-at-reads.Learnt,
-  shape-of-reads.Asked,
-  shape-of-reads.Learnt,
-  number-at-reads.Asked,
-  number-at-reads.Learnt,
-  locate-own-reads.Asked,
-  locate-own-reads.Learnt,
-  locate-groups-below t,
-  locate-groups.Post,
-) (locate-groups-at t) locate-groups.Post locate-groups-Inv-loop locate-groups-μ-loop
-locate-groups-enum-told-3 t c = ?
+  returns-2 : lts.Need-returns-2 (known t) (asked t) reads.Post Inv-loop μ-loop
+  returns-2 c =
+      let a = c .before .before .before .before .before .before .before .before .before .before .before .before .before .before .before .before .before .before .before .before .before .before .before .before .before .args in
+      let l : c .before .before .before .before .before .before .before .before .before .before .before .before .before .before .number-at .result < c .before .before .before .before .before .before .before .before .before .before .before .before .before .before .before .shape-of .result .count = omega (arith, c .before .before .before .before .before .before .before .before .before .before .before .before .if2) in
+      let e = sym (c .before .before .before .before .before .before .locate-own .ensures) ∙ ap locatedForm (c .before .before .before .before .enum-told .given .1) in
+      let f = sym (c .before .before .before .locate-groups .ensures) ∙ ap locatedForm (c .before .found2 .given .1) in
+      steps.found-lower (c .before .before .before .before .before .before .before .before .before .before .before .before .before .before .before .before .before .before .before .before .before .before .loop .inv .0) (head-there (c .before .before .before .before .before .before .before .before .before .before .before .before .before .before .before)) (c .before .before .before .before .before .before .before .before .before .before .before .before .before .before .before .shape-of .ensures) (a .key .number) (a .key .path .instances)
+      (c .before .before .before .before .before .before .before .before .before .before .before .before .before .before .number-at .ensures) l e f ∙ c .before .before .before .before .before .before .before .before .before .before .before .before .before .before .before .before .before .before .before .before .before .before .loop .inv .1
 
--- src/locating.rt:106:31
-locate-groups-returns-3 : (t : ℕ) → locate-groups-lts.Need-returns-3 (
-  group-at-reads.Asked,
-  group-at-reads.Learnt,
-  shape-of-reads.Asked,
-  shape-of-reads.Learnt,
-  number-at-reads.Asked,
-  number-at-reads.Learnt,
-  locate-own-reads.Asked,
-  locate-own-reads.Learnt,
-  locate-groups-below t,
-  locate-groups.Post,
-) (locate-groups-at t) locate-groups.Post locate-groups-Inv-loop locate-groups-μ-loop
-locate-groups-returns-3 t c = ?
+  enum-told-2 : lts.Need-enum-told-2 (known t) (asked t) reads.Post Inv-loop μ-loop
+  enum-told-2 c = search needs
 
--- src/locating.rt:63:1
-locate-groups-returns-4 : (t : ℕ) → locate-groups-lts.Need-returns-4 (
-  group-at-reads.Asked,
-  group-at-reads.Learnt,
-  shape-of-reads.Asked,
-  shape-of-reads.Learnt,
-  number-at-reads.Asked,
-  number-at-reads.Learnt,
-  locate-own-reads.Asked,
-  locate-own-reads.Learnt,
-  locate-groups-below t,
-  locate-groups.Post,
-) (locate-groups-at t) locate-groups.Post locate-groups-Inv-loop locate-groups-μ-loop
-locate-groups-returns-4 t c = ?
+  mul-t25 : lts.Need-mul-t25 (known t) (asked t) reads.Post Inv-loop μ-loop
+  mul-t25 c =
+      omega (arith, steps.past-asks (c .before .before .before .before .before .before .before .before .before .before .before .loop .inv .0) (head-there (c .before .before .before .before)) (c .before .before .before .before .shape-of .ensures) .inside)
+
+  add-t26 : lts.Need-add-t26 (known t) (asked t) reads.Post Inv-loop μ-loop
+  add-t26 c =
+      omega (arith, steps.past-asks (c .before .before .before .before .before .before .before .before .before .before .before .before .loop .inv .0) (head-there (c .before .before .before .before .before)) (c .before .before .before .before .before .shape-of .ensures) .inside)
+
+  loop-less : lts.Need-loop-less (known t) (asked t) reads.Post Inv-loop μ-loop
+  loop-less c =
+      let n = c .before .before .before .before .before .shape-of .ensures .next in
+      omega (arith, n, c .before .before .before .before .before .before .before .before .before .before .if1)
+
+  loop-again : lts.Need-loop-again (known t) (asked t) reads.Post Inv-loop μ-loop
+  loop-again c =
+      let a = c .before .before .before .before .before .before .before .before .before .before .before .before .before .before .before .args in
+      let same = ⊎-elim
+      (λ w.
+      let l : c .before .before .before .before .number-at .result < c .before .before .before .before .before .shape-of .result .count = omega (arith, w .0) in
+      steps.found-neither (c .before .before .before .before .before .before .before .before .before .before .before .before .loop .inv .0) (head-there (c .before .before .before .before .before)) (c .before .before .before .before .before .shape-of .ensures) (a .key .number) (a .key .path .instances)
+      (c .before .before .before .before .number-at .ensures) l
+      (sym (w .6 .ensures) ∙ ap locatedForm (w .8 .given .1))
+      (sym (w .9 .ensures) ∙ ap locatedForm (w .11 .given .1)))
+      (λ w. steps.goes-past (c .before .before .before .before .before .before .before .before .before .before .before .before .loop .inv .0) (head-there (c .before .before .before .before .before)) (c .before .before .before .before .before .shape-of .ensures) (a .key .number) (a .key .path .instances)
+      (c .before .before .before .before .number-at .ensures) (omega (arith, w)))
+      (c .before .before .if2 .came) in
+      (steps.past-asks (c .before .before .before .before .before .before .before .before .before .before .before .before .loop .inv .0) (head-there (c .before .before .before .before .before)) (c .before .before .before .before .before .shape-of .ensures), sym same ∙ c .before .before .before .before .before .before .before .before .before .before .before .before .loop .inv .1, refl)
+
+  enum-told-3 : lts.Need-enum-told-3 (known t) (asked t) reads.Post Inv-loop μ-loop
+  enum-told-3 c = search needs
+
+  returns-3 : lts.Need-returns-3 (known t) (asked t) reads.Post Inv-loop μ-loop
+  returns-3 c =
+      let a = c .before .before .before .before .before .before .before .before .args in
+      let l = c .before .before .before .before .before .loop in
+      let e = sym (c .before .before .group-at .ensures) ∙ ap groupOrForm (c .enum-told3 .given .1) in
+      sym (steps.ends (l .inv .0) e (a .key .number) (a .key .path .instances)) ∙ l .inv .1
+
+  returns-4 : lts.Need-returns-4 (known t) (asked t) reads.Post Inv-loop μ-loop
+  returns-4 c =
+      let l = c .before .before .loop in
+      let s = standing.stands-within (c .before .before .before .before .before .args .catalog .now) (l .at .frame) (l .inv .0 .standing .stands) in
+      absurd (omega (arith, s, l .inv .2, c .if1))
 
 pub +locate-groups-spec : {M : Type 1} → statement M
-+locate-groups-spec = close μ-locate-groups λ t. locate-groups-lts.spec (
-  group-at-reads.Asked,
-  group-at-reads.Learnt,
-  shape-of-reads.Asked,
-  shape-of-reads.Learnt,
-  number-at-reads.Asked,
-  number-at-reads.Learnt,
-  locate-own-reads.Asked,
-  locate-own-reads.Learnt,
-  locate-groups-below t,
-  locate-groups.Post,
-)
-    (locate-groups-at t)
-    locate-groups.Post
-    locate-groups-Inv-loop
-    locate-groups-μ-loop
-    (locate-groups-loop-holds t)
-    (locate-groups-group-at-requires t)
-    (locate-groups-enum-known-next t)
-    (locate-groups-shape-of-requires t)
-    (locate-groups-number-at-requires t)
-    (locate-groups-add-locate-groups t)
-    (locate-groups-mul-locate-own t)
-    (locate-groups-add-locate-own t)
-    (locate-groups-add-locate-groups-2 t)
-    (locate-groups-sub-locate-own t)
-    (locate-groups-locate-own-requires t)
-    (locate-groups-enum-known-found t)
-    (locate-groups-returns t)
-    (locate-groups-enum-told t)
-    (locate-groups-sub-locate-groups t)
-    (locate-groups-locate-groups-requires t)
-    (locate-groups-enum-known-found-2 t)
-    (locate-groups-returns-2 t)
-    (locate-groups-enum-told-2 t)
-    (locate-groups-mul-t25 t)
-    (locate-groups-add-t26 t)
-    (locate-groups-loop-less t)
-    (locate-groups-loop-again t)
-    (locate-groups-enum-told-3 t)
-    (locate-groups-returns-3 t)
-    (locate-groups-returns-4 t)
++locate-groups-spec = close μ λ t. lts.spec (known t) (asked t) reads.Post Inv-loop μ-loop
+    (loop-holds t)
+    (group-at-requires t)
+    (enum-known-next t)
+    (shape-of-requires t)
+    (number-at-requires t)
+    (add-locate-groups t)
+    (mul-locate-own t)
+    (add-locate-own t)
+    (add-locate-groups-2 t)
+    (sub-locate-own t)
+    (locate-own-requires t)
+    (enum-known-found t)
+    (returns t)
+    (enum-told t)
+    (sub-locate-groups t)
+    (locate-groups-requires t)
+    (enum-known-found-2 t)
+    (returns-2 t)
+    (enum-told-2 t)
+    (mul-t25 t)
+    (add-t26 t)
+    (loop-less t)
+    (loop-again t)
+    (enum-told-3 t)
+    (returns-3 t)
+    (returns-4 t)
