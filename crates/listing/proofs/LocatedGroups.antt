@@ -8,14 +8,14 @@ use native.Mathlib.Omega.{arith}
 use lib.ListN.{length, getD}
 use Rattle.catalog.specs.Frames.{Point, Head, frameIn}
 use Rattle.catalog.specs.Definitions.{Groups, group, pointsSize}
-use Rattle.layout.specs.Layout.{countOf, groupsSize}
+use Rattle.layout.specs.Layout.{countOf, measured, groupsSize}
 use Rattle.layout.specs.Walks.{heldAt, Stands, pastEnd, headOf, levelOf, scopeIn, begun, AtGroups}
 use Rattle.layout.specs.Locating.{Located, orElse, locatedOwn, locatedIn}
 use Rattle.layout.proofs.Standing as standing
 use Rattle.layout.proofs.IntoGroups as groups
 use Rattle.layout.proofs.LocatingSteps as steps
 use Rattle.layout.proofs.NotedPoints.{begun-all}
-use Rattle.layout.proofs.Sizes.{points-sized, lower-size}
+use Rattle.layout.proofs.Sizes.{points-sized, lower-measure}
 use Rattle.listing.specs.Promises.{RunOf, ExtentOf, LocateAsks, ShapeOf}
 use Rattle.listing.specs.declared.extents.Run.{Run}
 use Rattle.listing.specs.declared.extents.Extent.{Extent}
@@ -63,7 +63,7 @@ module _ (ws table : List ℕ) (fill levels frame : ℕ) (at : AtGroups ws frame
   inside-size =
       let s = groups.sound-here ws frame levels at few h e in
       let z = groups.level-left ws frame levels at few h e in
-      sym (lower-size (scopeIn table) fill (at .sound .top) (own ++ at .sound .enclosing) (suc (levelOf levels)) inside
+      sym (lower-measure (scopeIn table) fill pointsSize (at .sound .top) (own ++ at .sound .enclosing) (suc (levelOf levels)) inside
       (omega arith)
       (s .sound .3))
 
@@ -100,7 +100,7 @@ module _ (ws table : List ℕ) (fill levels frame : ℕ) (at : AtGroups ws frame
 total-size : (count : Head → ℕ) (h : Head) (ps : List Point) (inside behind : Groups)
     → groupsSize count (group h ps inside behind)
     ≡ count h * (pointsSize ps + groupsSize count inside) + groupsSize count behind
-unfolding groupsSize
+unfolding measured
 total-size count h ps inside behind = refl
 
 module _ {ws table : List ℕ} {fill levels frame offset : ℕ} (asks : LocateAsks ws table fill levels frame offset) {h : Head}
