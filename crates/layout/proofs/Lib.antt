@@ -31,3 +31,4 @@ pub mod ModelSearch
 pub mod IntoGroups
 pub mod NotedPoints
 pub mod LocatingSteps
+pub mod LocatedPoints
