@@ -8,8 +8,8 @@ use Prim.Native.Nat.{ℕ, zero, suc, _+_, _*_, _-_, _≤_, _<_}
 use native.Mathlib.Nat.{suc-mul, zero-mul}
 use native.Mathlib.Decide.{decLe}
 use native.Mathlib.Omega.{arith}
-use borrow.Author.Tests.{eq-eqb, ne-eqb, eqb-true, eqb-false, ltb-true, ltb-false}
-use lib.Dec.{eqb, ltb}
+use borrow.Author.Tests.{eq-eqb, ne-eqb}
+use lib.Dec.{eqb}
 use lib.ListN.{length, getD, set, drop, length-set}
 use lib.Seq.{getD-set-same, getD-set-other}
 use Rattle.lists.specs.Tests.{firstWith}
@@ -53,7 +53,7 @@ three-numbers (x ∷ y ∷ []) l = absurd (omega (arith, l))
 three-numbers (x ∷ y ∷ z ∷ []) l = refl
 three-numbers (x ∷ y ∷ z ∷ u ∷ us) l = absurd (omega (arith, l))
 
-or-none : (o : Option Located) → orElse o none ≡ o
+pub or-none : (o : Option Located) → orElse o none ≡ o
 or-none none = refl
 or-none (some x) = refl
 

@@ -29,6 +29,8 @@ pub mod SoughtPoints
 pub mod PointRuns
 pub mod GroupsWriting
 pub mod InstanceSteps
+pub mod ReadyModels
+pub mod LocatedModels
 pub mod ModelWriting
 -- Whole maps
 pub mod MapSteps

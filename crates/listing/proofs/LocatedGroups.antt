@@ -5,7 +5,7 @@ use mathlib.Core.Option.{Option, none, some}
 use Prim.Native.Nat.{ℕ, zero, suc, _+_, _*_, _-_, _≤_, _<_, min}
 use native.Mathlib.Nat.{zero-mul, suc-mul, mul-le-mul-right}
 use native.Mathlib.Omega.{arith}
-use lib.ListN.{length, getD}
+use lib.ListN.{getD}
 use Rattle.catalog.specs.Frames.{Point, Head, frameIn}
 use Rattle.catalog.specs.Definitions.{Groups, group, pointsSize}
 use Rattle.layout.specs.Layout.{countOf, measured, groupsSize}

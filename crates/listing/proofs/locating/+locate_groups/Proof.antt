@@ -1,18 +1,18 @@
 -- `listing::locating::locate_groups` meets its contract: at each group, the instance or what is past the group decides as all do.
-use mathlib.Core.Path.{_≡_, refl, sym, ap, subst, _∙_}
+use mathlib.Core.Path.{_≡_, refl, sym, ap, _∙_}
 use mathlib.Core.Logic.{⊎-elim}
-use mathlib.Core.Option.{Option, some}
+use mathlib.Core.Option.{some}
 use Prim.Native.Nat.{ℕ, _-_, _/_, _<_}
 use native.Mathlib.Omega.{arith}
 use borrow.Author.Needs.{needs}
 use borrow.Fn.Kinds.{In}
 use borrow.Fn.PlainCycle.{Measures, is, falls, and}
-use lib.ListN.{length, getD}
+use lib.ListN.{length}
 use Rattle.catalog.specs.Frames.{frameIn}
 use Rattle.catalog.specs.Answers.{headForm}
 use Rattle.layout.specs.Layout.{countOf}
-use Rattle.layout.specs.Walks.{heldAt, pastEnd, headOf, levelOf, scopeIn}
-use Rattle.layout.specs.Locating.{Located, orElse, locatedIn}
+use Rattle.layout.specs.Walks.{heldAt, headOf, levelOf, scopeIn}
+use Rattle.layout.specs.Locating.{locatedIn}
 use Rattle.layout.proofs.Standing as standing
 use Rattle.listing.specs.Answers.{groupOrForm, locatedForm}
 use Rattle.listing.specs.Promises.{LocateAsks}

@@ -5,7 +5,7 @@ use mathlib.Core.Option.{Option, none}
 use Prim.Native.Nat.{_-_}
 use native.Mathlib.Omega.{arith}
 use borrow.Author.Needs.{needs}
-use lib.ListN.{length, drop}
+use lib.ListN.{drop}
 use Rattle.registers.specs.Registers.{allZero}
 use Rattle.layout.specs.Walks.{heldAt, begun}
 use Rattle.layout.specs.Locating.{Located, locatedAmong}

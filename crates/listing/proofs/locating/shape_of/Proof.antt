@@ -1,6 +1,6 @@
 -- `listing::locating::shape_of` meets its contract: the shape by the extents of the group's points and of the groups in it.
 use mathlib.Core.Path.{sym, subst}
-use Prim.Native.Nat.{ℕ, _-_}
+use Prim.Native.Nat.{_-_}
 use native.Mathlib.Omega.{arith}
 use borrow.Author.Needs.{needs}
 use Rattle.layout.specs.Walks.{AtGroups}
