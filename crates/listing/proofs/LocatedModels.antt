@@ -19,7 +19,7 @@ use Rattle.layout.proofs.IntoGroups.{top-groups}
 use Rattle.layout.proofs.LeftOutPad as pads
 use Rattle.layout.proofs.LocatingSteps.{no-sibling}
 use Rattle.layout.proofs.LocatedPoints.{or-none, top-found, groups-found, content-found}
-use Rattle.listing.specs.Promises.{LocateAsks}
+use Rattle.listing.specs.Promises.{ModelAsks, locatedWithin}
 use Rattle.listing.proofs.ReadyModels as model
 
 -- Without groups.
@@ -53,36 +53,32 @@ module _ {ws : List ℕ} {id : ℕ} {body table : List ℕ} {first fill : ℕ} (
           omega (arith, l .2, ap (groupsSize count) (no-group (top .groups) (l .0)), short)
       go (full kept f) = omega (arith, model.lower-same accepted ready words f pointsSize, model.in-full accepted ready words f, short)
 
-  -- What locating in the groups requires.
-  pub groups-ask : {frame offset : ℕ} → frame ≡ first + length ps → offset ≡ pointsSize ps
-      → LocateAsks ws table fill 3 frame offset
-  groups-ask {frame} {offset} e q =
-      let there = ap (λ k. heldAt ws k .groups) e ∙ standing.behind-run ws first (ready .stands) .1 in
+  -- What locating requires.
+  pub model-asks : ModelAsks ws table (length body) first fill
+  model-asks =
+      let there = standing.behind-run ws first (ready .stands) in
       record {
-        standing = subst (λ k. AtGroups ws k 3) (sym e) (top-groups ws id first accepted (ready .stands) (ready .known));
-        isTable = ready .isTable;
-        atMost3 = omega arith;
-        filling = omega (arith, ready .filling, model.fill-few top body, short);
-        inside = omega (arith, ap (groupsSize count) there, q, within-bound);
+        stands = ready .stands;
+        short = short;
+        groups = record {
+          standing = top-groups ws id first accepted (ready .stands) (ready .known);
+          isTable = ready .isTable;
+          atMost3 = omega arith;
+          filling = omega (arith, ready .filling, model.fill-few top body, short);
+          inside = omega (arith, ap (groupsSize count) (there .1), within-bound);
+        };
       }
 
-  -- The result, by the parts.
-  pub model-located : (number : ℕ) (path : List ℕ) → length path ≡ 3 → {frame offset : ℕ} → frame ≡ first + length ps
-      → offset ≡ pointsSize ps
-      → orElse (locatedOwn number path 1 0 laid) (locatedIn count number path 2 offset (heldAt ws frame .groups))
+  -- What it results in.
+  pub model-located : (number : ℕ) (path : List ℕ) → length path ≡ 3
+      → locatedWithin count number path (length body) top
       ≡ firstLocation number path (pointsOf (model.read accepted ready words))
-  model-located number path long {frame} {offset} e q =
-      ap (λ n. orElse (locatedOwn number path 1 0 laid) (locatedIn count number path 2 n (heldAt ws frame .groups))) q
-      ∙ ap (λ g. orElse (locatedOwn number path 1 0 laid) (locatedIn count number path 2 (pointsSize ps) g)) there
-      ∙ go (model.how accepted ready words has)
+  model-located number path long =
+      go (model.how accepted ready words has)
       ∙ ap (λ r. firstLocation number path (pointsOf r)) (sym (model.read-here accepted ready words))
     where
-      there : heldAt ws frame .groups ≡ top .groups
-      there = ap (λ k. heldAt ws k .groups) e ∙ standing.behind-run ws first (ready .stands) .1
-
       go : {r : Reading} → HowRead id top body r
-          → orElse (locatedOwn number path 1 0 laid) (locatedIn count number path 2 (pointsSize ps) (top .groups))
-          ≡ firstLocation number path (pointsOf r)
+          → locatedWithin count number path (length body) top ≡ firstLocation number path (pointsOf r)
       go (leftOut h) =
           let l = pads.left-out id top (length body) h in
           let b = pads.begun-but-pad ps id top (length body) (model.sound-points accepted ready words) h in

@@ -2,7 +2,7 @@
 use mathlib.Core.Path.{_≡_}
 use mathlib.Core.Bool.{Bool, true, false, not, _&&_, _||_}
 use mathlib.Core.List.{List, [], _∷_, map}
-use mathlib.Core.Option.{none, some}
+use mathlib.Core.Option.{Option, none, some}
 use Prim.Native.Nat.{ℕ, _+_, _*_, _-_, _/_, _%_, _≤_, min}
 use lib.Dec.{eqb, ltb, leb}
 use lib.ListN.{length, take, drop, getD}
@@ -13,12 +13,13 @@ use Rattle.registers.specs.Registers.{join, shownRaw}
 use Rattle.values.specs.Classes.{classified}
 use Rattle.catalog.specs.Frames as Frames
 use Rattle.catalog.specs.Rules.{isSizeOf}
-use Rattle.catalog.specs.Definitions.{Groups, pointsSize}
+use Rattle.catalog.specs.Definitions.{Groups, Content, pointsSize}
 use Rattle.layout.specs.Points.{ModelPoint, Scope, statusOf, scaleOf}
 use Rattle.layout.specs.Layout.{countOf, groupsSize, fillSize, countUnimplemented}
 use Rattle.layout.specs.Counts.{groupsPoints, fillPoints, or0}
 use Rattle.layout.specs.Reading.{endsWithPad}
-use Rattle.layout.specs.Walks.{heldAt, Stands, pastEnd, Ready, scopeIn, IsTable, AtGroups}
+use Rattle.layout.specs.Locating.{Located, orElse, locatedOwn, locatedIn}
+use Rattle.layout.specs.Walks.{heldAt, Stands, pastEnd, Ready, begun, scopeIn, IsTable, AtGroups}
 use Rattle.listing.specs.Listing as Listing
 use Rattle.listing.specs.Finding as Finding
 use Rattle.layout.specs.Paths.{isPoint}
@@ -103,6 +104,19 @@ pub record LocateAsks (ws table : List ℕ) (fill levels frame offset : ℕ) : T
   pub atMost3 : levels ≤ 3
   pub filling : fill ≤ 65535
   pub inside : offset + groupsSize (countOf (scopeIn table) fill) (heldAt ws frame .groups) ≤ 65536
+
+-- What locating a point in a model of a length requires: its definition begins at a frame, and its groups can be searched.
+pub record ModelAsks (ws table : List ℕ) (len first fill : ℕ) : Type 0 where
+  pub stands : Stands ws first
+  pub short : len ≤ 65535
+  pub groups : LocateAsks ws table fill 3 (first + length (heldAt ws first .points)) (pointsSize (heldAt ws first .points))
+
+-- Where the point with a number and a path is in a model of a length: among the top points that begin within the length, or in
+-- the groups.
+abbrev pub locatedWithin : (Frames.Head → ℕ) → ℕ → List ℕ → ℕ → Content → Option Located
+locatedWithin count number path len c =
+    orElse (locatedOwn number path 1 0 (begun len 0 (c .points)))
+    (locatedIn count number path 2 (pointsSize (c .points)) (c .groups))
 
 -- A shape is that of the group at a frame: its size is capped, and is exact where the group's registers are at most 65,536.
 pub record ShapeOf (ws : List ℕ) (counting : Frames.Head → ℕ) (h : Frames.Head) (frame : ℕ) (r : Shape) : Type 0 where

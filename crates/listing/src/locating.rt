@@ -15,6 +15,7 @@ ghost use mathlib.Core.Path.{_≡_};
 ghost use mathlib.Core.Option.{some};
 ghost use Prim.Native.Nat.{_+_, _-_, _/_, _≤_};
 ghost use lib.ListN.{length, drop, getD};
+ghost use lib.ListN as Lists;
 ghost use Rattle.registers.specs.Registers as Registers;
 ghost use Rattle.catalog.specs.Frames.{frameIn};
 ghost use Rattle.catalog.specs.Answers.{headForm};
@@ -22,7 +23,7 @@ ghost use Rattle.layout.specs.Layout.{countOf};
 ghost use Rattle.layout.specs.Walks.{heldAt, Stands, headOf, levelOf, scopeIn, begun, IsTable, AtGroups};
 ghost use Rattle.layout.specs.Locating.{locatedAmong, locatedOwn, locatedIn};
 ghost use Rattle.listing.specs.Answers.{locatedForm};
-ghost use Rattle.listing.specs.Promises.{LocateAsks, ShapeOf};
+ghost use Rattle.listing.specs.Promises.{ModelAsks, locatedWithin, LocateAsks, ShapeOf};
 
 // What is searched for in a model: a point's number and its instance path.
 pub(crate) struct Key {
@@ -46,6 +47,36 @@ pub(crate) enum Located {
 pub(crate) struct Position {
     pub(crate) frame: usize,
     pub(crate) offset: usize,
+}
+
+// Looks for the point in a model whose definition begins at frame `first` and whose top points are in the table; `length`
+// is that of its body. A pad that is left out begins at the end of the body, so it is not found.
+pub(crate) fn locate_model(
+    catalog: &[u16],
+    table: &[u16],
+    length: usize,
+    first: usize,
+    fill: usize,
+    key: Key,
+) -> Located
+    requires { ⌜ ModelAsks (now catalog) (now table) length first fill ⌝ }
+    requires { ⌜ Lists.length (key .path .instances) ≡ 3 ⌝ }
+    ensures { λ r. ⌜ locatedForm r ≡ locatedWithin (countOf (scopeIn (now (table .entry))) fill) (key .number) (key .path .instances) length (heldAt (now (catalog .entry)) first) ⌝ }
+{
+    let top = Position {
+        frame: first,
+        offset: 0,
+    };
+    let found = locate_own(catalog, top, length, LOWER_LEVELS, key);
+    if let Located::At(location) = found {
+        return Located::At(location);
+    }
+    let run = run_extent(catalog, first);
+    let groups = Position {
+        frame: run.next,
+        offset: run.size,
+    };
+    locate_groups(catalog, table, fill, LOWER_LEVELS, groups, key)
 }
 
 // A group: its instances, the registers of its own points and of a whole instance, the frame of the groups in it, and the
