@@ -37,5 +37,5 @@ pub mod MapSteps
 pub mod MapSurvey
 pub mod Searches
 pub mod MapRecords
-pub mod FoundNumbers
+pub mod MapSearch
 pub mod WholeAnswer

@@ -25,8 +25,7 @@ answer (Code.Listing.Refused number place headers) = Listing.refusedTold number 
 
 -- A point that `find` tells of.
 abbrev pub targetForm : Target → Finding.Target
-targetForm t =
-    record { address = t .address; typeCode = t .«type_code»; size = t .size; access = t .access; raw = t .raw }
+targetForm t = record { address = t .address; definition = pointForm (t .point); raw = t .raw }
 
 -- The answer of `find`.
 abbrev pub findingForm : CodeFinding.Finding → Finding.Told

@@ -14,7 +14,7 @@ use Rattle.values.specs.Classes.{classified}
 use Rattle.catalog.specs.Frames as Frames
 use Rattle.catalog.specs.Rules.{isSizeOf}
 use Rattle.catalog.specs.Definitions.{Groups, Content, pointsSize}
-use Rattle.layout.specs.Points.{ModelPoint, Scope, statusOf, scaleOf}
+use Rattle.layout.specs.Points.{ModelPoint, Scope, registersAt, statusOf, scaleOf}
 use Rattle.layout.specs.Layout.{countOf, groupsSize, fillSize, countUnimplemented}
 use Rattle.layout.specs.Counts.{groupsPoints, fillPoints, or0}
 use Rattle.layout.specs.Reading.{endsWithPad}
@@ -127,6 +127,20 @@ pub record ShapeOf (ws : List ℕ) (counting : Frames.Head → ℕ) (h : Frames.
   pub short : r .«own_size» ≤ 262144
   pub inside : r .inside ≡ frame + 1 + length (heldAt ws (frame + 1) .points)
   pub next : r .next ≡ pastEnd ws (frame + 1)
+
+-- A point that was located in a body, as a write needs it, in the model whose header has an address.
+abbrev pub targetAt : ℕ → List ℕ → Located → Finding.Target
+targetAt at body l =
+    record {
+      address = at + 2 + l .offset;
+      definition = l .definition;
+      raw = shownRaw (registersAt body (l .offset) (l .definition));
+    }
+
+-- What a search in the model whose header has an address returns of the point that it finds, if any.
+abbrev pub toldAt : ℕ → Option ModelPoint → Finding.Told
+toldAt at none = Finding.nothingTold
+toldAt at (some p) = Finding.foundTold (record { address = at + 2 + p .offset; definition = p .definition; raw = p .raw })
 
 -- What is shown of a point by its registers and the register of its scale point.
 pub record ShownOf (p : Frames.Point) (registers : List ℕ) (register : ℕ) (r : Shown) : Type 0 where
@@ -269,28 +283,3 @@ MapFits Task.Search answer out = IsListed answer × (foundWidth ≤ length out) 
 abbrev pub behindMap : Task → Sought → Listing.Answer → List ℕ → List ℕ
 behindMap Task.Records sought answer out = Listing.stored answer out
 behindMap Task.Search sought answer out = foundIn answer sought out
-
--- The type, size and access that a search wrote are 16 bits.
-pub record NarrowFound (found : List ℕ) : Type 0 where
-  pub typeCode : getD found 2 0 ≤ 65535
-  pub size : getD found 3 0 ≤ 65535
-  pub access : getD found 4 0 ≤ 65535
-
--- The point that a search tells of by its numbers.
-abbrev pub targetIn : List ℕ → Finding.Target
-targetIn found =
-    record {
-      address = getD found 1 0;
-      typeCode = getD found 2 0;
-      size = getD found 3 0;
-      access = getD found 4 0;
-      raw = getD found 5 0;
-    }
-
--- What is told by the numbers that a search wrote.
-abbrev pub toldBy : List ℕ → Finding.Told
-toldBy found =
-    elim (eqb (getD found 0 0) 0) [
-      | true ↦ Finding.nothingTold
-      | false ↦ Finding.foundTold (targetIn found)
-    ]
