@@ -15,23 +15,6 @@ use Rattle.display.specs.declared.quantities.Accepted.{Accepted}
 use Rattle.display.proofs.ScaleFactors.{ten-at-most}
 
 module _ (code raw : ℕ) (scale : ℤ) where
-  pub type-refused : unscaled code raw ≡ notScalable → amountOf code raw scale ≡ refused 43
-  unfolding amountOf
-  type-refused e = simp (amountOf, e)
-
-  pub value-refused : unscaled code raw ≡ noValue → amountOf code raw scale ≡ refused 44
-  unfolding amountOf
-  value-refused e = simp (amountOf, e)
-
-  module _ (z : ℤ) (is : unscaled code raw ≡ number z) where
-    pub scale-refused : isScaleFactor scale ≡ false → amountOf code raw scale ≡ refused 45
-    unfolding amountOf
-    scale-refused s = simp (amountOf, is, s)
-
-    pub accepted : isScaleFactor scale ≡ true → amountOf code raw scale ≡ amount z scale
-    unfolding amountOf
-    accepted s = simp (amountOf, is, s)
-
   -- An amount has the value and the scale factor that it was made of.
   pub record AmountOf (value s : ℤ) : Type 0 where
     pub is : unscaled code raw ≡ number value

@@ -1,31 +1,24 @@
--- The ways to a decimal text or its refusal, and the text by an amount's parts.
+-- The decimal text of an amount, and the text by the amount's parts.
 use mathlib.Core.Path.{_≡_, refl, sym, ap, _∙_}
 use mathlib.Core.Logic.{_⊎_, inl, inr}
 use mathlib.Core.List.{[], _∷_, _++_, append-nil}
-use Prim.Native.Nat.{ℕ, zero, suc, _*_, _/_, _^_, _≤_, _<_}
+use Prim.Native.Nat.{ℕ, zero, suc, _*_, _/_, _^_, _≤_}
 use native.Mathlib.Nat.{div-one, mul-one}
 use native.Mathlib.Omega.{arith}
-use borrow.Author.Tests.{lt-ltb, le-ltb}
+use borrow.Author.Tests.{le-ltb}
 use lib.IntN.{ℤ}
-use Rattle.display.specs.Amounts.{Amount, amountOf}
-use Rattle.display.specs.Decimals.{decimalPoint, lastDigits, digitsOf, sign, unsignedText, Decimal, text, decimalOf}
+use Rattle.display.specs.Amounts.{amountOf}
+use Rattle.display.specs.Decimals.{decimalPoint, lastDigits, digitsOf, sign, unsignedText, text, decimalOf}
 use Rattle.display.specs.Parts.{TenAtMost, partsText}
 use Rattle.display.specs.declared.quantities.ScaledNumber.{ScaledNumber}
 use Rattle.display.proofs.AmountCases.{WasAmount}
 
-module _ (code raw : ℕ) (scale : ℤ) (room : ℕ) where
-  pub amount-refused : (n : ℕ) → amountOf code raw scale ≡ Amount.refused n → decimalOf code raw scale room ≡ Decimal.refused n
-  unfolding decimalOf
-  amount-refused n e = simp (decimalOf, e)
-
-  module _ (parts : ScaledNumber) (was : WasAmount (amountOf code raw scale) parts) where
-    pub short-buffer : room < 32 → decimalOf code raw scale room ≡ Decimal.refused 46
-    unfolding decimalOf
-    short-buffer h = simp (decimalOf, was .is, lt-ltb _ _ h)
-
-    pub long-buffer : 32 ≤ room → decimalOf code raw scale room ≡ text (partsText parts)
-    unfolding decimalOf
-    long-buffer h = simp (decimalOf, was .is, le-ltb _ _ h) (ap (λ (p : ScaledNumber). text (partsText p)) (sym (was .form)))
+-- The text, where the buffer is long enough.
+pub long-buffer : (code raw : ℕ) (scale : ℤ) (room : ℕ) (parts : ScaledNumber) → WasAmount (amountOf code raw scale) parts
+    → 32 ≤ room → decimalOf code raw scale room ≡ text (partsText parts)
+unfolding decimalOf
+long-buffer code raw scale room parts was h =
+    simp (decimalOf, was .is, le-ltb _ _ h) (ap (λ (p : ScaledNumber). text (partsText p)) (sym (was .form)))
 
 -- Without places the text is the whole number.
 pub whole-text : (n : ℕ) → digitsOf n ≡ unsignedText n 0

@@ -8,7 +8,7 @@ use native.Mathlib.Nat.{div-one, mul-lt-mul-of-pos-right, div-lt-iff-lt-mul}
 use native.Mathlib.Omega.{arith}
 use lib.Dec.{ltb}
 use lib.IntN.{ℤ, pos, negsuc, negℤ}
-use lib.ListN.{length}
+use lib.ListN.{length, length-append}
 use lib.Pow.{pow-add}
 use Rattle.lists.proofs.TestOutcomes.{impossible}
 use Rattle.values.specs.Unscaled.{number, unscaled}
@@ -22,7 +22,6 @@ use Rattle.display.proofs.DigitCount.{at-most}
 use Rattle.display.proofs.DigitTexts.{digits-length, number-length}
 use Rattle.display.proofs.AmountCases.{amount-of, value-within, scale-within}
 use Rattle.display.proofs.ReadingBack.{read-unsigned, no-minus}
-use Rattle.display.proofs.StoredTexts.{length-both}
 
 -- What is claimed of a text that `decimal` writes for a type code, a raw value and a scale factor.
 pub record Exact (code raw : ℕ) (scale : ℤ) (t : List ℕ) : Type 0 where
@@ -44,7 +43,7 @@ read-back (negsuc a) scale = ap (signed (λ n. negℤ (pos n))) (read-unsigned (
 text-length : (n p : ℕ) → length (unsignedText n p) ≡ digitCount (n / 10 ^ p) + length (decimalPlaces p n)
 unfolding unsignedText
 text-length n p =
-    length-both (digitsOf (n / 10 ^ p)) (decimalPlaces p n)
+    length-append (digitsOf (n / 10 ^ p)) (decimalPlaces p n)
     ∙ ap (λ (x : ℕ). x + length (decimalPlaces p n)) (number-length (n / 10 ^ p))
 
 -- A number of at most d digits, with up to ten zeros or places.

@@ -4,7 +4,7 @@ use mathlib.Core.List.{List, [], _∷_, _++_}
 use Prim.Native.Nat.{ℕ, suc, _+_, _-_, _≤_}
 use native.Mathlib.Nat.{add-zero, add-suc, suc-add}
 use native.Mathlib.Omega.{arith}
-use lib.ListN.{length, set, drop, replicate, length-replicate, replicate-append-replicate}
+use lib.ListN.{length, length-append, set, drop, replicate, length-replicate, replicate-append-replicate}
 use lib.Seq.{sets, length-sets, sets-eq, drop-at}
 use Rattle.display.specs.Parts.{Put}
 
@@ -14,10 +14,6 @@ behind-sets out i (x ∷ xs) ys =
     ap (λ (k : ℕ). sets (sets (set out i x) (suc i) xs) k ys) (add-suc i (length xs) ∙ sym (suc-add i (length xs)))
     ∙ behind-sets (set out i x) (suc i) xs ys
 
-pub length-both : (xs ys : List ℕ) → length (xs ++ ys) ≡ length xs + length ys
-length-both [] ys = omega arith
-length-both (x ∷ xs) ys = omega (arith, length-both xs ys)
-
 -- One byte.
 pub put-byte : (out : List ℕ) (position byte : ℕ) → Put out (set out position byte) position (byte ∷ []) (position + 1)
 put-byte out position byte = record { stored = refl; behind = refl }
@@ -26,7 +22,7 @@ pub put-both : {a b c : List ℕ} {i j k : ℕ} {xs ys : List ℕ} → Put a b i
 put-both {a} {b} {c} {i} {j} {k} {xs} {ys} p q =
     record {
       stored = q .stored ∙ rw (p .stored, p .behind) (behind-sets a i xs ys);
-      behind = omega (arith, p .behind, q .behind, length-both xs ys);
+      behind = omega (arith, p .behind, q .behind, length-append xs ys);
     }
 
 -- The same text in other words.

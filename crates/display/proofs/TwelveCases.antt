@@ -3,11 +3,11 @@
 use mathlib.Core.Path.{_≡_, refl}
 use mathlib.Core.List.{List, [], _∷_, map}
 use Prim.Native.Nat.{ℕ}
-use Prim.Native.Char.{code}
-use Prim.Native.String.{String, [] as []ˢ, _∷_ as _∷ˢ_}
+use Prim.Native.String.{String}
 use lib.IntN.{ℤ, pos, negℤ}
 use lib.Ieee.{nanBits}
 use lib.ListN.{length}
+use Rattle.lists.specs.Ascii.{ascii}
 use Rattle.registers.specs.Registers.{join, tooWide}
 use Rattle.point_types.specs.Rows.{rows, rowAmong}
 use Rattle.values.specs.Classes.{twosComplement, integer, inRange, classOf, classified}
@@ -49,11 +49,6 @@ float32 = 14
 -- The value of a type whose first registers are these two.
 abbrev decodes : ℕ → ℕ → ℕ → Decoded → Line
 decodes type first second answer = (value (decoded type (first ∷ second ∷ 0 ∷ 0 ∷ [])), value answer)
-
--- The ASCII codes of a text.
-abbrev ascii : String → List ℕ
-ascii []ˢ = []
-ascii (c ∷ˢ cs) = code c ∷ ascii cs
 
 -- A number, here an int16, with its scale factor.
 abbrev quantity : ℤ → ℤ → Amount

@@ -4,7 +4,8 @@ use mathlib.Core.Path.{_≡_, refl}
 use mathlib.Core.List.{List, [], _∷_, _++_, map}
 use Prim.Native.Nat.{ℕ}
 use lib.ListN.{replicate}
-use Rattle.input.specs.Lines.{ascii, lines}
+use Rattle.lists.specs.Ascii.{ascii}
+use Rattle.input.specs.Lines.{lines}
 use Rattle.input.specs.Digits.{digitValue, isDigit, digitOr0, wordsOf}
 use Rattle.input.specs.Parsing.{Input, refused, words, mapFrom, catalogFrom, parsed}
 

@@ -1,17 +1,13 @@
 -- The digits by their codes: which bytes have a value, and that it is under 16. Whether all bytes of a line are digits.
 use mathlib.Core.Path.{_≡_, refl, sym}
 use mathlib.Core.Bool.{Bool, true, false, _&&_}
-use mathlib.Core.List.{List}
 use mathlib.Core.Option.{Option, none, some}
 use Prim.Native.Nat.{ℕ, _+_, _-_, _≤_, _<_}
-use native.Mathlib.Numerals.{add-one}
 use native.Mathlib.Omega.{arith}
 use borrow.Author.Tests.{le-leb, lt-leb, leb-true}
 use lib.Dec.{leb}
-use lib.ListN.{length, getD, drop, drop-of-length-le}
-use lib.Seq.{drop-cons}
 use Rattle.lists.proofs.TestOutcomes.{impossible, clash, by-test}
-use Rattle.input.specs.Digits.{digitValue, isDigit, digitOr0, areDigits}
+use Rattle.input.specs.Digits.{digitValue}
 
 module _ (b : ℕ) where
   within : (first last : ℕ) → first ≤ b → b ≤ last → (leb first b && leb b last) ≡ true
@@ -82,32 +78,3 @@ value-small b v =
     (λ _. by-test Small (leb 65 b && leb b 70) (λ t e. let q : b - 65 + 10 ≡ v = cc in omega (arith, inside b 65 70 t))
     (λ _. by-test Small (leb 97 b && leb b 102) (λ t e. let q : b - 97 + 10 ≡ v = cc in omega (arith, inside b 97 102 t))
     (λ _ e. impossible (cc))))
-
--- A byte with a value is a digit of that value, and one without is none.
-module _ (b : ℕ) where
-  pub is-digit : (v : ℕ) → digitValue b ≡ some v → isDigit b ≡ true
-  unfolding isDigit
-  is-digit v e = simp (isDigit, e)
-
-  pub is-no-digit : digitValue b ≡ none → isDigit b ≡ false
-  unfolding isDigit
-  is-no-digit e = simp (isDigit, e)
-
-  pub digit-of-value : (v : ℕ) → digitValue b ≡ some v → digitOr0 b ≡ v
-  unfolding digitOr0
-  digit-of-value v e = simp (digitOr0, e)
-
-  pub digit-of-none : digitValue b ≡ none → digitOr0 b ≡ 0
-  unfolding digitOr0
-  digit-of-none e = simp (digitOr0, e)
-
--- From the byte at i on.
-module _ (bs : List ℕ) (i : ℕ) (h : i < length bs) where
-  pub digits-on : isDigit (getD bs i 0) ≡ true → areDigits (drop i bs) ≡ areDigits (drop (i + 1) bs)
-  digits-on e = rw (drop-cons bs i 0 h, add-one i) (simp e)
-
-  pub digits-not : isDigit (getD bs i 0) ≡ false → areDigits (drop i bs) ≡ false
-  digits-not e = rw (drop-cons bs i 0 h) (simp e)
-
-pub digits-end : (bs : List ℕ) (i : ℕ) → length bs ≤ i → areDigits (drop i bs) ≡ true
-digits-end bs i h = rw (drop-of-length-le bs h)

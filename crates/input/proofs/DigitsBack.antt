@@ -10,8 +10,9 @@ use borrow.Author.Tests.{ltb-true, ltb-false, le-leb, lt-leb}
 use lib.Dec.{ltb}
 use lib.ListN.{length}
 use Rattle.lists.proofs.TestOutcomes.{by-test}
+use Rattle.registers.specs.Registers.{AreRegisters}
 use Rattle.input.specs.Digits.{isBetween, digitValue, isDigit, areDigits, digitOr0, word, wordsOf}
-use Rattle.input.specs.Writing.{AreWords, hexDigit, hexDigits}
+use Rattle.input.specs.Writing.{hexDigit, hexDigits}
 
 -- A byte of a range of characters, and one behind it.
 module _ (first last : Char) (b : ℕ) where
@@ -59,12 +60,12 @@ word-back w h =
     ) (omega arith)
 
 -- The digits of words: the words that they are read as, that they are digits, and how many there are.
-pub words-back : (ws : List ℕ) → AreWords ws → wordsOf (hexDigits ws) ≡ ws
+pub words-back : (ws : List ℕ) → AreRegisters ws → wordsOf (hexDigits ws) ≡ ws
 unfolding wordsOf
 words-back [] small = refl
 words-back (w ∷ ws) small = simp (wordsOf, word-back w (small .0), words-back ws (small .1))
 
-pub are-digits : (ws : List ℕ) → AreWords ws → areDigits (hexDigits ws) ≡ true
+pub are-digits : (ws : List ℕ) → AreRegisters ws → areDigits (hexDigits ws) ≡ true
 are-digits [] small = refl
 are-digits (w ∷ ws) small =
     let h = small .0 in

@@ -4,13 +4,15 @@ use mathlib.Core.List.{List, [], _∷_, _++_, append-nil}
 use Prim.Native.Nat.{ℕ, zero, suc, _+_, _-_, _*_, _/_, _≤_, _<_}
 use native.Mathlib.Omega.{arith}
 use lib.ListN.{length, take, drop, take-append-drop, length-take, length-drop}
+use Rattle.registers.specs.Registers.{AreRegisters}
+use Rattle.registers.proofs.RegisterParts.{first-registers, later-registers}
 use Rattle.input.specs.Lines.{lineFeed, lines}
 use Rattle.input.specs.Parsing.{words, withFrame, withRegisters, mapFrom, catalogFrom, parsed}
-use Rattle.input.specs.Writing.{AreWords, linesOfWords, written}
-use Rattle.input.proofs.WrittenLines.{words-take, words-drop, first-line, registers-back, frame-back}
+use Rattle.input.specs.Writing.{linesOfWords, written}
+use Rattle.input.proofs.WrittenLines.{first-line, registers-back, frame-back}
 
 -- A map, in as many lines as it needs.
-map-back : (count number room : ℕ) (map : List ℕ) → AreWords map
+map-back : (count number room : ℕ) (map : List ℕ) → AreRegisters map
     → length map ≤ 16 * count → 16 * count < length map + 16 → length map ≤ room
     → mapFrom number room (lines (linesOfWords count 16 map ++ [])) ≡ words [] map
 unfolding linesOfWords lines mapFrom
@@ -22,14 +24,14 @@ map-back (suc count) number room map small high low fits =
     let later = lines (linesOfWords count 16 behind ++ []) in
     let n = length-take 16 map in
     let d = length-drop 16 map in
-    let back = map-back count (number + 1) (room - length line) behind (words-drop 16 map small) in
+    let back = map-back count (number + 1) (room - length line) behind (later-registers 16 map small) in
     ap (mapFrom number room) (first-line count 16 map [] small)
-    ∙ registers-back line (words-take 16 map small) number later room (omega arith) (omega arith) (omega arith)
+    ∙ registers-back line (first-registers 16 map small) number later room (omega arith) (omega arith) (omega arith)
     ∙ ap (withRegisters line) (back (omega arith) (omega arith) (omega arith))
     ∙ ap (words []) (take-append-drop 16 map)
 
 -- A catalog, an empty line and a rest that is read as a map.
-catalog-back : (k number frames registers : ℕ) (catalog map rest : List ℕ) → AreWords catalog → length catalog ≡ 8 * k
+catalog-back : (k number frames registers : ℕ) (catalog map rest : List ℕ) → AreRegisters catalog → length catalog ≡ 8 * k
     → k ≤ frames
     → ((n : ℕ) → mapFrom n registers (lines rest) ≡ words [] map)
     → catalogFrom number frames registers (lines (linesOfWords k 8 catalog ++ lineFeed ∷ rest)) ≡ words catalog map
@@ -42,15 +44,15 @@ catalog-back (suc k) number frames registers catalog map rest small e fits back 
     let later = lines (linesOfWords k 8 behind ++ lineFeed ∷ rest) in
     let n = length-take 8 catalog in
     let d = length-drop 8 catalog in
-    let small′ = words-drop 8 catalog small in
+    let small′ = later-registers 8 catalog small in
     ap (catalogFrom number frames registers) (first-line k 8 catalog (lineFeed ∷ rest) small)
-    ∙ frame-back line (words-take 8 catalog small) number later frames registers (omega arith) (omega arith)
+    ∙ frame-back line (first-registers 8 catalog small) number later frames registers (omega arith) (omega arith)
     ∙ ap (withFrame line)
     (catalog-back k (number + 1) (frames - 1) registers behind map rest small′ (omega arith) (omega arith) back)
     ∙ ap (λ ws. words ws map) (take-append-drop 8 catalog)
 
 -- A catalog of whole frames and a map, if there is room for both, are read back.
-pub read-back : (catalog map : List ℕ) (k frames registers : ℕ) → AreWords catalog → AreWords map
+pub read-back : (catalog map : List ℕ) (k frames registers : ℕ) → AreRegisters catalog → AreRegisters map
     → length catalog ≡ 8 * k → k ≤ frames → length map ≤ registers
     → parsed (written catalog map) frames registers ≡ words catalog map
 read-back catalog map k frames registers smallCatalog smallMap e fits room =

@@ -2,16 +2,18 @@
 use mathlib.Core.Path.{_≡_, refl, sym, ap, _∙_}
 use mathlib.Core.Bool.{true, false}
 use mathlib.Core.List.{List, [], _∷_, _++_, append-assoc}
-use Prim.Native.Nat.{ℕ, zero, suc, _+_, _-_, _%_, _≤_}
+use Prim.Native.Nat.{ℕ, suc, _+_, _-_, _%_, _≤_}
 use native.Mathlib.Omega.{arith}
 use borrow.Author.Tests.{eq-eqb, ne-eqb, le-leb, le-ltb}
 use lib.Dec.{eqb}
 use lib.ListN.{length, take, drop}
 use Rattle.lists.proofs.TestOutcomes.{clash, both}
+use Rattle.registers.specs.Registers.{AreRegisters}
+use Rattle.registers.proofs.RegisterParts.{first-registers}
 use Rattle.input.specs.Lines.{lineFeed, withByte, lines}
 use Rattle.input.specs.Digits.{digitValue, isDigit, areDigits}
 use Rattle.input.specs.Parsing.{isCatalogLine, isMapLine, withFrame, withRegisters, mapFrom, catalogFrom}
-use Rattle.input.specs.Writing.{AreWords, hexDigits, linesOfWords}
+use Rattle.input.specs.Writing.{hexDigits, linesOfWords}
 use Rattle.input.proofs.DigitsBack.{words-back, are-digits, digits-length}
 
 -- ---- Lines
@@ -34,29 +36,18 @@ line-back (b ∷ l) rest e =
     let d = both (isDigit b) (areDigits l) e in
     next-byte b (l ++ lineFeed ∷ rest) (no-line-feed b (d .0)) ∙ ap (withByte b) (line-back l rest (d .1))
 
--- The first words, and the words behind them, are words.
-pub words-take : (n : ℕ) (ws : List ℕ) → AreWords ws → AreWords (take n ws)
-words-take zero ws h = tt
-words-take (suc n) [] h = tt
-words-take (suc n) (w ∷ ws) h = (h .0, words-take n ws (h .1))
-
-pub words-drop : (n : ℕ) (ws : List ℕ) → AreWords ws → AreWords (drop n ws)
-words-drop zero ws h = h
-words-drop (suc n) [] h = tt
-words-drop (suc n) (w ∷ ws) h = words-drop n ws (h .1)
-
 -- The first of the lines.
-pub first-line : (count width : ℕ) (ws rest : List ℕ) → AreWords ws
+pub first-line : (count width : ℕ) (ws rest : List ℕ) → AreRegisters ws
     → lines (linesOfWords (suc count) width ws ++ rest)
     ≡ hexDigits (take width ws) ∷ lines (linesOfWords count width (drop width ws) ++ rest)
 unfolding linesOfWords
 first-line count width ws rest small =
     let behind = linesOfWords count width (drop width ws) ++ rest in
-    rw append-assoc (line-back (hexDigits (take width ws)) behind (are-digits (take width ws) (words-take width ws small)))
+    rw append-assoc (line-back (hexDigits (take width ws)) behind (are-digits (take width ws) (first-registers width ws small)))
 
 -- ---- What a line gives
 
-module _ (ws : List ℕ) (small : AreWords ws) (number : ℕ) (ls : List (List ℕ)) where
+module _ (ws : List ℕ) (small : AreRegisters ws) (number : ℕ) (ls : List (List ℕ)) where
   -- 1 to 16 words as a line of the map.
   pub registers-back : (room : ℕ) → 1 ≤ length ws → length ws ≤ 16 → length ws ≤ room
       → mapFrom number room (hexDigits ws ∷ ls) ≡ withRegisters ws (mapFrom (number + 1) (room - length ws) ls)

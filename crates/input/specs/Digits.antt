@@ -5,6 +5,7 @@ use mathlib.Core.Option.{Option, none, some}
 use Prim.Native.Nat.{ℕ, _+_, _-_, _*_}
 use Prim.Native.Char.{Char, code}
 use lib.Dec.{leb}
+use Rattle.lists.specs.Tests.{every}
 
 -- Is the byte one of the characters from the first to the last?
 abbrev pub isBetween : Char → Char → ℕ → Bool
@@ -28,8 +29,7 @@ isDigit b = elim (digitValue b) [ some v ↦ true | none ↦ false ]
 
 -- Are all these bytes digits?
 abbrev pub areDigits : List ℕ → Bool
-areDigits [] = true
-areDigits (b ∷ bs) = isDigit b && areDigits bs
+areDigits bs = every isDigit bs
 
 -- The value of a digit, and 0 for any other byte.
 unfoldable pub digitOr0 : ℕ → ℕ

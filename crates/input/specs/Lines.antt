@@ -3,13 +3,7 @@ use mathlib.Core.Bool.{true, false}
 use mathlib.Core.List.{List, [], _∷_}
 use Prim.Native.Nat.{ℕ}
 use Prim.Native.Char.{code}
-use Prim.Native.String.{String, [] as noCharacters, _∷_ as _then_}
 use lib.Dec.{eqb}
-
--- The bytes of a text of ASCII characters.
-abbrev pub ascii : String → List ℕ
-ascii noCharacters = []
-ascii (c then cs) = code c ∷ ascii cs
 
 -- LF, the byte that ends a line.
 abbrev pub lineFeed : ℕ

@@ -1,16 +1,11 @@
 -- A catalog and a register map written as a text. (No code writes such texts; they show that every catalog and map can be given.)
 use mathlib.Core.Bool.{true, false}
 use mathlib.Core.List.{List, [], _∷_, _++_}
-use Prim.Native.Nat.{ℕ, zero, suc, _+_, _-_, _/_, _%_, _<_}
+use Prim.Native.Nat.{ℕ, zero, suc, _+_, _-_, _/_, _%_}
 use Prim.Native.Char.{code}
 use lib.Dec.{ltb}
 use lib.ListN.{length, take, drop}
-use Rattle.lists.specs.Each.{Each}
 use Rattle.input.specs.Lines.{lineFeed}
-
--- Numbers that are words, of 16 bits.
-abbrev pub AreWords : List ℕ → Type 0
-AreWords = Each (λ w. w < 65536)
 
 -- The digit of a value from 0 to 15.
 abbrev pub hexDigit : ℕ → ℕ

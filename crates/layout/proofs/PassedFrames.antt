@@ -2,14 +2,14 @@
 use mathlib.Core.Path.{_≡_, refl, sym, ap, _∙_}
 use mathlib.Core.Bool.{false}
 use mathlib.Core.List.{List, [], _∷_, _++_}
-use Prim.Native.Nat.{ℕ, _+_, _/_, _≤_, _<_}
+use Prim.Native.Nat.{ℕ, zero, suc, _+_, _-_, _/_, _≤_, _<_}
 use native.Mathlib.Omega.{arith}
 use lib.ListN.{length, length-append}
-use Rattle.catalog.specs.Frames.{Point, Frame, endFrame, frameIn}
+use Rattle.catalog.specs.Frames.{Point, Frame, modelFrame, groupFrame, pointFrame, endFrame, malformed, frameIn}
 use Rattle.catalog.specs.Definitions.{Groups, noGroup, group, Content, pointFrames, groupFrames}
 use Rattle.catalog.proofs.ModelFrames.{restFrames}
-use Rattle.layout.specs.Walks.{onward, heldAt, Stands, pastEnd, openBehind, isModelOf}
-use Rattle.layout.proofs.Standing.{length-onward, at-point, at-group, at-end, rest-there, rest-within}
+use Rattle.layout.specs.Walks.{onward, heldAt, Stands, pastEnd, openBehind, framesToEnd, framesOfGroup, isModelOf}
+use Rattle.layout.proofs.Standing.{length-onward, onward-more, onward-none, stands-within, at-point, at-group, at-end, rest-there, rest-within}
 
 -- What open groups still hold, behind a frame that is passed: its frames stand there, and it is no model frame.
 pub record Passed (ws : List ℕ) (i : ℕ) (cs : List Content) (rest : List Frame) : Type 0 where
@@ -130,3 +130,61 @@ module _ (ws : List ℕ) (first at depth : ℕ) (p : Passing ws first at depth) 
           let w = p .within in
           let i = p .inside in
           omega arith
+
+-- ---- The number of frames to the end
+
+-- With no open group left, or no frame left, the end is reached.
+pub at-the-end : (fs : List Frame) → framesToEnd fs 0 ≡ 0
+unfolding framesToEnd
+at-the-end [] = refl
+at-the-end (f ∷ fs) = refl
+
+pub no-frame-left : (ws : List ℕ) (at depth : ℕ) → length ws / 8 ≤ at → framesToEnd (onward ws at) depth ≡ 0
+unfolding framesToEnd
+no-frame-left ws at depth h = rw (onward-none ws at h)
+
+-- Any other frame is one of them, and the others are counted from the next frame on.
+pub one-frame-nearer : (ws : List ℕ) (at depth : ℕ) → at < length ws / 8 → 0 < depth
+    → framesToEnd (onward ws at) depth ≡ suc (framesToEnd (onward ws (at + 1)) (openBehind (frameIn ws at) depth))
+unfolding framesToEnd
+one-frame-nearer ws at zero h d = absurd (omega arith)
+one-frame-nearer ws at (suc depth) h d = rw (onward-more ws at h)
+
+-- A frame opens one group at most.
+pub opens-one : (f : Frame) (depth : ℕ) → openBehind f depth ≤ depth + 1
+opens-one (groupFrame h) depth = omega arith
+opens-one endFrame depth = omega arith
+opens-one (modelFrame id) depth = omega arith
+opens-one (pointFrame p) depth = omega arith
+opens-one malformed depth = omega arith
+
+-- The frames of a group, by whether there is a frame i.
+pub group-begins : (ws : List ℕ) (i : ℕ) → i < length ws / 8
+    → framesOfGroup (onward ws i) ≡ suc (framesToEnd (onward ws (i + 1)) 1)
+group-begins ws i h = rw (onward-more ws i h)
+
+pub no-group-begins : (ws : List ℕ) (i : ℕ) → length ws / 8 ≤ i → framesOfGroup (onward ws i) ≡ 0
+no-group-begins ws i h = rw (onward-none ws i h)
+
+-- From any frame on the way, the count leads past the end of the group.
+to-the-end : (n : ℕ) (ws : List ℕ) (first at depth : ℕ) → at + n ≡ length ws / 8 → Passing ws first at depth
+    → at + framesToEnd (onward ws at) depth ≡ pastEnd ws first
+to-the-end zero ws first at depth e p =
+    let few = passing-few ws first at depth p in
+    let done = passing-done ws first at depth p (omega arith) in
+    omega (arith, no-frame-left ws at depth (omega arith))
+to-the-end (suc n) ws first at zero e p =
+    let done = passing-done ws first at 0 p (omega arith) in
+    omega (arith, at-the-end (onward ws at))
+to-the-end (suc n) ws first at (suc depth) e p =
+    let next = passing-next ws first at (suc depth) p (omega arith) in
+    let rest = to-the-end n ws first (at + 1) (openBehind (frameIn ws at) (suc depth)) (omega arith) next in
+    omega (arith, one-frame-nearer ws at (suc depth) (omega arith) (omega arith))
+
+-- Where a group is open after frame i, frame i and the frames to the end of that group lead past its end.
+pub group-passed : (ws : List ℕ) (i : ℕ) → Stands ws (i + 1) → i + framesOfGroup (onward ws i) ≡ pastEnd ws (i + 1)
+group-passed ws i s =
+    let inside = stands-within ws (i + 1) s in
+    let n = length ws / 8 - (i + 1) in
+    let counted = to-the-end n ws (i + 1) (i + 1) 1 (omega arith) (passing-start ws (i + 1) s) in
+    omega (arith, group-begins ws i (omega arith))

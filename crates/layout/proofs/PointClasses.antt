@@ -1,24 +1,31 @@
 -- The class of a point's registers, by what the code looks at: the raw value of up to four, and whether all of more are 0.
-use mathlib.Core.Path.{_≡_, refl, sym, ap, _∙_}
+use mathlib.Core.Path.{_≡_, refl, sym, ap, subst, _∙_}
 use mathlib.Core.Bool.{Bool, true, false, _&&_}
 use mathlib.Core.List.{List, [], _∷_}
 use mathlib.Core.Option.{Option, none, some}
-use Prim.Native.Nat.{ℕ, suc, _*_, _^_, _≤_, _<_}
+use Prim.Native.Nat.{ℕ, suc, _+_, _*_, _^_, _≤_, _<_}
 use native.Mathlib.Nat.{pow-le-pow-right}
 use native.Mathlib.Decide.{decLe}
 use native.Mathlib.Omega.{arith}
-use borrow.Author.Tests.{ne-eqb, lt-leb, leb-true}
+use borrow.Author.Tests.{eqb-true, eqb-false, ne-eqb, le-leb, lt-leb, leb-true}
 use lib.Dec.{leb}
-use lib.ListN.{length, getD}
+use lib.ListN.{length, getD, take, drop, length-drop, take-append-drop}
+use lib.Seq.{length-take-le}
 use Rattle.lists.proofs.TestOutcomes.{impossible, clash, both}
-use Rattle.registers.specs.Registers.{AreRegisters, join, tooWide}
+use Rattle.lists.proofs.EachLaws.{each-parts, each-drop}
+use Rattle.registers.specs.Registers.{AreRegisters, join, allZero, tooWide}
 use Rattle.registers.proofs.Joining.{sixteen-each}
+use Rattle.registers.proofs.RegisterParts.{zero-joined}
 use Rattle.registers.proofs.Splitting.{join-bound}
 use Rattle.point_types.specs.Rows.{TypeRow, pattern, whole, rows, rowAmong, rowOf, registersOf}
 use Rattle.point_types.proofs.Table.{no-row-outside, four-registers}
-use Rattle.values.specs.Classes.{Class, value, isUnimplemented, inRange, classOf, ofClass, classified}
+use Rattle.values.specs.Classes.{Class, value, isUnimplemented, inRange, classOf, Classified, ofClass, classified}
 use Rattle.values.proofs.ClassCases.{in-range, of-class}
+use Rattle.catalog.specs.Frames.{Point}
 use Rattle.catalog.specs.Rules.{isSizeOf}
+use Rattle.layout.specs.Points.{registersAt}
+use Rattle.layout.specs.Answers.{registersClass, ShownOf}
+use Rattle.layout.specs.declared.points.Shown.{Shown}
 
 -- The row of a type and its size by it.
 pub row-of-size : (code size : ℕ) → isSizeOf code size ≡ true → (r : TypeRow) × (rowOf code ≡ some r) × (size ≤ r .most)
@@ -73,7 +80,7 @@ wide-class code raw r e w fits n =
     of-class code raw r e (lt-leb (2 ^ (16 * r .most)) raw fits) ∙ ap ofClass (in-range r raw given range)
 
 -- Elements that are all 16 bits are registers.
-pub each-register : (rs : List ℕ) → ((k : ℕ) → getD rs k 0 < 65536) → AreRegisters rs
+each-register : (rs : List ℕ) → ((k : ℕ) → getD rs k 0 < 65536) → AreRegisters rs
 each-register [] h = tt
 each-register (r ∷ rs) h = (h 0, each-register rs (λ k. h (suc k)))
 
@@ -93,7 +100,7 @@ always-classed code rs s a =
     (classOf r (join rs), of-class code (join rs) r (row .1) (lt-leb (2 ^ (16 * r .most)) (join rs) (fits-type rs r a (row .2))))
 
 -- Of more than four registers that are not all 0, the class is that of 1.
-pub wide-value : (code : ℕ) (rs : List ℕ) → isSizeOf code (length rs) ≡ true → 4 < length rs → AreRegisters rs → (join rs ≡ 0 → ⊥)
+wide-value : (code : ℕ) (rs : List ℕ) → isSizeOf code (length rs) ≡ true → 4 < length rs → AreRegisters rs → (join rs ≡ 0 → ⊥)
     → classified code 1 ≡ classified code (join rs)
 wide-value code rs s w a n =
     let row = row-of-size code (length rs) s in
@@ -103,3 +110,51 @@ wide-value code rs s w a n =
     let bound = fits-type rs r a most in
     let one : 1 < 2 ^ (16 * r .most) = omega (arith, bound) in
     wide-class code 1 r e (omega arith) one (λ q. omega arith) ∙ sym (wide-class code (join rs) r e (omega arith) bound n)
+
+-- ---- The class that is found of any registers
+
+module _ (code : ℕ) (rs : List ℕ) where
+  -- Up to four.
+  pub few-class : length rs ≤ 4 → registersClass code rs ≡ classified code (join rs)
+  unfolding registersClass
+  few-class few = simp (registersClass, le-leb (length rs) 4 few)
+
+  -- More than four that are all 0, or not.
+  pub zero-class : 4 < length rs → allZero rs ≡ true → registersClass code rs ≡ classified code 0
+  unfolding registersClass
+  zero-class many e = simp (registersClass, lt-leb (length rs) 4 many, e)
+
+  pub other-class : 4 < length rs → allZero rs ≡ false → registersClass code rs ≡ classified code 1
+  unfolding registersClass
+  other-class many e = simp (registersClass, lt-leb (length rs) 4 many, e)
+
+  -- For registers of a size that the type may have, it is the class of their raw value.
+  pub sized-class : isSizeOf code (length rs) ≡ true → AreRegisters rs → registersClass code rs ≡ classified code (join rs)
+  sized-class s a = go (decLe (length rs) 4) (allZero rs) refl
+    where
+      go : Dec (length rs ≤ 4) → (b : Bool) → allZero rs ≡ b → registersClass code rs ≡ classified code (join rs)
+      go (yes few) b e = few-class few
+      go (no n) true e =
+          zero-class (omega arith) e ∙ ap (classified code) (sym (eqb-true (join rs) 0 (sym (zero-joined rs) ∙ e)))
+      go (no n) false e =
+          other-class (omega arith) e
+          ∙ wide-value code rs s (omega arith) a (eqb-false (join rs) 0 (sym (zero-joined rs) ∙ e))
+
+-- What is shown of the registers of a point in a body: by the class of their raw value.
+pub shown-at : (p : Point) (body : List ℕ) (offset : ℕ) → ((k : ℕ) → getD body k 0 < 65536)
+    → isSizeOf (p .typeCode) (p .size) ≡ true → offset + p .size ≤ length body
+    → (rs : List ℕ) → rs ≡ registersAt body offset p → (register : ℕ) (r : Shown)
+    → ShownOf p (registersClass (p .typeCode) rs) rs register r
+    → ShownOf p (classified (p .typeCode) (join (registersAt body offset p))) (registersAt body offset p) register r
+shown-at p body offset words sized inside rs e register r shown =
+    let Is16 : ℕ → Type 0 = λ n. n < 65536 in
+    let rest = drop offset body in
+    let fits : p .size ≤ length rest = rw length-drop (omega arith) in
+    let n = length-take-le (p .size) rest fits in
+    let size = subst (λ (k : ℕ). isSizeOf (p .typeCode) k ≡ true) (sym n) sized in
+    let after = each-drop Is16 offset body (each-register body words) in
+    let parts = subst AreRegisters (sym (take-append-drop (p .size) rest)) after in
+    let own = each-parts Is16 (take (p .size) rest) (drop (p .size) rest) parts .0 in
+    let class = sized-class (p .typeCode) (registersAt body offset p) size own in
+    subst (λ (x : Classified). ShownOf p x (registersAt body offset p) register r) class
+    (subst (λ (qs : List ℕ). ShownOf p (registersClass (p .typeCode) qs) qs register r) e shown)

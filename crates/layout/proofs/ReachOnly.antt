@@ -151,7 +151,7 @@ unfolding entered
 alike-entered body level n at ps enclosing i j h =
     record {
       samePath = ap (λ path. set path (level - 2) n) (h .samePath);
-      agree = reach-agrees body at ps enclosing (i .scope) (j .scope) (h .agree);
+      agree = reach-agrees body _ ps enclosing (i .scope) (j .scope) (h .agree);
     }
 
 module _ (body : List ℕ) (fill : ℕ) (top : List Point) (s s′ : Scope) (counts : Agree top s s′) where

@@ -1,6 +1,6 @@
 -- The two ways in which a model with points is read: with its last pad left out, or in full.
-use mathlib.Core.Path.{_≡_, refl, sym, subst}
-use mathlib.Core.Bool.{Bool, true, false}
+use mathlib.Core.Path.{_≡_, subst}
+use mathlib.Core.Bool.{true, false}
 use mathlib.Core.List.{List, [], _∷_}
 use Prim.Native.Nat.{ℕ, _≤_}
 use native.Mathlib.Omega.{arith}
@@ -9,12 +9,13 @@ use lib.Dec.{ltb}
 use lib.ListN.{length}
 use Rattle.lists.specs.Each.{Each}
 use Rattle.lists.specs.Members.{In, first, later}
+use Rattle.lists.proofs.TestOutcomes.{impossible, by-test}
 use Rattle.catalog.specs.Frames.{Point, sunssf, pad}
 use Rattle.catalog.specs.Definitions.{Content, pointsSize}
 use Rattle.catalog.specs.Soundness.{ScaleResolves}
 use Rattle.layout.specs.Points.{ModelPoint}
 use Rattle.layout.specs.Layout.{topScope, countUnimplemented, fits, topInstance, pointsAt, contentAt}
-use Rattle.layout.specs.Reading.{Reading, faulty, points, belowTopPoints, countPointUnimplemented, notTheSize, endsWithPad, allButLast, padLeftOut, laidOut, readBy}
+use Rattle.layout.specs.Reading.{Fault, Reading, unknown, faulty, points, belowTopPoints, countPointUnimplemented, notTheSize, endsWithPad, allButLast, padLeftOut, laidOut, readBy}
 use Rattle.layout.specs.Walks.{HasPoints}
 
 -- A body that is laid out in full: it has room for the top points, its counts are given, and its length is the size.
@@ -30,55 +31,23 @@ pub data HowRead (id : ℕ) (c : Content) (body : List ℕ) : Reading → Type 0
       (points (pointsAt body (topInstance (allButLast (c .points)) body) 0 (allButLast (c .points))))
   full : padLeftOut id c (length body) ≡ false → Full c body → HowRead id c body (points (contentAt c body))
 
-laid-out : (id : ℕ) (c : Content) (body : List ℕ) → padLeftOut id c (length body) ≡ false → HasPoints (laidOut c body)
-    → HowRead id c body (laidOut c body)
-unfolding laidOut
-laid-out id c body kept =
-    go (ltb (length body) (pointsSize (c .points))) (countUnimplemented (topScope (c .points) body) (c .groups)) (fits c body)
-    refl refl refl
-  where
-    go : (a b d : Bool) → ltb (length body) (pointsSize (c .points)) ≡ a
-        → countUnimplemented (topScope (c .points) body) (c .groups) ≡ b → fits c body ≡ d
-        → HasPoints (elim a [
-          | true ↦ faulty belowTopPoints
-          | false ↦ elim b [
-            | true ↦ faulty countPointUnimplemented
-            | false ↦ elim d [ false ↦ faulty notTheSize | true ↦ points (contentAt c body) ]
-          ]
-        ])
-        → HowRead id c body (elim a [
-          | true ↦ faulty belowTopPoints
-          | false ↦ elim b [
-            | true ↦ faulty countPointUnimplemented
-            | false ↦ elim d [ false ↦ faulty notTheSize | true ↦ points (contentAt c body) ]
-          ]
-        ])
-    go true b d e u f h = absurd h
-    go false true d e u f h = absurd h
-    go false false false e u f h = absurd h
-    go false false true e u f h =
-        full kept (record { room = ltb-false (length body) (pointsSize (c .points)) e; counted = u; fitting = f })
-
-pub how-read : (id : ℕ) (c : Content) (body : List ℕ) → HasPoints (readBy id c body) → HowRead id c body (readBy id c body)
-unfolding readBy
-how-read id c body = go (padLeftOut id c (length body)) refl
-  where
-    go : (b : Bool) → padLeftOut id c (length body) ≡ b
-        → HasPoints (elim b [
-          | true ↦ points (pointsAt body (topInstance (allButLast (c .points)) body) 0 (allButLast (c .points)))
-          | false ↦ laidOut c body
-        ])
-        → HowRead id c body (elim b [
-          | true ↦ points (pointsAt body (topInstance (allButLast (c .points)) body) 0 (allButLast (c .points)))
-          | false ↦ laidOut c body
-        ])
-    go true e h = leftOut e
-    go false e h = laid-out id c body e h
-
 module _ (id : ℕ) (c : Content) (body : List ℕ) where
   -- The points of a model whose last pad is left out.
   abbrev pub pointsLeft : List ModelPoint
   pointsLeft = pointsAt body (topInstance (allButLast (c .points)) body) 0 (allButLast (c .points))
+
+  -- What holds of a model with its pad left out, of each fault, and of a model in full holds of what is read.
+  pub by-cases : (P : Reading → Type 0) → (padLeftOut id c (length body) ≡ true → P (points pointsLeft))
+      → ((fault : Fault) → P (faulty fault))
+      → (padLeftOut id c (length body) ≡ false → Full c body → P (points (contentAt c body))) → P (readBy id c body)
+  unfolding readBy laidOut
+  by-cases P left bad whole =
+      by-test P (padLeftOut id c (length body)) left (λ kept.
+      by-test P (ltb (length body) (pointsSize (c .points))) (λ _. bad belowTopPoints) (λ r.
+      by-test P (countUnimplemented (topScope (c .points) body) (c .groups)) (λ _. bad countPointUnimplemented) (λ u.
+      by-test P (fits c body)
+      (λ f. whole kept (record { room = ltb-false (length body) (pointsSize (c .points)) r; counted = u; fitting = f }))
+      (λ _. bad notTheSize))))
 
   -- What is read in the one way,
   pub read-left : padLeftOut id c (length body) ≡ true → readBy id c body ≡ points pointsLeft
@@ -91,15 +60,21 @@ module _ (id : ℕ) (c : Content) (body : List ℕ) where
   read-full e f =
       simp (readBy, e, laidOut, le-ltb (length body) (pointsSize (c .points)) (f .room), f .counted, f .fitting)
 
+  -- How a model with points is read.
+  pub how-read : HasPoints (readBy id c body) → HowRead id c body (readBy id c body)
+  how-read = by-cases (λ r. HasPoints r → HowRead id c body r) (λ t h. leftOut t) (λ fault h. absurd h) (λ k f h. full k f)
+
   -- What holds of the points in either way holds of the points that are read.
   pub by-reading : (P : List ModelPoint → Type 0) → (padLeftOut id c (length body) ≡ true → P pointsLeft)
       → (padLeftOut id c (length body) ≡ false → Full c body → P (contentAt c body))
       → (ps : List ModelPoint) → readBy id c body ≡ points ps → P ps
-  by-reading P left whole ps e = go (readBy id c body) (how-read id c body (subst HasPoints (sym e) tt)) e
-    where
-      go : (r : Reading) → HowRead id c body r → r ≡ points ps → P ps
-      go r (leftOut t) q = let same : pointsLeft ≡ ps = cc in subst P same (left t)
-      go r (full kept f) q = let same : contentAt c body ≡ ps = cc in subst P same (whole kept f)
+  by-reading P left whole ps =
+      by-cases (λ r. r ≡ points ps → P ps) (λ t e. let same : pointsLeft ≡ ps = cc in subst P same (left t))
+      (λ fault e. impossible (cc)) (λ k f e. let same : contentAt c body ≡ ps = cc in subst P same (whole k f))
+
+  -- What a definition reads is not unknown.
+  pub not-unknown : readBy id c body ≡ unknown → ⊥
+  not-unknown = by-cases (λ r. r ≡ unknown → ⊥) (λ t e. impossible (cc)) (λ fault e. impossible (cc)) (λ k f e. impossible (cc))
 
 -- ---- Scale factors where the last pad is left out
 

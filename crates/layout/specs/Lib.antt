@@ -6,3 +6,4 @@ pub mod Paths
 pub mod Locating
 pub mod Tiling
 pub mod Walks
+pub mod Answers

@@ -3,7 +3,7 @@ use mathlib.Core.Path.{_≡_}
 use mathlib.Core.Bool.{Bool, true, false}
 use mathlib.Core.List.{List, [], _∷_, _++_}
 use mathlib.Core.Option.{Option, none, some}
-use Prim.Native.Nat.{ℕ, _+_, _-_, _/_, _≤_}
+use Prim.Native.Nat.{ℕ, zero, suc, _+_, _-_, _/_, _≤_}
 use lib.Dec.{eqb, ltb}
 use lib.ListN.{length, drop, getD, set}
 use Rattle.lists.specs.Members.{among, Distinct, In}
@@ -62,6 +62,18 @@ openBehind endFrame depth = depth - 1
 openBehind (modelFrame id) depth = depth
 openBehind (pointFrame p) depth = depth
 openBehind malformed depth = depth
+
+-- The number of frames from here to the end frame of the outermost of `depth` open groups, that one included. Where the frames
+-- end first, all of them.
+unfoldable pub framesToEnd : List Frame → ℕ → ℕ
+framesToEnd [] depth = 0
+framesToEnd (f ∷ fs) zero = 0
+framesToEnd (f ∷ fs) (suc depth) = suc (framesToEnd fs (openBehind f (suc depth)))
+
+-- The number of frames of the group whose group frame is the first of these.
+abbrev pub framesOfGroup : List Frame → ℕ
+framesOfGroup [] = 0
+framesOfGroup (f ∷ fs) = suc (framesToEnd fs 1)
 
 -- Is it the model frame of an id?
 abbrev pub isModelOf : ℕ → Frame → Bool

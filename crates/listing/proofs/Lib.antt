@@ -17,7 +17,6 @@ pub mod WalkedModels
 pub mod RecordSources
 pub mod RecordsTiling
 -- What the proofs of the functions cite: extents and surveys
-pub mod RunSteps
 pub mod ExtentSteps
 pub mod ExtentWalks
 pub mod LocatedGroups

@@ -1,6 +1,6 @@
 -- The records of one model among those of a map that is listed.
 use mathlib.Core.Path.{_≡_, refl, sym, ap, subst, _∙_}
-use mathlib.Core.Bool.{Bool, true, false}
+use mathlib.Core.Bool.{true, false}
 use mathlib.Core.List.{List, [], _∷_, _++_, map, append-nil}
 use Prim.Native.Nat.{ℕ, _+_, _<_}
 use native.Mathlib.Omega.{arith}
@@ -9,7 +9,8 @@ use lib.Dec.{eqb}
 use lib.ListN.{length}
 use Rattle.lists.specs.Each.{Each}
 use Rattle.lists.proofs.TestOutcomes.{impossible}
-use Rattle.lists.proofs.EachLaws.{each-append}
+use Rattle.lists.proofs.EachLaws.{each-append, each-map, each-all}
+use Rattle.lists.proofs.SelectedLaws.{selected-append, selected-all, selected-none}
 use Rattle.register_map.specs.Scan.{Model, sizeOf, totalSize, Ending, marked, broken}
 use Rattle.layout.specs.Points.{ModelPoint}
 use Rattle.layout.specs.Reading.{Reading, unknown, faulty, points}
@@ -19,36 +20,21 @@ use Rattle.listing.proofs.WalkSteps.{not-listed, in-front-listed, walk-
 
 -- ---- Records with an index
 
--- Records one behind the other.
-with-append : (i : ℕ) (rs ss : List Record) → recordsWith i (rs ++ ss) ≡ recordsWith i rs ++ recordsWith i ss
-unfolding recordsWith
-with-append i [] ss = refl
-with-append i (r ∷ rs) ss = go (eqb (r .index) i) (with-append i rs ss)
-  where
-    go : (b : Bool) → recordsWith i (rs ++ ss) ≡ recordsWith i rs ++ recordsWith i ss
-        → elim b [ true ↦ r ∷ recordsWith i (rs ++ ss) | false ↦ recordsWith i (rs ++ ss) ]
-        ≡ elim b [ true ↦ r ∷ recordsWith i rs | false ↦ recordsWith i rs ] ++ recordsWith i ss
-    go true e = ap (λ rest. r ∷ rest) e
-    go false e = e
-
--- Those of another index are none of them.
-with-other : (i : ℕ) (rs : List Record) → Each (λ r. r .index ≡ i → ⊥) rs → recordsWith i rs ≡ []
-unfolding recordsWith
-with-other i [] e = refl
-with-other i (r ∷ rs) e = rw (ne-eqb (r .index) i (e .0), recordsWith) (with-other i rs (e .1))
-
--- The records of the model with an index are all with it.
+-- The records of the model with an index are all with it,
 with-own : (i at : ℕ) (m : Model) (ps : List ModelPoint)
     → recordsWith i (map (recordOf i at (m .id)) ps) ≡ map (recordOf i at (m .id)) ps
-unfolding recordsWith
-with-own i at m [] = refl
-with-own i at m (p ∷ ps) = rw (eq-eqb i i refl, recordsWith) (ap (λ rest. recordOf i at (m .id) p ∷ rest) (with-own i at m ps))
+with-own i at m ps =
+    selected-all (λ r. eqb (r .index) i) (map (recordOf i at (m .id)) ps)
+    (each-map (λ r. eqb (r .index) i ≡ true) (recordOf i at (m .id)) ps
+    (each-all (λ p. eqb i i ≡ true) (λ p. eq-eqb i i refl) ps))
 
--- Those of another model are not.
-others-own : (i j at : ℕ) (m : Model) (ps : List ModelPoint) → (j ≡ i → ⊥)
-    → Each (λ r. r .index ≡ i → ⊥) (map (recordOf j at (m .id)) ps)
-others-own i j at m [] n = tt
-others-own i j at m (p ∷ ps) n = (n, others-own i j at m ps n)
+-- and those of another index are not.
+abbrev Other : ℕ → Record → Type 0
+Other i r = eqb (r .index) i ≡ false
+
+others-own : (i j at : ℕ) (m : Model) (ps : List ModelPoint) → (j ≡ i → ⊥) → Each (Other i) (map (recordOf j at (m .id)) ps)
+others-own i j at m ps n =
+    each-map (Other i) (recordOf j at (m .id)) ps (each-all (λ p. eqb j i ≡ false) (λ p. ne-eqb j i n) ps)
 
 -- ---- Walking
 
@@ -90,22 +76,22 @@ module _ (read : Model → Reading) (ending : Ending) where
 
   -- From an index on, no record has a lower one.
   records-above : (ms : List Model) (i at : ℕ) (rs : List Record) (headers : ℕ)
-      → walk read ending i at ms ≡ listed rs headers → (j : ℕ) → j < i → Each (λ r. r .index ≡ j → ⊥) rs
+      → walk read ending i at ms ≡ listed rs headers → (j : ℕ) → j < i → Each (Other j) rs
   records-above [] i at rs headers e j below =
-      subst (Each (λ r. r .index ≡ j → ⊥)) (sym (end-listed i at rs headers e)) tt
+      subst (Each (Other j)) (sym (end-listed i at rs headers e)) tt
   records-above (m ∷ ms) i at rs headers e j below =
       go (read m) (walk-listed i at m ms rs headers e)
       (λ ss q. records-above ms (i + 1) (at + sizeOf m) ss headers q j (omega arith))
     where
       go : (r : Reading) → Listed i at m ms rs headers r
           → ((ss : List Record) → walk read ending (i + 1) (at + sizeOf m) ms ≡ listed ss headers
-          → Each (λ r. r .index ≡ j → ⊥) ss)
-          → Each (λ r. r .index ≡ j → ⊥) rs
+          → Each (Other j) ss)
+          → Each (Other j) rs
       go unknown l behind = behind rs l
       go (faulty fault) l behind = absurd l
       go (points ps) l behind =
           let own = others-own j i at m ps (λ q. absurd (omega arith)) in
-          let P : Record → Type 0 = λ r. r .index ≡ j → ⊥ in
+          let P : Record → Type 0 = Other j in
           subst (Each P) (sym (l .2)) (each-append P (map (recordOf i at (m .id)) ps) (l .0) own (behind (l .0) (l .1)))
 
   -- Of a model without any in front of it.
@@ -115,7 +101,7 @@ module _ (read : Model → Reading) (ending : Ending) where
     where
       none-behind : (ss : List Record) → walk read ending (i + 1) (at + sizeOf m) behind ≡ listed ss headers
           → recordsWith i ss ≡ []
-      none-behind ss q = with-other i ss (records-above behind (i + 1) (at + sizeOf m) ss headers q i (omega arith))
+      none-behind ss q = selected-none (λ r. eqb (r .index) i) ss (records-above behind (i + 1) (at + sizeOf m) ss headers q i (omega arith))
 
       go : (r : Reading) → Listed i at m behind rs headers r → RecordsOf i at m rs r
       go unknown l = none-behind rs l
@@ -123,17 +109,18 @@ module _ (read : Model → Reading) (ending : Ending) where
       go (points ps) l =
           let own = map (recordOf i at (m .id)) ps in
           ap (recordsWith i) (l .2)
-          ∙ with-append i own (l .0)
+          ∙ selected-append (λ r. eqb (r .index) i) own (l .0)
           ∙ ap (λ ss. recordsWith i own ++ ss) (none-behind (l .0) (l .1))
           ∙ append-nil (recordsWith i own)
           ∙ with-own i at m ps
 
   -- Records in front, of another index, change nothing.
-  behind-others : (j a : ℕ) (m : Model) (own ss rs : List Record) → Each (λ r. r .index ≡ j → ⊥) own → rs ≡ own ++ ss
+  behind-others : (j a : ℕ) (m : Model) (own ss rs : List Record) → Each (Other j) own → rs ≡ own ++ ss
       → (r : Reading) → RecordsOf j a m ss r → RecordsOf j a m rs r
   behind-others j a m own ss rs others e r =
       let same : recordsWith j rs ≡ recordsWith j ss =
-      ap (recordsWith j) e ∙ with-append j own ss ∙ ap (λ os. os ++ recordsWith j ss) (with-other j own others) in
+      ap (recordsWith j) e ∙ selected-append (λ r. eqb (r .index) j) own ss
+      ∙ ap (λ os. os ++ recordsWith j ss) (selected-none (λ r. eqb (r .index) j) own others) in
       go r same
     where
       go : (r : Reading) → recordsWith j rs ≡ recordsWith j ss → RecordsOf j a m ss r → RecordsOf j a m rs r

@@ -7,24 +7,28 @@ use Prim.Native.Nat.{ℕ, _+_, _*_, _/_, _≤_, _<_}
 use native.Mathlib.Omega.{arith}
 use lib.ListN.{length, getD}
 use Rattle.lists.specs.Each.{Each}
+use Rattle.registers.specs.Registers.{join}
+use Rattle.values.specs.Classes.{classified}
 use Rattle.catalog.specs.Frames.{Point, frameIn}
 use Rattle.catalog.specs.Rules.{isSizeOf}
 use Rattle.catalog.specs.Definitions.{pointsSize}
 use Rattle.layout.specs.Points.{ModelPoint, registersAt, pointAt}
 use Rattle.layout.specs.Layout.{pointsAt}
 use Rattle.layout.specs.Walks.{heldAt, pointOf, scopeIn, instanceIn, begun}
+use Rattle.layout.specs.Answers.{ShownOf}
+use Rattle.layout.specs.declared.points.Shown.{Shown}
 use Rattle.layout.proofs.Standing as standing
 use Rattle.layout.proofs.NotedPoints.{begun-past, begun-first}
 use Rattle.listing.specs.Listing.{recordNumbers, recordWidth}
-use Rattle.listing.specs.Promises.{ShownOf, recordAt, capacity, written, PointFits, RunAsks, BehindRun}
-use Rattle.listing.specs.declared.points.Shown.{Shown}
+use Rattle.listing.specs.Promises.{recordAt, capacity, written, PointFits, RunAsks, BehindRun}
 use Rattle.listing.specs.declared.records.Visit.{Visit}
 use Rattle.listing.specs.declared.records.Progress.{Progress}
 use Rattle.listing.proofs.WrittenRecords.{written-none, written-length, written-append}
 
 -- The numbers of a record from what is shown of its point.
 pub shown-numbers : (visit : Visit) (body table path : List ℕ) (offset : ℕ) (p : Point) (shown : Shown)
-    → ShownOf p (registersAt body offset p) (scopeIn table (p .scale)) shown
+    → ShownOf p (classified (p .typeCode) (join (registersAt body offset p))) (registersAt body offset p)
+    (scopeIn table (p .scale)) shown
     → visit .index ∷ visit .id ∷ p .number ∷ getD path 0 0 ∷ getD path 1 0 ∷ getD path 2 0 ∷ (visit .address + 2 + offset)
     ∷ shown .status ∷ shown .raw ∷ shown .scale ∷ []
     ≡ recordNumbers (recordAt visit (pointAt body (instanceIn table path) offset p))

@@ -6,23 +6,21 @@ use mathlib.Core.List.{List, [], _∷_, _++_, map}
 use Prim.Native.Nat.{ℕ, _+_}
 use native.Mathlib.Omega.{arith}
 use borrow.Author.Tests.{eq-eqb, ne-eqb}
-use lib.Dec.{ltb}
 use lib.ListN.{length}
-use Rattle.lists.specs.Each.{Each}
 use Rattle.lists.specs.Members.{among, Distinct, In, first, later}
-use Rattle.lists.proofs.TestOutcomes.{impossible, clash, by-test}
-use Rattle.catalog.specs.Frames.{Point}
+use Rattle.lists.proofs.EachLaws.{each-one, each-map, each-all}
+use Rattle.lists.proofs.TestOutcomes.{clash}
 use Rattle.catalog.specs.Checking.{accepted, checked}
-use Rattle.catalog.specs.Definitions.{Content, Definition, definitions, pointsSize}
+use Rattle.catalog.specs.Definitions.{Definition, definitions}
 use Rattle.catalog.specs.Soundness.{SoundDefinition, idsOf}
 use Rattle.catalog.proofs.AcceptedIsSound.{accepted-is-sound}
 use Rattle.catalog.proofs.GroupNumbers.{among-later}
 use Rattle.register_map.specs.Scan.{Model, sizeOf, totalSize, scan}
 use Rattle.layout.specs.Points.{ModelPoint}
-use Rattle.layout.specs.Layout.{topScope, countUnimplemented, fits}
-use Rattle.layout.specs.Reading.{Reading, unknown, faulty, points, padLeftOut, laidOut, readBy, reading}
+use Rattle.layout.specs.Reading.{Reading, unknown, faulty, points, readBy, reading}
 use Rattle.layout.specs.Tiling.{definedPoints, Tiles, PointsTile, BodyTiled}
 use Rattle.layout.proofs.BodyTiling.{read-tiled}
+use Rattle.layout.proofs.Readings.{not-unknown}
 use Rattle.layout.proofs.ReadingSteps.{reading-here, reading-later, unknown-left}
 use Rattle.listing.specs.Listing.{Record, recordOf, listed, walk, listing}
 use Rattle.listing.specs.Tiling.{RecordsTiled, recordsWith}
@@ -30,11 +28,6 @@ use Rattle.listing.proofs.WalksBehind.{listed-walks}
 use Rattle.listing.proofs.ModelRecords.{RecordsOf, model-records}
 
 -- ---- The definition of a model
-
--- Sound definitions, each.
-sound-one : (d : Definition) (ds : List Definition) → Each SoundDefinition ds → In d ds → SoundDefinition d
-sound-one d (other ∷ ds) e first = e .0
-sound-one d (other ∷ ds) e (later o) = sound-one d ds (e .1) o
 
 -- An id of a definition is among their ids.
 id-among : (d : Definition) (ds : List Definition) → In d ds → among (d .id) (idsOf ds) ≡ true
@@ -50,18 +43,6 @@ reading-known (other ∷ ds) distinct d (later o) m e =
     clash (sym (id-among d ds o) ∙ ap (λ n. among n (idsOf ds)) (e ∙ sym q) ∙ distinct .0) in
     reading-later other ds m (ne-eqb (other .id) (m .id) differ) ∙ reading-known ds (distinct .1) d o m e
 
--- What a definition reads is not unknown.
-not-unknown : (id : ℕ) (c : Content) (body : List ℕ) → readBy id c body ≡ unknown → ⊥
-unfolding readBy laidOut
-not-unknown id c body =
-    let W : Reading → Type 0 = λ r. r ≡ unknown → ⊥ in
-    by-test W (padLeftOut id c (length body)) (λ _ e. impossible (cc)) (λ _.
-    by-test W (ltb (length body) (pointsSize (c .points))) (λ _ e. impossible (cc)) (λ _.
-    by-test W (countUnimplemented (topScope (c .points) body) (c .groups))
-    (λ _ e. impossible (cc)) (λ _.
-    by-test W (fits c body) (λ _ e. impossible (cc))
-    (λ _ e. impossible (cc)))))
-
 -- ---- The points of one model
 
 -- By an accepted catalog, a model's points, as they are read, fill its body.
@@ -71,7 +52,7 @@ pub body-filled : (catalog : List ℕ) (n : ℕ) → checked catalog ≡ accepte
 body-filled catalog n e d o m same ps r =
     let ds = definitions catalog in
     let s = accepted-is-sound catalog n e .0 in
-    read-tiled d (sound-one d ds (s .each) o) (m .id) (m .body) ps (sym (reading-known ds (s .distinct) d o m same) ∙ r)
+    read-tiled d (each-one SoundDefinition ds (s .each) d o) (m .id) (m .body) ps (sym (reading-known ds (s .distinct) d o m same) ∙ r)
 
 -- ---- The records of a listing
 
@@ -86,18 +67,6 @@ records-tile i at m from to (p ∷ ps) t =
       t .1,
       subst (λ n. Tiles (λ r. r .address) (λ r. r .point .definition .size) n (at + 2 + to) (map (recordOf i at (m .id)) ps)) same r,
     )
-
--- What holds of what points are by holds of what their records are by.
-records-by : (P : Point → Type 0) (i at : ℕ) (m : Model) (ps : List ModelPoint) → Each (λ p. P (p .definition)) ps
-    → Each (λ r. P (r .point .definition)) (map (recordOf i at (m .id)) ps)
-records-by P i at m [] e = tt
-records-by P i at m (p ∷ ps) e = (e .0, records-by P i at m ps (e .1))
-
--- They have the model's id.
-records-named : (i at : ℕ) (m : Model) (ps : List ModelPoint) (id : ℕ) → id ≡ m .id
-    → Each (λ r. r .id ≡ id) (map (recordOf i at (m .id)) ps)
-records-named i at m [] id e = tt
-records-named i at m (p ∷ ps) id e = (sym e, records-named i at m ps id e)
 
 module _ (catalog registers : List ℕ) (room : ℕ) (rs : List Record) (headers : ℕ)
     (accept : listing catalog registers room ≡ listed rs headers)
@@ -146,9 +115,9 @@ module _ (catalog registers : List ℕ) (room : ℕ) (rs : List Record) (headers
           let T : ℕ → ℕ → Type 0 = λ x y. Tiles (λ r. r .address) (λ r. r .point .definition .size) x y own in
           subst (RecordsTiled d (at + 2) (at + sizeOf m)) (sym t)
           (record {
-            defined = records-by (λ p. In p (definedPoints d)) i at m ps (b .defined);
+            defined = each-map (λ r. In (r .point .definition) (definedPoints d)) (recordOf i at (m .id)) ps (b .defined);
             tiles = subst (λ x. T x (at + sizeOf m)) from (subst (λ y. T (at + 2 + 0) y) to tiles);
-            ids = records-named i at m ps (d .id) same;
+            ids = each-map (λ r. r .id ≡ d .id) (recordOf i at (m .id)) ps (each-all (λ p. m .id ≡ d .id) (λ p. sym same) ps);
           })
 
   -- A model that the catalog does not know has no record.

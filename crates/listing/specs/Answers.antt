@@ -2,8 +2,7 @@
 use mathlib.Core.Option.{Option, none, some}
 use mathlib.Core.List.{List}
 use Prim.Native.Nat.{ℕ}
-use Rattle.catalog.specs.Frames as Frames
-use Rattle.catalog.specs.Answers.{headForm, pointForm}
+use Rattle.catalog.specs.Answers.{pointForm}
 use Rattle.catalog.specs.Definitions.{Content}
 use Rattle.layout.specs.Locating as Locating
 use Rattle.layout.specs.Walks.{heldAt, Surveyed, surveyedUnknown, surveyedRefused, surveyedPoints}
@@ -12,8 +11,6 @@ use Rattle.listing.specs.declared.Listing as Code
 use Rattle.listing.specs.Finding as Finding
 use Rattle.listing.specs.declared.search.Finding as CodeFinding
 use Rattle.listing.specs.declared.search.Target.{Target}
-use Rattle.listing.specs.declared.frames.PointOr.{PointOr}
-use Rattle.listing.specs.declared.frames.GroupOr.{GroupOr}
 use Rattle.listing.specs.declared.frames.Found.{Found}
 use Rattle.listing.specs.declared.surveys.Survey.{Survey}
 use Rattle.listing.specs.declared.locating.Located.{Located}
@@ -32,16 +29,6 @@ abbrev pub findingForm : CodeFinding.Finding → Finding.Told
 findingForm (CodeFinding.Finding.Found t) = Finding.foundTold (targetForm t)
 findingForm CodeFinding.Finding.Nothing = Finding.nothingTold
 findingForm (CodeFinding.Finding.Refused number place) = Finding.refusedTold number place
-
--- A frame's point, if it is a point frame.
-abbrev pub pointOrForm : PointOr → Option Frames.Point
-pointOrForm (PointOr.Point p) = some (pointForm p)
-pointOrForm PointOr.Other = none
-
--- A frame's head, if it is a group frame.
-abbrev pub groupOrForm : GroupOr → Option Frames.Head
-groupOrForm (GroupOr.Group h) = some (headForm h)
-groupOrForm GroupOr.Other = none
 
 -- The top group of a definition that was found.
 abbrev pub foundForm : List ℕ → Found → Option Content

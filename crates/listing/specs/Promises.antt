@@ -9,26 +9,24 @@ use lib.ListN.{length, take, drop, getD}
 use lib.Seq.{sets}
 use Rattle.lists.specs.Each.{Each}
 use Rattle.lists.specs.Tests.{firstWith}
-use Rattle.registers.specs.Registers.{join, shownRaw}
-use Rattle.values.specs.Classes.{classified}
+use Rattle.registers.specs.Registers.{shownRaw}
 use Rattle.catalog.specs.Frames as Frames
 use Rattle.catalog.specs.Rules.{isSizeOf}
 use Rattle.catalog.specs.Definitions.{Groups, Content, pointsSize}
-use Rattle.layout.specs.Points.{ModelPoint, Scope, registersAt, statusOf, scaleOf}
+use Rattle.layout.specs.Points.{ModelPoint, Scope, registersAt}
 use Rattle.layout.specs.Layout.{countOf, groupsSize, fillSize, countUnimplemented}
 use Rattle.layout.specs.Counts.{groupsPoints, fillPoints, or0}
-use Rattle.layout.specs.Reading.{endsWithPad}
+use Rattle.layout.specs.Answers as Layout
 use Rattle.layout.specs.Locating.{Located, orElse, locatedOwn, locatedIn}
 use Rattle.layout.specs.Walks.{heldAt, Stands, pastEnd, Ready, begun, scopeIn, IsTable, AtGroups}
 use Rattle.listing.specs.Listing as Listing
 use Rattle.listing.specs.Finding as Finding
 use Rattle.layout.specs.Paths.{isPoint}
 use Rattle.listing.specs.declared.frames.Found.{Found}
-use Rattle.listing.specs.declared.extents.Run.{Run}
+use Rattle.layout.specs.declared.counts.Run.{Run}
 use Rattle.listing.specs.declared.extents.Extent.{Extent}
 use Rattle.listing.specs.declared.surveys.Survey.{Survey}
 use Rattle.listing.specs.declared.locating.Shape.{Shape}
-use Rattle.listing.specs.declared.points.Shown.{Shown}
 use Rattle.listing.specs.declared.records.Sought.{Sought}
 use Rattle.listing.specs.declared.records.Task.{Task}
 use Rattle.listing.specs.declared.records.Visit.{Visit}
@@ -40,11 +38,8 @@ FoundStands ws (Found.At i) = Stands ws i
 FoundStands ws Found.Nothing = Unit {0}
 
 -- A run is that of the points of the group at frame `first`.
-pub record RunOf (ws : List ℕ) (first : ℕ) (r : Run) : Type 0 where
-  pub size : r .size ≡ pointsSize (heldAt ws first .points)
-  pub points : r .points ≡ length (heldAt ws first .points)
-  pub next : r .next ≡ first + length (heldAt ws first .points)
-  pub pad : r .«ends_with_pad» ≡ endsWithPad (heldAt ws first .points)
+abbrev pub RunOf : List ℕ → ℕ → Run → Type 0
+RunOf ws first r = Layout.RunOf (heldAt ws first .points) first r
 
 -- An extent is that of these groups, with counts from a scope, capped.
 pub record ExtentOf (top : Scope) (gs : Groups) (r : Extent) : Type 0 where
@@ -141,12 +136,6 @@ targetAt at body l =
 abbrev pub toldAt : ℕ → Option ModelPoint → Finding.Told
 toldAt at none = Finding.nothingTold
 toldAt at (some p) = Finding.foundTold (record { address = at + 2 + p .offset; definition = p .definition; raw = p .raw })
-
--- What is shown of a point by its registers and the register of its scale point.
-pub record ShownOf (p : Frames.Point) (registers : List ℕ) (register : ℕ) (r : Shown) : Type 0 where
-  pub status : r .status ≡ statusOf p (classified (p .typeCode) (join registers)) register
-  pub raw : r .raw ≡ shownRaw registers
-  pub scale : r .scale ≡ scaleOf p (statusOf p (classified (p .typeCode) (join registers)) register) register
 
 -- The record of a point of a model that is walked.
 abbrev pub recordAt : Visit → ModelPoint → Listing.Record

@@ -1,11 +1,11 @@
 -- The records of one model tile its registers, from the one after its length to its last.
 use mathlib.Core.Path.{_≡_}
-use mathlib.Core.Bool.{true, false}
-use mathlib.Core.List.{List, [], _∷_}
+use mathlib.Core.List.{List}
 use Prim.Native.Nat.{ℕ}
 use lib.Dec.{eqb}
 use Rattle.lists.specs.Each.{Each}
 use Rattle.lists.specs.Members.{In}
+use Rattle.lists.specs.Tests.{selected}
 use Rattle.catalog.specs.Definitions.{Definition}
 use Rattle.layout.specs.Tiling.{definedPoints, Tiles}
 use Rattle.listing.specs.Listing.{Record}
@@ -17,6 +17,5 @@ pub record RecordsTiled (d : Definition) (from to : ℕ) (rs : List Record) : Ty
   pub ids : Each (λ r. r .id ≡ d .id) rs
 
 -- The records of the model with an index.
-unfoldable pub recordsWith : ℕ → List Record → List Record
-recordsWith index [] = []
-recordsWith index (r ∷ rs) = elim (eqb (r .index) index) [ true ↦ r ∷ recordsWith index rs | false ↦ recordsWith index rs ]
+abbrev pub recordsWith : ℕ → List Record → List Record
+recordsWith index = selected (λ r. eqb (r .index) index)

@@ -1,35 +1,21 @@
 // How many registers and points a model takes by its definition, before anything is written.
-use crate::frames::GroupOr;
-use crate::frames::PointOr;
-use crate::frames::group_at;
-use crate::frames::point_at;
-use catalog::CONSTANT_COUNT;
-use catalog::COUNT_BY_POINT;
 use catalog::FILL;
 use catalog::Head;
-use catalog::PAD;
+use layout::GroupOr;
+use layout::Run;
+use layout::count_of;
+use layout::group_at;
+use layout::is_unimplemented;
+use layout::run_extent;
 ghost use mathlib.Core.Path.{_≡_};
-ghost use mathlib.Core.Bool.{_&&_};
-ghost use Prim.Native.Nat.{_+_, _*_, _/_, _≤_, min};
-ghost use lib.Dec.{eqb};
-ghost use lib.ListN.{length};
-ghost use Rattle.catalog.specs.Frames.{countByPoint};
+ghost use Prim.Native.Nat.{_+_, _*_, _≤_, min};
 ghost use Rattle.catalog.specs.Answers.{headForm};
-ghost use Rattle.layout.specs.Layout.{countOf};
-ghost use Rattle.layout.specs.Walks.{heldAt, Stands, pastEnd, scopeIn, IsTable, AtGroups};
-ghost use Rattle.listing.specs.Promises.{RunOf, ExtentOf, SameExtent, WithGroup};
+ghost use Rattle.layout.specs.Walks.{heldAt, pastEnd, scopeIn, IsTable, AtGroups};
+ghost use Rattle.listing.specs.Promises.{ExtentOf, SameExtent, WithGroup};
 
 // Nested counts can make a size of more than 64 bits. No map has more registers than this, so sizes and
 // numbers of points are capped at it.
 pub(crate) const CAP: usize = 65536;
-
-// The points of a group: their registers, their number, the frame behind them, and whether the last is a pad.
-pub(crate) struct Run {
-    pub(crate) size: usize,
-    pub(crate) points: usize,
-    pub(crate) next: usize,
-    pub(crate) ends_with_pad: bool,
-}
 
 // Groups side by side: their registers and points, those of a fill group left out; the registers and points of
 // an instance of the fill group, 0 where there is none; whether a count point is unimplemented; and the
@@ -41,41 +27,6 @@ pub(crate) struct Extent {
     pub(crate) fill_points: usize,
     pub(crate) unimplemented: bool,
     pub(crate) next: usize,
-}
-
-// The points from frame `first` on.
-pub(crate) fn run_extent(catalog: &[u16], first: usize) -> Run
-    requires { ⌜ Stands (now catalog) first × (length (now catalog) / 8 ≤ 4096) ⌝ }
-    ensures { λ r. ⌜ RunOf (now (catalog .entry)) first r ⌝ }
-{
-    let frames = catalog.len() / 8;
-    let mut size = 0usize;
-    let mut ends_with_pad = false;
-    let mut i = first;
-    while i < frames {
-        let next = point_at(catalog, i);
-        match next {
-            PointOr::Point(point) => {
-                size += point.size as usize;
-                ends_with_pad = point.type_code == PAD;
-                i += 1;
-            }
-            PointOr::Other => {
-                return Run {
-                    size,
-                    points: i - first,
-                    next: i,
-                    ends_with_pad,
-                };
-            }
-        }
-    }
-    Run {
-        size,
-        points: i - first,
-        next: i,
-        ends_with_pad,
-    }
 }
 
 // The groups from frame `first` on, in a group that may hold groups of so many levels. Each frame is met once.
@@ -158,29 +109,4 @@ fn grown(sum: usize, count: usize, size: usize) -> usize
         return CAP;
     }
     grown
-}
-
-// How many instances a group has. `fill` is the count of a fill group.
-pub(crate) fn count_of(table: &[u16], head: Head, fill: usize) -> usize
-    requires { ⌜ IsTable (now table) × (fill ≤ 65535) ⌝ }
-    ensures { λ r. ⌜ r ≡ countOf (scopeIn (now (table .entry))) fill (headForm head) ⌝ }
-    ensures { λ r. ⌜ r ≤ 65535 ⌝ }
-{
-    let kind = head.count_kind;
-    match kind {
-        CONSTANT_COUNT => head.count as usize,
-        COUNT_BY_POINT => table[head.count as usize] as usize,
-        _ => fill,
-    }
-}
-
-// Does the group's count point read FFFF?
-fn is_unimplemented(table: &[u16], head: Head) -> bool
-    requires { ⌜ IsTable (now table) ⌝ }
-    ensures { λ r. ⌜ r ≡ (eqb (headForm head .countKind) countByPoint && eqb (scopeIn (now (table .entry)) (headForm head .count)) 0xFFFF) ⌝ }
-{
-    if head.count_kind != COUNT_BY_POINT {
-        return false;
-    }
-    table[head.count as usize] == 0xFFFF
 }

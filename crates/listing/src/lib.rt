@@ -3,14 +3,13 @@
 mod extents;
 mod frames;
 mod locating;
-mod points;
 mod records;
-mod scopes;
 mod search;
 mod surveys;
 
 use catalog::Checked;
 use catalog::check;
+use layout::NUMBERS;
 pub use records::InstancePath;
 use records::NO_POINT;
 use records::Sought;
@@ -24,7 +23,6 @@ use register_map::Opening;
 use register_map::header_at;
 use register_map::opened;
 use registers::part;
-use scopes::NUMBERS;
 pub use search::Finding;
 pub use search::Target;
 pub use search::find;

@@ -1,15 +1,15 @@
 // Finds one point of a model by arithmetic on its definition: each frame is read a few times, and no instance is walked.
-use crate::extents::count_of;
 use crate::extents::groups_extent;
-use crate::extents::run_extent;
-use crate::frames::GroupOr;
-use crate::frames::PointOr;
-use crate::frames::group_at;
-use crate::frames::point_at;
 use crate::records::InstancePath;
 use crate::surveys::LOWER_LEVELS;
 use catalog::Head;
 use catalog::Point;
+use layout::GroupOr;
+use layout::PointOr;
+use layout::count_of;
+use layout::group_at;
+use layout::point_at;
+use layout::run_extent;
 use registers::all_zero;
 ghost use mathlib.Core.Path.{_≡_};
 ghost use mathlib.Core.Option.{some};

@@ -1,14 +1,14 @@
 // The walk over the points of one model: their records, written into the output list, or the point sought.
-use crate::extents::count_of;
-use crate::frames::GroupOr;
-use crate::frames::PointOr;
-use crate::frames::behind_group;
-use crate::frames::group_at;
-use crate::frames::point_at;
-use crate::points::show;
-use crate::scopes::note_run;
 use crate::surveys::LOWER_LEVELS;
 use catalog::Point;
+use layout::GroupOr;
+use layout::PointOr;
+use layout::behind_group;
+use layout::count_of;
+use layout::group_at;
+use layout::note_run;
+use layout::point_at;
+use layout::show;
 use registers::part;
 use registers::raw_value;
 ghost use mathlib.Core.Path.{_≡_};

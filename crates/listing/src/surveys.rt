@@ -1,13 +1,13 @@
 // What a catalog says of one model, before anything is written: 27 to 29, or how many points it has.
 use crate::extents::Extent;
-use crate::extents::Run;
 use crate::extents::groups_extent;
-use crate::extents::run_extent;
 use crate::frames::Found;
-use crate::frames::GroupOr;
 use crate::frames::find_model;
-use crate::frames::group_at;
-use crate::scopes::note_run;
+use layout::GroupOr;
+use layout::Run;
+use layout::group_at;
+use layout::note_run;
+use layout::run_extent;
 ghost use mathlib.Core.Path.{_≡_};
 ghost use mathlib.Core.Option.{some};
 ghost use Prim.Native.Nat.{_+_, _/_, _≤_};

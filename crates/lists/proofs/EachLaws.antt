@@ -1,7 +1,7 @@
 -- Facts about each element of a list, carried over.
-use mathlib.Core.List.{List, [], _∷_, _++_}
+use mathlib.Core.List.{List, [], _∷_, _++_, map}
 use Prim.Native.Nat.{ℕ, zero, suc}
-use lib.ListN.{drop}
+use lib.ListN.{take, drop}
 use Rattle.lists.specs.Each.{Each}
 use Rattle.lists.specs.Members.{In, first, later}
 
@@ -29,7 +29,12 @@ pub each-any : {A : Type 0} (P : A → Type 0) (xs : List A) → ((x : A) → In
 each-any P [] f = tt
 each-any P (x ∷ xs) f = (f x first, each-any P xs (λ y i. f y (later i)))
 
--- Of each behind the first so many.
+-- Of each of the first i, and of each after them.
+pub each-take : {A : Type 0} (P : A → Type 0) (i : ℕ) (xs : List A) → Each P xs → Each P (take i xs)
+each-take P zero xs e = tt
+each-take P (suc i) [] e = tt
+each-take P (suc i) (x ∷ xs) e = (e .0, each-take P i xs (e .1))
+
 pub each-drop : {A : Type 0} (P : A → Type 0) (i : ℕ) (xs : List A) → Each P xs → Each P (drop i xs)
 each-drop P zero xs e = e
 each-drop P (suc i) [] e = tt
@@ -40,3 +45,13 @@ pub each-replaced : {A : Type 0} (P : A → Type 0) (front behind : List A) (x y
     → Each P (front ++ y ∷ behind)
 each-replaced P [] behind x y f e = (f (e .0), e .1)
 each-replaced P (z ∷ front) behind x y f e = (e .0, each-replaced P front behind x y f (e .1))
+
+-- Of what is made of each.
+pub each-map : {A B : Type 0} (P : B → Type 0) (f : A → B) (xs : List A) → Each (λ x. P (f x)) xs → Each P (map f xs)
+each-map P f [] e = tt
+each-map P f (x ∷ xs) e = (e .0, each-map P f xs (e .1))
+
+-- What holds of everything holds of each.
+pub each-all : {A : Type 0} (P : A → Type 0) → ((x : A) → P x) → (xs : List A) → Each P xs
+each-all P f [] = tt
+each-all P f (x ∷ xs) = (f x, each-all P f xs)

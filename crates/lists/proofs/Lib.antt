@@ -1,8 +1,10 @@
 -- Tests
 pub mod TestOutcomes
 pub mod TestLaws
+pub mod EveryLaws
 -- Lists
 pub mod EachLaws
 pub mod InLaws
 pub mod FirstFound
+pub mod SelectedLaws
 pub mod PairwiseLaws

@@ -1,3 +1,4 @@
+pub mod Ascii
 pub mod Each
 pub mod Members
 pub mod Tests

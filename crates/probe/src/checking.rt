@@ -1,34 +1,35 @@
 // The command `check CATALOG`: how many models a catalog has, or why it is refused.
 use crate::fields;
-use crate::fields::Stored;
+use crate::fields::ROOM;
+use crate::fields::WORD_DIGITS;
 use crate::output;
+use crate::plants::CATALOG_CAPACITY;
 use catalog::Checked;
-
-// How many words a line can give as the catalog: one frame more than a catalog may have.
-pub(crate) const CATALOG_CAPACITY: usize = 32776;
 
 // Answers the fields from `at` on. False, with nothing written, where they are bad.
 pub(crate) fn run(line: &[u8], at: usize) -> bool {
-    let mut catalog = [0u16; CATALOG_CAPACITY];
-    let words = fields::words_field(line, at, &mut catalog);
-    let Stored::Of { count, next } = words else {
-        return false;
-    };
-    if !fields::nothing_left(line, next) {
-        return false;
+    let mut catalog = [0u16; ROOM];
+    let stored = fields::words_field(line, at, WORD_DIGITS, CATALOG_CAPACITY, &mut catalog);
+    check_if(
+        fields::nothing_left(line, stored.next),
+        &catalog,
+        stored.count,
+    )
+}
+
+// Writes the answer where the line is good, and says whether it is.
+fn check_if(is_good: bool, catalog: &[u16; ROOM], count: usize) -> bool {
+    if is_good {
+        write_checked(fields::first(catalog, count));
     }
-    write_checked(&catalog[..count]);
-    true
+    is_good
 }
 
 // Writes what `check` answers.
 fn write_checked(catalog: &[u16]) {
     let checked = catalog::check(catalog);
     match checked {
-        Checked::Models(models) => {
-            output::text(b"models ");
-            output::unsigned(models as u64);
-        }
+        Checked::Models(models) => output::counted(output::MODELS, models as u64),
         Checked::Refused { number, place } => output::refused_at(number, place),
     }
 }

@@ -1,11 +1,11 @@
 // The command `decimal CODE RAW SCALE LENGTH`: a scaled number as text, in a buffer of LENGTH bytes.
 use crate::fields;
-use crate::fields::Number;
 use crate::output;
 use crate::quantity;
 use crate::quantity::Triple;
 use display::DecimalText;
 use display::Quantity;
+ghost use Prim.Native.Nat.{_≤_};
 
 // The longest buffer that a line can ask for.
 const CAPACITY: usize = 64;
@@ -13,27 +13,33 @@ const CAPACITY: usize = 64;
 // Answers the fields from `at` on. False, with nothing written, where they are bad.
 pub(crate) fn run(line: &[u8], at: usize) -> bool {
     let triple = quantity::triple_at(line, at);
-    let Triple::Of { quantity, next } = triple else {
-        return false;
-    };
-    let room = fields::decimal_field(line, next, CAPACITY as u64);
-    let Number::Of { value, next } = room else {
-        return false;
-    };
-    if !fields::nothing_left(line, next) {
-        return false;
+    let room = fields::decimal_field(line, triple.next, CAPACITY as u64);
+    let is_good = fields::nothing_left(line, room.next);
+    if is_good {
+        write_in(triple, room.value as usize);
     }
+    is_good
+}
+
+// Writes what `decimal` answers in a buffer of so many bytes.
+fn write_in(triple: Triple, length: usize)
+    requires { ⌜ length ≤ 64 ⌝ }
+{
+    let quantity = triple.quantity;
     let mut buffer = [0u8; CAPACITY];
-    let length = value as usize;
-    write_decimal(quantity, &mut buffer[..length]);
-    true
+    write_decimal(quantity, &mut buffer[0..length]);
 }
 
 // Writes what `decimal` answers when it is given `out`.
 fn write_decimal(quantity: Quantity, out: &mut [u8]) {
     let written = display::decimal(quantity.type_code, quantity.raw, quantity.scale, out);
+    write_written(written, out);
+}
+
+// Writes an answer of `decimal`, which put its text into `out`.
+fn write_written(written: DecimalText, out: &[u8]) {
     match written {
-        DecimalText::Length(n) => output::text(&out[..n]),
+        DecimalText::Length(n) => output::text_of(out, n),
         DecimalText::Refused { number } => output::refused(number),
     }
 }

@@ -1,49 +1,36 @@
 // The command `decode CODE WORDS`: one value from a type code and four registers.
 use crate::fields;
-use crate::fields::Number16;
-use crate::fields::Stored;
+use crate::fields::ROOM;
+use crate::fields::WORD_DIGITS;
 use crate::output;
 use values::Value;
 
 // Answers the fields from `at` on. False, with nothing written, where they are bad.
 pub(crate) fn run(line: &[u8], at: usize) -> bool {
     let code = fields::u16_field(line, at);
-    let Number16::Of { value, next } = code else {
-        return false;
-    };
-    let mut registers = [0u16; 4];
-    let words = fields::words_field(line, next, &mut registers);
-    let Stored::Of { count, next: end } = words else {
-        return false;
-    };
-    if count != 4 {
-        return false;
+    let mut words = [0u16; ROOM];
+    let stored = fields::words_field(line, code.next, WORD_DIGITS, 4, &mut words);
+    let is_good = stored.count == 4 && fields::nothing_left(line, stored.next);
+    decode_if(is_good, code.value, &words)
+}
+
+// Writes the answer where the line is good, and says whether it is.
+fn decode_if(is_good: bool, type_code: u16, words: &[u16; ROOM]) -> bool {
+    if is_good {
+        write_value(type_code, [words[0], words[1], words[2], words[3]]);
     }
-    if !fields::nothing_left(line, end) {
-        return false;
-    }
-    write_value(value, registers);
-    true
+    is_good
 }
 
 // Writes what `decode` answers.
 fn write_value(type_code: u16, registers: [u16; 4]) {
     let value = values::decode(type_code, registers);
     match value {
-        Value::Signed(n) => {
-            output::text(b"signed ");
-            output::signed(n);
-        }
-        Value::Unsigned(n) => {
-            output::text(b"unsigned ");
-            output::unsigned(n);
-        }
-        Value::Float(x) => {
-            output::text(b"float ");
-            output::hex8(f32::to_bits(x));
-        }
-        Value::Unimplemented => output::text(b"not given"),
-        Value::OutOfRange => output::text(b"out of range"),
+        Value::Signed(n) => output::signed(n),
+        Value::Unsigned(n) => output::counted(output::UNSIGNED, n),
+        Value::Float(x) => output::float(f32::to_bits(x)),
+        Value::Unimplemented => output::say(output::NOT_GIVEN),
+        Value::OutOfRange => output::say(output::OUT_OF_RANGE),
         Value::NotDecodable => output::refused(40),
     }
 }

@@ -4,31 +4,26 @@ use crate::output;
 use crate::quantity;
 use crate::quantity::Triple;
 use display::Equality;
-use display::Quantity;
 
 // Answers the fields from `at` on. False, with nothing written, where they are bad.
 pub(crate) fn run(line: &[u8], at: usize) -> bool {
     let first = quantity::triple_at(line, at);
-    let Triple::Of { quantity: a, next } = first else {
-        return false;
-    };
-    let second = quantity::triple_at(line, next);
-    let Triple::Of { quantity: b, next } = second else {
-        return false;
-    };
-    if !fields::nothing_left(line, next) {
-        return false;
+    let second = quantity::triple_at(line, first.next);
+    let is_good = fields::nothing_left(line, second.next);
+    if is_good {
+        write_equality(first, second);
     }
-    write_equality(a, b);
-    true
+    is_good
 }
 
 // Writes what `equal_quantities` answers.
-fn write_equality(a: Quantity, b: Quantity) {
+fn write_equality(first: Triple, second: Triple) {
+    let a = first.quantity;
+    let b = second.quantity;
     let equality = display::equal_quantities(a, b);
     match equality {
-        Equality::Equal => output::text(b"yes"),
-        Equality::Different => output::text(b"no"),
+        Equality::Equal => output::say(output::YES),
+        Equality::Different => output::say(output::NO),
         Equality::Refused { number } => output::refused(number),
     }
 }

@@ -1,26 +1,17 @@
 // The command `events CODE RAW`: how many bits of a bitfield are set, and which is the lowest.
 use crate::fields;
 use crate::output;
-use crate::quantity;
-use crate::quantity::TypedValue;
 use display::EventBits;
 
 // Answers the fields from `at` on. False, with nothing written, where they are bad.
 pub(crate) fn run(line: &[u8], at: usize) -> bool {
-    let typed = quantity::typed_value_at(line, at);
-    let TypedValue::Of {
-        type_code,
-        raw,
-        next,
-    } = typed
-    else {
-        return false;
-    };
-    if !fields::nothing_left(line, next) {
-        return false;
+    let code = fields::u16_field(line, at);
+    let number = fields::decimal_field(line, code.next, u64::MAX);
+    let is_good = fields::nothing_left(line, number.next);
+    if is_good {
+        write_bits(code.value, number.value);
     }
-    write_bits(type_code, raw);
-    true
+    is_good
 }
 
 // Writes what `event_bits` answers.
@@ -29,7 +20,7 @@ fn write_bits(type_code: u16, raw: u64) {
     match bits {
         EventBits::Of { count, lowest } => {
             output::unsigned(count as u64);
-            output::text(b" ");
+            output::say(output::SPACE);
             output::unsigned(lowest as u64);
         }
         EventBits::Refused { number } => output::refused(number),

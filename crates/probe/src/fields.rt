@@ -1,52 +1,47 @@
-// The fields of a line. A field is one space and at least one byte behind it, up to the next space or
+// The fields of a line. A field is one space and at least one byte after it, up to the next space or
 // the line's end. A position may be any number: past the line's end stands no field.
 use input::Digit;
+ghost use mathlib.Core.Bool.{true};
+ghost use mathlib.Core.Path.{_≡_};
 ghost use Prim.Native.Nat.{_+_, _*_, _≤_, _<_, min};
 ghost use lib.ListN.{length};
 ghost use Rattle.io.specs.Counts.{Counts};
-ghost use Rattle.probe.specs.Fields.{AtMost, StoredIn, HexFits};
 
-// Where a field's text lies in its line. Where there is no field it is empty.
+// Where a field's text lies in its line, and the position after it. Where there is no field the text is empty.
 struct Span {
     start: usize,
     end: usize,
+    next: usize,
 }
 
-// A number, and the position behind its field.
-pub(crate) enum Number {
-    Of { value: u64, next: usize },
-    Bad,
+// A number, and the position after its field.
+pub(crate) struct Number {
+    pub(crate) value: u64,
+    pub(crate) next: usize,
 }
 
 // The same, for a number of 16 bits.
-pub(crate) enum Number16 {
-    Of { value: u16, next: usize },
-    Bad,
+pub(crate) struct Number16 {
+    pub(crate) value: u16,
+    pub(crate) next: usize,
 }
 
-// How many words or bytes were stored, and the position behind their field.
-pub(crate) enum Stored {
-    Of { count: usize, next: usize },
-    Bad,
+// How many words were stored, and the position after their field.
+pub(crate) struct Stored {
+    pub(crate) count: usize,
+    pub(crate) next: usize,
 }
 
-// Where the digits of so many words or bytes begin, and the position behind their field.
-enum HexField {
-    Of {
-        start: usize,
-        count: usize,
-        next: usize,
-    },
-    Bad,
-}
+// The position after a bad field. No field stands there, so what is read on from a bad field is bad too, and the line
+// is never read to its end.
+const NOWHERE: usize = usize::MAX;
 
-// The hexadecimal digits of a word and of a byte.
-const WORD_DIGITS: usize = 4;
+// The hexadecimal digits of a word.
+pub(crate) const WORD_DIGITS: usize = 4;
 
-const BYTE_DIGITS: usize = 2;
-
-// What a byte that is no hexadecimal digit counts for: more than any word.
-const NO_DIGIT: u32 = 65536;
+// The room for the words of a field. It is one number for all, so that one function can fill it as an array: where an
+// array is made and lent as a slice, the prover counts its elements.
+pub(crate) const ROOM: usize = 81920;
 
 // Where `byte` stands first in `s` from `start` on, or the end of `s` where it doesn't.
 pub(crate) fn find(s: &[u8], start: usize, byte: u8) -> usize
@@ -73,60 +68,71 @@ fn field_at(line: &[u8], at: usize) -> Span
     ensures { λ r. ⌜ (r .start ≤ r .end) × (r .end ≤ length (now (line .entry))) ⌝ }
 {
     if line.len() <= at {
-        return Span { start: 0, end: 0 };
+        return span_of(0, 0);
     }
     if line[at] != b' ' {
-        return Span { start: 0, end: 0 };
+        return span_of(0, 0);
     }
     let start = at + 1;
-    Span {
-        start,
-        end: find(line, start, b' '),
-    }
+    span_of(start, find(line, start, b' '))
 }
 
-// The field at `at` as a decimal number of at most `bound`. The bound is tried before each digit is
-// added, so that no number of digits overflows.
+// The field whose text lies there. An empty text is no field.
+fn span_of(start: usize, end: usize) -> Span
+    ensures { λ r. ⌜ (r .start ≡ start) × (r .end ≡ end) ⌝ }
+{
+    let next = next_if(start < end, end);
+    Span { start, end, next }
+}
+
+// The position after a field that may be bad.
+fn next_if(is_good: bool, next: usize) -> usize {
+    if is_good { next } else { NOWHERE }
+}
+
+// The field at `at` as a decimal number of at most `bound`.
 pub(crate) fn decimal_field(line: &[u8], at: usize, bound: u64) -> Number
-    ensures { λ r. ⌜ AtMost bound r ⌝ }
+    ensures { λ r. ⌜ r .value ≤ bound ⌝ }
 {
     let field = field_at(line, at);
-    let start = field.start;
     let end = field.end;
-    if start == end {
-        return Number::Bad;
-    }
-    let mut value = 0u64;
-    let mut i = start;
+    let mut value = 0;
+    let mut i = field.start;
     while i < end {
         let digit = decimal_digit(line[i]);
-        if 9 < digit || bound < digit {
-            return Number::Bad;
-        }
-        if (bound - digit) / 10 < value {
-            return Number::Bad;
+        if !has_room(value, digit, bound) {
+            return Number {
+                value: 0,
+                next: NOWHERE,
+            };
         }
         value = value * 10 + digit;
         i += 1;
     }
-    Number::Of { value, next: end }
+    Number {
+        value,
+        next: field.next,
+    }
+}
+
+// Is `digit` a digit that keeps the number within the bound when it is put after `value`? So no number of digits
+// overflows.
+fn has_room(value: u64, digit: u64, bound: u64) -> bool
+    ensures { λ r. ⌜ (r ≡ true → value * 10 + digit ≤ bound) ⌝ }
+{
+    if 9 < digit || bound < digit {
+        return false;
+    }
+    value <= (bound - digit) / 10
 }
 
 // The field at `at` as a decimal number of 16 bits.
 pub(crate) fn u16_field(line: &[u8], at: usize) -> Number16 {
     let number = decimal_field(line, at, 65535);
-    let Number::Of { value, next } = number else {
-        return Number16::Bad;
-    };
-    Number16::Of {
-        value: value as u16,
-        next,
+    Number16 {
+        value: number.value as u16,
+        next: number.next,
     }
-}
-
-// The field at `at` as a decimal number of 64 bits.
-pub(crate) fn u64_field(line: &[u8], at: usize) -> Number {
-    decimal_field(line, at, u64::MAX)
 }
 
 // The value of a decimal digit, and 10 for any other byte.
@@ -137,127 +143,89 @@ fn decimal_digit(b: u8) -> u64 {
     }
 }
 
-// The field at `at` as so many digits for each word or byte, or `-` for none.
-fn hex_field(line: &[u8], at: usize, digits: usize) -> HexField
-    requires { ⌜ 0 < digits ⌝ }
-    ensures { λ r. ⌜ HexFits digits (now (line .entry)) r ⌝ }
+// Stores the words of the field at `at`, of so many digits each and at most `limit` of them, at the start of `out`; `-`
+// is no words. A word of fewer than four digits is stored with what stood in `out` before its digits. Where the field is
+// bad, some words may have been stored.
+pub(crate) fn words_field(
+    line: &[u8],
+    at: usize,
+    digits: usize,
+    limit: usize,
+    out: &mut [u16; ROOM],
+) -> Stored
+    requires { ⌜ (0 < digits) × (limit ≤ 81920) ⌝ }
 {
     let field = field_at(line, at);
-    let start = field.start;
-    let end = field.end;
-    if start == end {
-        return HexField::Bad;
-    }
-    if check::same(&line[start..end], b"-") {
-        return HexField::Of {
-            start,
-            count: 0,
-            next: end,
-        };
-    }
-    if (end - start) % digits != 0 {
-        return HexField::Bad;
-    }
-    HexField::Of {
-        start,
-        count: (end - start) / digits,
-        next: end,
+    let start = digits_start(line, field.start, field.end);
+    let count = (field.end - start) / digits;
+    let is_whole = (field.end - start) % digits == 0;
+    let next = next_if(is_whole, field.next);
+    let is_good = store(line, start, field.end, digits, limit, out);
+    Stored {
+        count,
+        next: next_if(is_good, next),
     }
 }
 
-// Stores the words of the field at `at` at the start of `out`. Where the field is bad, some of them may have been
-// stored.
-pub(crate) fn words_field(line: &[u8], at: usize, out: &mut [u16]) -> Stored
-    ensures { λ r. ⌜ StoredIn (now (out .exit)) r ⌝ }
-{
-    let field = hex_field(line, at, WORD_DIGITS);
-    let HexField::Of { start, count, next } = field else {
-        return Stored::Bad;
-    };
-    if out.len() < count {
-        return Stored::Bad;
-    }
-    if !store_words(line, start, count, out) {
-        return Stored::Bad;
-    }
-    Stored::Of { count, next }
+// The first words of `s`, as far as it goes.
+pub(crate) fn first<'a>(s: &'a [u16; ROOM], count: usize) -> &'a [u16] {
+    part(s, count)
 }
 
-// The same for bytes.
-pub(crate) fn bytes_field(line: &[u8], at: usize, out: &mut [u8]) -> Stored
-    ensures { λ r. ⌜ StoredIn (now (out .exit)) r ⌝ }
-{
-    let field = hex_field(line, at, BYTE_DIGITS);
-    let HexField::Of { start, count, next } = field else {
-        return Stored::Bad;
-    };
-    if out.len() < count {
-        return Stored::Bad;
+fn part<'a>(s: &'a [u16], count: usize) -> &'a [u16] {
+    if s.len() < count {
+        return s;
     }
-    if !store_bytes(line, start, count, out) {
-        return Stored::Bad;
-    }
-    Stored::Of { count, next }
+    &s[0..count]
 }
 
-// Stores `count` words, whose digits start at `start`. False where one of their bytes is no digit.
-fn store_words(line: &[u8], start: usize, count: usize, out: &mut [u16]) -> bool
-    requires { ⌜ (start + count * 4 ≤ length (now line)) × (count ≤ length (now out)) ⌝ }
-    ensures { λ _. ⌜ Counts count (now (out .exit)) ⌝ }
+// Where the digits of the text from `start` to `end` begin: past the text where it is `-`.
+fn digits_start(line: &[u8], start: usize, end: usize) -> usize
+    requires { ⌜ (start ≤ end) × (end ≤ length (now line)) ⌝ }
+    ensures { λ r. ⌜ (start ≤ r) × (r ≤ end) ⌝ }
 {
-    let mut k = 0;
-    while k < count {
-        let word = word_at(line, start + k * WORD_DIGITS);
-        if 65535 < word {
+    if end - start == 1 && line[start] == b'-' {
+        return end;
+    }
+    start
+}
+
+// Stores the digits from `start` to `end`. False where a byte is no digit, or where there are more words than `limit`.
+fn store(
+    line: &[u8],
+    start: usize,
+    end: usize,
+    digits: usize,
+    limit: usize,
+    out: &mut [u16; ROOM],
+) -> bool
+    requires { ⌜ (0 < digits) × (limit ≤ 81920) × (end ≤ length (now line)) ⌝ }
+{
+    let mut i = start;
+    while i < end {
+        let k = (i - start) / digits;
+        let digit = hex_digit(line[i]);
+        if 15 < digit || limit <= k {
             return false;
         }
-        out[k] = word as u16;
-        k += 1;
+        out[k] = with_digit(out[k], digit);
+        i += 1;
     }
     true
 }
 
-// The same for bytes.
-fn store_bytes(line: &[u8], start: usize, count: usize, out: &mut [u8]) -> bool
-    requires { ⌜ (start + count * 2 ≤ length (now line)) × (count ≤ length (now out)) ⌝ }
-    ensures { λ _. ⌜ Counts count (now (out .exit)) ⌝ }
+// The word with its digits moved by one place, and `digit` as the last.
+fn with_digit(word: u16, digit: u16) -> u16
+    requires { ⌜ digit ≤ 15 ⌝ }
 {
-    let mut k = 0;
-    while k < count {
-        let byte = byte_at(line, start + k * BYTE_DIGITS);
-        if 255 < byte {
-            return false;
-        }
-        out[k] = byte as u8;
-        k += 1;
-    }
-    true
+    word % 4096 * 16 + digit
 }
 
-// The word of the four digits from `at` on, or a number above 65535 where one is no digit.
-fn word_at(line: &[u8], at: usize) -> u32
-    requires { ⌜ at + 4 ≤ length (now line) ⌝ }
-{
-    hex_digit(line[at]) * 4096
-        + hex_digit(line[at + 1]) * 256
-        + hex_digit(line[at + 2]) * 16
-        + hex_digit(line[at + 3])
-}
-
-// The byte of the two digits from `at` on, or a number above 255 where one is no digit.
-fn byte_at(line: &[u8], at: usize) -> u32
-    requires { ⌜ at + 2 ≤ length (now line) ⌝ }
-{
-    hex_digit(line[at]) * 16 + hex_digit(line[at + 1])
-}
-
-// The value of a hexadecimal digit of either case, and NO_DIGIT for any other byte.
-fn hex_digit(b: u8) -> u32
-    ensures { λ r. ⌜ r ≤ 65536 ⌝ }
-{
+// The value of a hexadecimal digit of either case, and 16 for any other byte.
+fn hex_digit(b: u8) -> u16 {
     let digit = input::digit_of(b);
     match digit {
-        Digit::Of(value) => value as u32,
-        Digit::None => NO_DIGIT,
+        Digit::Of(value) => value,
+        Digit::None => 16,
     }
 }

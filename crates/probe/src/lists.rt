@@ -1,45 +1,70 @@
 // The command `list ENTRIES CATALOG MAP`: the points of a register map by a catalog, put into a list of ENTRIES
 // numbers.
-use crate::checking::CATALOG_CAPACITY;
 use crate::fields;
-use crate::fields::Number;
+use crate::fields::ROOM;
 use crate::output;
+use crate::plants::CATALOG_CAPACITY;
 use crate::plants::MAP_CAPACITY;
 use crate::plants::Plant;
 use crate::plants::plant_at;
 use listing::Listing;
 use listing::WIDTH;
+ghost use Prim.Native.Nat.{_≤_};
 
 // The longest list that a line can ask for.
 const LIST_CAPACITY: usize = 20000;
 
 // Answers the fields from `at` on. False, with nothing written, where they are bad.
 pub(crate) fn run(line: &[u8], at: usize) -> bool {
+    let mut catalog = [0u16; ROOM];
+    let mut map = [0u16; ROOM];
     let room = fields::decimal_field(line, at, LIST_CAPACITY as u64);
-    let Number::Of { value, next } = room else {
-        return false;
-    };
-    let mut catalog = [0u16; CATALOG_CAPACITY];
-    let mut map = [0u16; MAP_CAPACITY];
-    let plant = plant_at(line, next, &mut catalog, &mut map);
-    let Plant::Of { words, registers } = plant else {
-        return false;
-    };
+    let plant = plant_at(
+        line,
+        room.next,
+        CATALOG_CAPACITY,
+        &mut catalog,
+        MAP_CAPACITY,
+        &mut map,
+    );
+    list_if(plant, &catalog, &map, room.value as usize)
+}
+
+// Writes the answer where the line is good, and says whether it is.
+fn list_if(plant: Plant, catalog: &[u16; ROOM], map: &[u16; ROOM], entries: usize) -> bool
+    requires { ⌜ entries ≤ 20000 ⌝ }
+{
+    if plant.is_whole {
+        list_in(
+            fields::first(catalog, plant.words),
+            fields::first(map, plant.registers),
+            entries,
+        );
+    }
+    plant.is_whole
+}
+
+// Writes what `list` answers when it is given so many entries.
+fn list_in(catalog: &[u16], map: &[u16], entries: usize)
+    requires { ⌜ entries ≤ 20000 ⌝ }
+{
     let mut list = [0u64; LIST_CAPACITY];
-    let entries = value as usize;
-    write_listing(&catalog[..words], &map[..registers], &mut list[..entries]);
-    true
+    write_listing(catalog, map, &mut list[0..entries]);
 }
 
 // Writes what `list` answers when it is given `out`.
 fn write_listing(catalog: &[u16], map: &[u16], out: &mut [u64]) {
     let listing = listing::list(catalog, map, out);
+    write_points(listing, out);
+}
+
+// Writes an answer of `list`, with the list that it filled.
+fn write_points(listing: Listing, list: &[u64]) {
     match listing {
         Listing::Listed { points, headers } => {
-            output::text(b"points ");
-            output::unsigned(points as u64);
-            write_headers(headers);
-            write_records(out, points);
+            output::counted(output::POINTS, points as u64);
+            output::counted(output::HEADERS, headers as u64);
+            write_records(list, points);
         }
         Listing::Refused {
             number,
@@ -47,15 +72,9 @@ fn write_listing(catalog: &[u16], map: &[u16], out: &mut [u64]) {
             headers,
         } => {
             output::refused_at(number, place);
-            write_headers(headers);
+            output::counted(output::HEADERS, headers as u64);
         }
     }
-}
-
-// Writes how many headers were found.
-fn write_headers(headers: usize) {
-    output::text(b" headers ");
-    output::unsigned(headers as u64);
 }
 
 // Writes the records of so many points, as far as the list goes.
@@ -65,17 +84,15 @@ fn write_records(list: &[u64], points: usize) {
         if points <= i / WIDTH {
             return;
         }
-        write_gap(i % WIDTH == 0);
-        output::unsigned(list[i]);
+        output::counted(gap_before(i % WIDTH), list[i]);
         i += 1;
     }
 }
 
-// Writes what stands before a number of a record.
-fn write_gap(is_first: bool) {
-    if is_first {
-        output::text(b" / ");
-    } else {
-        output::text(b" ");
+// What stands before a number of a record.
+fn gap_before(field: usize) -> usize {
+    match field {
+        0 => output::SLASH,
+        _ => output::SPACE,
     }
 }

@@ -1,6 +1,6 @@
 // Runs one call of the libraries for each line of standard input, and writes one answer line for
 // each, in order. A line is a command's word and its fields, with one space before each field. A line
-// of more than 524,288 bytes without its LF has no answer, nor has any behind it. Every line that
+// of more than 524,288 bytes without its LF has no answer, nor has any after it. Every line that
 // begins in the first 16,777,216 bytes is reached.
 mod checking;
 mod decimal;
@@ -19,57 +19,78 @@ mod writes;
 use libc::STDIN_FILENO;
 ghost use Prim.Native.Nat.{_≤_};
 ghost use lib.ListN.{length};
-ghost use Rattle.io.specs.Counts.{Counts};
 
-// How much of the input is held at a time, and so the longest line. The prover does not take a much
-// larger local array.
-const CAPACITY: usize = 524288;
+// How much of the input is held at a time: the longest line, and its LF.
+const CAPACITY: usize = 524289;
 
 // How often the buffer is filled, so that the program ends on an endless input. A line that one round
 // cuts ends in the next, so two rounds in a row answer more than CAPACITY bytes, and all of them more
 // than 32 * CAPACITY.
 const ROUNDS: usize = 64;
 
+// The words of the commands: the length, and then a byte for each letter.
+const DECODE: u64 = 0x06_64_65_63_6F_64_65;
+
+const TEXT: u64 = 0x04_74_65_78_74;
+
+const EVENTS: u64 = 0x06_65_76_65_6E_74_73;
+
+const DECIMAL: u64 = 0x07_64_65_63_69_6D_61_6C;
+
+const EQUAL: u64 = 0x05_65_71_75_61_6C;
+
+const CHECK: u64 = 0x05_63_68_65_63_6B;
+
+const LIST: u64 = 0x04_6C_69_73_74;
+
+const WRITE: u64 = 0x05_77_72_69_74_65;
+
+const PARSE: u64 = 0x05_70_61_72_73_65;
+
 fn main() {
     let mut input = [0u8; CAPACITY];
     answer_input(&mut input);
 }
 
-// Fills the buffer and answers its whole lines, round by round. The line that is cut moves to the
-// front, so that each round begins with a line's first byte.
+// Answers the input, round by round. Once it has ended, or where a line is longer than the buffer, the
+// rounds that are left answer nothing.
 fn answer_input(input: &mut [u8]) {
     let mut kept = 0;
     let mut round = 0;
     while round < ROUNDS {
-        let n = fill(input, kept);
-        let at = answer_lines(&input[..n]);
-        // The input has ended, or the line at the front is longer than the buffer.
-        if n < input.len() || at == 0 {
-            return;
-        }
-        kept = move_to_front(input, at);
+        kept = answer_round(input, kept);
         round += 1;
     }
 }
 
-// Fills the buffer behind the bytes that were kept, and returns how many it then holds. They are
-// fewer than its length only where the input has ended.
+// Fills the buffer after the bytes that were kept, and answers its whole lines. The line that is cut
+// moves to the front, so that each round begins with a line's first byte. Returns how much is kept.
+fn answer_round(input: &mut [u8], kept: usize) -> usize
+    requires { ⌜ kept ≤ length (now input) ⌝ }
+    ensures { λ r. ⌜ r ≤ length (now (input .exit)) ⌝ }
+{
+    let count = fill(input, kept);
+    let at = answer_lines(&input[0..count]);
+    move_to_front(input, at, count)
+}
+
+// Fills the buffer after the bytes that were kept, and returns how many it then holds.
 fn fill(input: &mut [u8], kept: usize) -> usize
     requires { ⌜ kept ≤ length (now input) ⌝ }
-    ensures { λ r. ⌜ Counts r (now (input .exit)) ⌝ }
+    ensures { λ r. ⌜ r ≤ length (now (input .exit)) ⌝ }
 {
     kept + io::read_full(STDIN_FILENO, &mut input[kept..])
 }
 
 // Answers the whole lines, and returns where the one begins that is cut, or the end of `input` where
-// none is.
+// none is. A line is cut where no LF ends it and the buffer is full: else the input has ended.
 fn answer_lines(input: &[u8]) -> usize
     ensures { λ r. ⌜ r ≤ length (now (input .entry)) ⌝ }
 {
     let mut at = 0;
     while at < input.len() {
         let end = fields::find(input, at, b'\n');
-        if is_cut(input, at, end) {
+        if end == CAPACITY {
             return at;
         }
         answer(&input[at..end]);
@@ -78,78 +99,61 @@ fn answer_lines(input: &[u8]) -> usize
     input.len()
 }
 
-// Whether the line from `at` to `end` goes on past what was read, or may, where moving it to the front
-// makes room to read on. Where it fills the buffer only the next byte tells: the line is whole if the
-// input ends there, or the line does.
-fn is_cut(input: &[u8], at: usize, end: usize) -> bool {
-    if end < input.len() {
-        return false;
-    }
-    if input.len() < CAPACITY {
-        return false;
-    }
-    if 0 < at {
-        return true;
-    }
-    let mut next = [0u8; 1];
-    if io::read_full(STDIN_FILENO, &mut next) == 0 {
-        return false;
-    }
-    next[0] != b'\n'
-}
-
-// Moves the bytes from `at` on to the front, and returns how many they are.
-fn move_to_front(input: &mut [u8], at: usize) -> usize
-    requires { ⌜ at ≤ length (now input) ⌝ }
+// Moves the bytes from `start` to `end` to the front, and returns how many they are.
+fn move_to_front(input: &mut [u8], start: usize, end: usize) -> usize
+    requires { ⌜ (start ≤ end) × (end ≤ length (now input)) ⌝ }
     ensures { λ r. ⌜ r ≤ length (now (input .exit)) ⌝ }
 {
-    let count = input.len() - at;
-    let mut i = 0;
-    while i < count {
-        input[i] = input[at + i];
+    let mut i = start;
+    while i < end {
+        input[i - start] = input[i];
         i += 1;
     }
-    count
+    end - start
 }
 
 // Writes the line's one answer.
 fn answer(line: &[u8]) {
     if !run(line) {
-        output::text(b"bad line");
+        output::say(output::BAD_LINE);
     }
-    output::end_line();
+    output::say(output::END_LINE);
 }
 
 // Runs the command that the line begins with. False, with nothing written, where the line is bad.
 fn run(line: &[u8]) -> bool {
     let at = fields::find(line, 0, b' ');
-    let word = &line[..at];
-    if check::same(word, b"decode") {
-        return decode::run(line, at);
+    let word = word_of(line, at);
+    match word {
+        DECODE => decode::run(line, at),
+        TEXT => text::run(line, at),
+        EVENTS => events::run(line, at),
+        DECIMAL => decimal::run(line, at),
+        EQUAL => equal::run(line, at),
+        CHECK => checking::run(line, at),
+        LIST => lists::run(line, at),
+        WRITE => writes::run(line, at),
+        PARSE => parsing::run(line, at),
+        _ => false,
     }
-    if check::same(word, b"text") {
-        return text::run(line, at);
+}
+
+// The word before `end` as a number, as the commands' words are above, and 0 where it is too long for that.
+fn word_of(line: &[u8], end: usize) -> u64
+    requires { ⌜ end ≤ length (now line) ⌝ }
+{
+    if 7 < end {
+        return 0;
     }
-    if check::same(word, b"events") {
-        return events::run(line, at);
+    let mut word = end as u64;
+    let mut i = 0;
+    while i < end {
+        word = word << 8 | wide(line[i]);
+        i += 1;
     }
-    if check::same(word, b"decimal") {
-        return decimal::run(line, at);
-    }
-    if check::same(word, b"equal") {
-        return equal::run(line, at);
-    }
-    if check::same(word, b"check") {
-        return checking::run(line, at);
-    }
-    if check::same(word, b"list") {
-        return lists::run(line, at);
-    }
-    if check::same(word, b"write") {
-        return writes::run(line, at);
-    }
-    if check::same(word, b"parse") {
-        return parsing::run(line, at);
-    }
-    false
+    word
+}
+
+fn wide(b: u8) -> u64 {
+    b as u64
 }

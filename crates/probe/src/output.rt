@@ -1,81 +1,148 @@
 // The pieces of an answer line, written to standard output. A write that fails is passed over:
 // there is nowhere to report it.
+use crate::fields;
 use libc::STDOUT_FILENO;
 ghost use Prim.Native.Nat.{_<_};
+
+// The texts of answers, by their number in `say`. (A byte string where each is written costs the prover six times as
+// much as a number.)
+pub(crate) const MODELS: usize = 0;
+
+pub(crate) const REFUSED: usize = 1;
+
+pub(crate) const AT: usize = 2;
+
+pub(crate) const POINTS: usize = 3;
+
+pub(crate) const HEADERS: usize = 4;
+
+pub(crate) const SLASH: usize = 5;
+
+pub(crate) const SPACE: usize = 6;
+
+pub(crate) const PARSED: usize = 7;
+
+pub(crate) const WRITTEN: usize = 8;
+
+pub(crate) const SIGNED: usize = 9;
+
+pub(crate) const MINUS: usize = 10;
+
+pub(crate) const UNSIGNED: usize = 11;
+
+pub(crate) const FLOAT: usize = 12;
+
+pub(crate) const NOT_GIVEN: usize = 13;
+
+pub(crate) const OUT_OF_RANGE: usize = 14;
+
+pub(crate) const YES: usize = 15;
+
+pub(crate) const NO: usize = 16;
+
+pub(crate) const BAD_LINE: usize = 17;
+
+pub(crate) const DASH: usize = 18;
+
+pub(crate) const END_LINE: usize = 19;
+
+// Writes a text by its number.
+pub(crate) fn say(number: usize) {
+    say_part(
+        b"models |refused | at |points | headers | / | |parsed |written |signed |signed -|unsigned |float |not given|out of range|yes|no|bad line|-|\n|",
+        number,
+    );
+}
+
+// Writes the part of `texts` with so many bars before it, up to the next bar.
+fn say_part(texts: &[u8], bars: usize) {
+    let mut start = 0;
+    let mut i = 0;
+    while i < bars {
+        start = fields::find(texts, start, b'|') + 1;
+        i += 1;
+    }
+    let end = fields::find(texts, start, b'|');
+    if start < end {
+        text(&texts[start..end]);
+    }
+}
 
 pub(crate) fn text(s: &[u8]) {
     io::write_all(STDOUT_FILENO, s);
 }
 
-pub(crate) fn end_line() {
-    text(b"\n");
+// The first bytes of `s`, where it has so many.
+pub(crate) fn text_of(s: &[u8], count: usize) {
+    if count <= s.len() {
+        text(&s[0..count]);
+    }
 }
 
 pub(crate) fn unsigned(n: u64) {
     io::print_decimal(STDOUT_FILENO, n);
 }
 
+// A text and a number.
+pub(crate) fn counted(number: usize, n: u64) {
+    say(number);
+    unsigned(n);
+}
+
 // In decimal, with a minus below 0. For the least number -n is out of range, and -1 - n is not.
 pub(crate) fn signed(n: i64) {
     if n < 0 {
-        text(b"-");
-        unsigned((-1 - n) as u64 + 1);
+        counted(MINUS, (-1 - n) as u64 + 1);
     } else {
-        unsigned(n as u64);
+        counted(SIGNED, n as u64);
     }
 }
 
 // The answer of a call that refuses.
 pub(crate) fn refused(number: u16) {
-    text(b"refused ");
-    unsigned(number as u64);
+    counted(REFUSED, number as u64);
 }
 
 // The same, with a place.
 pub(crate) fn refused_at(number: u16, place: usize) {
     refused(number);
-    text(b" at ");
-    unsigned(place as u64);
+    counted(AT, place as u64);
 }
 
-// Four hexadecimal digits for each word, run together, and `-` where there are none.
-pub(crate) fn words(s: &[u16]) {
-    if s.len() == 0 {
-        text(b"-");
+// The first words of `s`, as far as it goes: four hexadecimal digits for each, run together, and `-` for none.
+pub(crate) fn words(s: &[u16], count: usize) {
+    if count == 0 {
+        say(DASH);
     }
     let mut i = 0;
-    while i < s.len() {
+    while i < count {
+        if s.len() <= i {
+            return;
+        }
         hex4(s[i]);
         i += 1;
     }
 }
 
-// Four hexadecimal digits.
+// The bits of a float, in eight hexadecimal digits.
+pub(crate) fn float(bits: u32) {
+    say(FLOAT);
+    hex4((bits / 65536) as u16);
+    hex4((bits % 65536) as u16);
+}
+
+// Four hexadecimal digits, in upper case.
 fn hex4(n: u16) {
-    let mut digits = [0u8; 4];
-    hex_digits(n as u32, &mut digits);
+    let digits = [
+        hex_glyph(n / 4096),
+        hex_glyph(n / 256 % 16),
+        hex_glyph(n / 16 % 16),
+        hex_glyph(n % 16),
+    ];
     text(&digits);
 }
 
-// Eight hexadecimal digits.
-pub(crate) fn hex8(n: u32) {
-    let mut digits = [0u8; 8];
-    hex_digits(n, &mut digits);
-    text(&digits);
-}
-
-// Fills `out` with the last hexadecimal digits of `n`, in upper case: as many as it has room for.
-fn hex_digits(n: u32, out: &mut [u8]) {
-    let mut rest = n;
-    let mut i = out.len();
-    while 0 < i {
-        i -= 1;
-        out[i] = hex_glyph(rest % 16);
-        rest /= 16;
-    }
-}
-
-fn hex_glyph(d: u32) -> u8
+fn hex_glyph(d: u16) -> u8
     requires { ⌜ d < 16 ⌝ }
 {
     if d < 10 {

@@ -1,42 +1,77 @@
 // The command `parse BYTES`: the catalog and the map that the bytes of an input hold, with the room of `readplant`.
 use crate::fields;
-use crate::fields::Stored;
+use crate::fields::ROOM;
 use crate::output;
 use input::FRAME_WORDS;
 use input::Parsed;
 
-// How many bytes a line can give as the input: more than any that is not refused.
-const INPUT_CAPACITY: usize = 81920;
+// The hexadecimal digits of a byte. A line can give as many bytes as there is room: more than any input that is not
+// refused.
+const BYTE_DIGITS: usize = 2;
 
 // The room for the words of the catalog, and for the registers of the map.
-const ROOM: usize = 8192;
+const PARSED_ROOM: usize = 8192;
 
 // Answers the fields from `at` on. False, with nothing written, where they are bad.
 pub(crate) fn run(line: &[u8], at: usize) -> bool {
-    let mut bytes = [0u8; INPUT_CAPACITY];
-    let stored = fields::bytes_field(line, at, &mut bytes);
-    let Stored::Of { count, next } = stored else {
-        return false;
-    };
-    if !fields::nothing_left(line, next) {
-        return false;
+    let mut words = [0u16; ROOM];
+    let stored = fields::words_field(line, at, BYTE_DIGITS, ROOM, &mut words);
+    parse_if(
+        fields::nothing_left(line, stored.next),
+        &words,
+        stored.count,
+    )
+}
+
+// Writes the answer where the line is good, and says whether it is.
+fn parse_if(is_good: bool, words: &[u16; ROOM], count: usize) -> bool {
+    if is_good {
+        let mut bytes = [0u8; ROOM];
+        copy_bytes(words, &mut bytes);
+        parse_bytes(&bytes, count);
     }
-    write_parsed(&bytes[..count]);
-    true
+    is_good
+}
+
+// Copies the low byte of each word.
+fn copy_bytes(words: &[u16; ROOM], bytes: &mut [u8; ROOM]) {
+    let mut i = 0;
+    while i < ROOM {
+        bytes[i] = (words[i] % 256) as u8;
+        i += 1;
+    }
+}
+
+// Writes the answer for the first bytes. (Lent as an array, `bytes` asks no proof of its length.)
+fn parse_bytes(bytes: &[u8; ROOM], count: usize) {
+    parse_part(bytes, count);
+}
+
+// The same, where there are so many.
+fn parse_part(bytes: &[u8], count: usize) {
+    if count <= bytes.len() {
+        parse_in(&bytes[0..count]);
+    }
 }
 
 // Writes what `parse` answers.
-fn write_parsed(text: &[u8]) {
-    let mut catalog = [0u16; ROOM];
-    let mut map = [0u16; ROOM];
+fn parse_in(text: &[u8]) {
+    let mut catalog = [0u16; PARSED_ROOM];
+    let mut map = [0u16; PARSED_ROOM];
     let parsed = input::parse(text, &mut catalog, &mut map);
+    write_parsed(parsed, &catalog, &map);
+}
+
+// Writes an answer of `parse`, with what it stored.
+fn write_parsed(parsed: Parsed, catalog: &[u16; PARSED_ROOM], map: &[u16; PARSED_ROOM]) {
     match parsed {
         Parsed::Of { frames, registers } => {
-            let words = frames * FRAME_WORDS;
-            output::text(b"parsed ");
-            output::words(&catalog[..words]);
-            output::text(b" ");
-            output::words(&map[..registers]);
+            // The frames fit the room, so the remainder is their number. It shows that the product fits.
+            let words = frames % PARSED_ROOM * FRAME_WORDS;
+            output::say(output::PARSED);
+            output::words(catalog, words);
+            output::say(output::SPACE);
+            output::words(map, registers);
         }
         Parsed::Refused { number, place } => output::refused_at(number, place),
     }

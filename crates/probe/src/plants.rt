@@ -1,35 +1,39 @@
-// The last fields of a line, CATALOG MAP: a catalog and a register map.
+// Two fields of words, with which a line must end: CATALOG MAP, or FALLBACK MAP.
 use crate::fields;
-use crate::fields::Stored;
-ghost use Rattle.probe.specs.Fields.{PlantIn};
+use crate::fields::ROOM;
+use crate::fields::WORD_DIGITS;
+ghost use Prim.Native.Nat.{_≤_};
+
+// How many words a line can give as the catalog: one frame more than a catalog may have.
+pub(crate) const CATALOG_CAPACITY: usize = 32776;
 
 // How many words a line can give as the map: one more than a map may have.
 pub(crate) const MAP_CAPACITY: usize = 65537;
 
-// How many words of the catalog and registers of the map were stored.
-pub(crate) enum Plant {
-    Of { words: usize, registers: usize },
-    Bad,
+// How many words were stored of each, and whether they are good and the line ends there.
+pub(crate) struct Plant {
+    pub(crate) words: usize,
+    pub(crate) registers: usize,
+    pub(crate) is_whole: bool,
 }
 
-// Stores the catalog whose field is at `at` and the map behind it, with which the line must end.
-pub(crate) fn plant_at(line: &[u8], at: usize, catalog: &mut [u16], map: &mut [u16]) -> Plant
-    ensures { λ r. ⌜ PlantIn (now (catalog .exit)) (now (map .exit)) r ⌝ }
+// Stores the words of the field at `at` and those of the next, at most so many of each.
+pub(crate) fn plant_at(
+    line: &[u8],
+    at: usize,
+    most: usize,
+    first: &mut [u16; ROOM],
+    most_registers: usize,
+    map: &mut [u16; ROOM],
+) -> Plant
+    requires { ⌜ (most ≤ 81920) × («most_registers» ≤ 81920) ⌝ }
 {
-    let frames = fields::words_field(line, at, catalog);
-    let Stored::Of { count: words, next } = frames else {
-        return Plant::Bad;
-    };
-    let stored = fields::words_field(line, next, map);
-    let Stored::Of {
-        count: registers,
-        next,
-    } = stored
-    else {
-        return Plant::Bad;
-    };
-    if !fields::nothing_left(line, next) {
-        return Plant::Bad;
+    let stored = fields::words_field(line, at, WORD_DIGITS, most, first);
+    let registers = fields::words_field(line, stored.next, WORD_DIGITS, most_registers, map);
+    let is_whole = fields::nothing_left(line, registers.next);
+    Plant {
+        words: stored.count,
+        registers: registers.count,
+        is_whole,
     }
-    Plant::Of { words, registers }
 }

@@ -1,45 +1,69 @@
 // The command `text ADDRESS SIZE FALLBACK MAP`: the words of a text in a register map, or of the fallback.
 use crate::fields;
-use crate::fields::Number;
-use crate::fields::Stored;
+use crate::fields::ROOM;
 use crate::output;
+use crate::plants::Plant;
+use crate::plants::plant_at;
 
-// How many words a line can give as the fallback. A second array as large as the map's would slow the
-// prover down.
+// How many words a line can give as the fallback.
 const FALLBACK_CAPACITY: usize = 1024;
 
 // How many words a line can give as the map.
 const MAP_CAPACITY: usize = 65536;
 
+// Where a text lies, and the position after the fields.
+struct Asked {
+    address: u64,
+    size: u64,
+    next: usize,
+}
+
 // Answers the fields from `at` on. False, with nothing written, where they are bad.
 pub(crate) fn run(line: &[u8], at: usize) -> bool {
-    let address = fields::u64_field(line, at);
-    let Number::Of { value: from, next } = address else {
-        return false;
-    };
-    let length = fields::u64_field(line, next);
-    let Number::Of { value: size, next } = length else {
-        return false;
-    };
-    let mut fallback = [0u16; FALLBACK_CAPACITY];
-    let instead = fields::words_field(line, next, &mut fallback);
-    let Stored::Of { count: n, next } = instead else {
-        return false;
-    };
-    let mut map = [0u16; MAP_CAPACITY];
-    let registers = fields::words_field(line, next, &mut map);
-    let Stored::Of { count: m, next } = registers else {
-        return false;
-    };
-    if !fields::nothing_left(line, next) {
-        return false;
+    let mut fallback = [0u16; ROOM];
+    let mut map = [0u16; ROOM];
+    let asked = asked_at(line, at);
+    let plant = plant_at(
+        line,
+        asked.next,
+        FALLBACK_CAPACITY,
+        &mut fallback,
+        MAP_CAPACITY,
+        &mut map,
+    );
+    text_if(plant, &fallback, &map, asked)
+}
+
+// The numbers from `at` on.
+fn asked_at(line: &[u8], at: usize) -> Asked {
+    let address = fields::decimal_field(line, at, u64::MAX);
+    let size = fields::decimal_field(line, address.next, u64::MAX);
+    Asked {
+        address: address.value,
+        size: size.value,
+        next: size.next,
     }
-    write_text(&map[..m], from as usize, size as usize, &fallback[..n]);
-    true
+}
+
+// Writes the answer where the line is good, and says whether it is.
+fn text_if<'a>(
+    plant: Plant,
+    fallback: &'a [u16; ROOM],
+    map: &'a [u16; ROOM],
+    asked: Asked,
+) -> bool {
+    if plant.is_whole {
+        write_text(
+            fields::first(map, plant.registers),
+            asked,
+            fields::first(fallback, plant.words),
+        );
+    }
+    plant.is_whole
 }
 
 // Writes what `text` answers, which is a part of one of the two slices: hence one lifetime for both.
-fn write_text<'a>(map: &'a [u16], address: usize, size: usize, fallback: &'a [u16]) {
-    let words = display::text(map, address, size, fallback);
-    output::words(words);
+fn write_text<'a>(map: &'a [u16], asked: Asked, fallback: &'a [u16]) {
+    let words = display::text(map, asked.address as usize, asked.size as usize, fallback);
+    output::words(words, words.len());
 }

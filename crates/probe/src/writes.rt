@@ -1,114 +1,116 @@
 // The command `write MODEL POINT I2 I3 I4 RAW CATALOG MAP`: RAW written to a point of a register map, by the index of
 // its model, its number and its instance numbers at levels 2, 3 and 4.
-use crate::checking::CATALOG_CAPACITY;
 use crate::fields;
-use crate::fields::Number;
-use crate::fields::Number16;
+use crate::fields::ROOM;
 use crate::output;
+use crate::plants::CATALOG_CAPACITY;
 use crate::plants::MAP_CAPACITY;
 use crate::plants::Plant;
 use crate::plants::plant_at;
 use listing::InstancePath;
 use writing::Written;
 
-// The point that a line names, and the position behind its last field. (An enum that holds an array is not
-// covered, so the path is three numbers here.)
-enum Named {
-    Of {
-        model: usize,
-        point: u16,
-        i2: u16,
-        i3: u16,
-        i4: u16,
-        next: usize,
-    },
-    Bad,
+// What a line writes and where, and the position after its last field.
+struct Write {
+    model: u64,
+    point: u16,
+    path: InstancePath,
+    raw: u64,
+    next: usize,
+}
+
+// The instance numbers, and the position after them.
+struct Path {
+    path: InstancePath,
+    next: usize,
 }
 
 // Answers the fields from `at` on. False, with nothing written, where they are bad.
 pub(crate) fn run(line: &[u8], at: usize) -> bool {
-    let named = named_at(line, at);
-    let Named::Of {
-        model,
-        point,
-        i2,
-        i3,
-        i4,
-        next,
-    } = named
-    else {
-        return false;
-    };
-    let value = fields::u64_field(line, next);
-    let Number::Of { value: raw, next } = value else {
-        return false;
-    };
-    let mut catalog = [0u16; CATALOG_CAPACITY];
-    let mut map = [0u16; MAP_CAPACITY];
-    let plant = plant_at(line, next, &mut catalog, &mut map);
-    let Plant::Of { words, registers } = plant else {
-        return false;
-    };
-    let path = InstancePath {
-        instances: [i2, i3, i4],
-    };
-    write_written(
-        &catalog[..words],
-        &mut map[..registers],
-        model,
-        point,
-        path,
-        raw,
+    let mut catalog = [0u16; ROOM];
+    let mut map = [0u16; ROOM];
+    let asked = write_at(line, at);
+    let plant = plant_at(
+        line,
+        asked.next,
+        CATALOG_CAPACITY,
+        &mut catalog,
+        MAP_CAPACITY,
+        &mut map,
     );
-    true
+    write_if(plant, &catalog, &mut map, asked)
 }
 
-// The point whose first field is at `at`.
-fn named_at(line: &[u8], at: usize) -> Named {
-    let index = fields::u64_field(line, at);
-    let Number::Of { value: model, next } = index else {
-        return Named::Bad;
-    };
-    let number = fields::u16_field(line, next);
-    let Number16::Of { value: point, next } = number else {
-        return Named::Bad;
-    };
-    let level2 = fields::u16_field(line, next);
-    let Number16::Of { value: i2, next } = level2 else {
-        return Named::Bad;
-    };
-    let level3 = fields::u16_field(line, next);
-    let Number16::Of { value: i3, next } = level3 else {
-        return Named::Bad;
-    };
-    let level4 = fields::u16_field(line, next);
-    let Number16::Of { value: i4, next } = level4 else {
-        return Named::Bad;
-    };
-    Named::Of {
-        model: model as usize,
-        point,
-        i2,
-        i3,
-        i4,
-        next,
+// The numbers from `at` on.
+fn write_at(line: &[u8], at: usize) -> Write {
+    let model = fields::decimal_field(line, at, u64::MAX);
+    let point = fields::u16_field(line, model.next);
+    let instances = path_at(line, point.next);
+    let raw = fields::decimal_field(line, instances.next, u64::MAX);
+    let path = instances.path;
+    Write {
+        model: model.value,
+        point: point.value,
+        path,
+        raw: raw.value,
+        next: raw.next,
     }
 }
 
-// Writes what `write` answers, and the map behind it.
-fn write_written(
-    catalog: &[u16],
-    map: &mut [u16],
-    model: usize,
-    point: u16,
-    path: InstancePath,
-    raw: u64,
-) {
-    let written = writing::write(catalog, map, model, point, path, raw);
+// The instance numbers from `at` on.
+fn path_at(line: &[u8], at: usize) -> Path {
+    let i2 = fields::u16_field(line, at);
+    let i3 = fields::u16_field(line, i2.next);
+    let i4 = fields::u16_field(line, i3.next);
+    let path = InstancePath {
+        instances: [i2.value, i3.value, i4.value],
+    };
+    Path {
+        path,
+        next: i4.next,
+    }
+}
+
+// Writes the answer where the line is good, and says whether it is.
+fn write_if(plant: Plant, catalog: &[u16; ROOM], map: &mut [u16; ROOM], asked: Write) -> bool {
+    if plant.is_whole {
+        write_part(
+            fields::first(catalog, plant.words),
+            map,
+            plant.registers,
+            asked,
+        );
+    }
+    plant.is_whole
+}
+
+// The same in the first registers of `map`, where it has so many.
+fn write_part(catalog: &[u16], map: &mut [u16], registers: usize, asked: Write) {
+    if registers <= map.len() {
+        write_in(catalog, &mut map[0..registers], asked);
+    }
+}
+
+// Writes what `write` answers, and the map after it.
+fn write_in(catalog: &[u16], map: &mut [u16], asked: Write) {
+    let path = asked.path;
+    let written = writing::write(
+        catalog,
+        map,
+        asked.model as usize,
+        asked.point,
+        path,
+        asked.raw,
+    );
+    write_written(written, map);
+}
+
+// Writes an answer of `write`, and the map after it.
+fn write_written(written: Written, map: &[u16]) {
     match written {
         Written::Done => {
-            output::text(b"written ");
-            output::words(map);
+            output::say(output::WRITTEN);
+            output::words(map, map.len());
         }
         Written::Refused { number, place } => output::refused_at(number, place),
     }

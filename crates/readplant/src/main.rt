@@ -1,8 +1,10 @@
 // Reads a catalog and a register map from standard input, and prints every point of the map: see docs/FORMAT.md.
 use libc::STDIN_FILENO;
 use libc::STDOUT_FILENO;
+use report::CATALOG_WORDS;
 use report::ENTRIES;
 use report::INPUT_BYTES;
+use report::REGISTERS;
 use report::Report;
 use report::TEXT_BYTES;
 use report::read_plant;
@@ -11,8 +13,8 @@ ghost use Rattle.readplant.specs.Answering.{Answers};
 
 fn main() {
     let mut input = [0u8; INPUT_BYTES];
-    let mut catalog = [0u16; 8192];
-    let mut map = [0u16; 8192];
+    let mut catalog = [0u16; CATALOG_WORDS];
+    let mut map = [0u16; REGISTERS];
     let mut list = [0u64; ENTRIES];
     let mut text = [0u8; TEXT_BYTES];
     let count = io::read_full(STDIN_FILENO, &mut input);

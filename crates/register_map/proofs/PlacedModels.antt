@@ -6,6 +6,7 @@ use Prim.Native.Nat.{ℕ, zero, suc, _+_}
 use native.Mathlib.Omega.{arith}
 use lib.ListN.{length, length-append}
 use Rattle.lists.specs.Each.{Each}
+use Rattle.lists.proofs.EachLaws.{each-append}
 use Rattle.register_map.specs.Scan.{Model, totalSize, BeginsWith1}
 use Rattle.register_map.specs.Insertion.{Placed, allModels, insertedInFront, placed, gapsBefore}
 
@@ -62,10 +63,6 @@ placed-size (m ∷ ms) (gap ∷ gaps) =
 
 -- What holds of each model that was there and of each inserted one holds of all.
 module _ (P : Model → Type 0) where
-  each-append : (ms ns : List Model) → Each P ms → Each P ns → Each P (ms ++ ns)
-  each-append [] ns h g = g
-  each-append (m ∷ ms) ns h g = (h .0, each-append ms ns (h .1) g)
-
   pub placed-each : (ms : List Model) (gaps : List (List Model)) → Each P ms → Each (Each P) gaps
       → Each P (allModels (placed ms gaps))
   unfolding placed
@@ -73,7 +70,7 @@ module _ (P : Model → Type 0) where
   placed-each (m ∷ ms) [] h g = (h .0, placed-each ms [] (h .1) tt)
   placed-each (m ∷ ms) (gap ∷ gaps) h g =
       rw (all-inserted gap (placed ms gaps))
-      (h .0, each-append gap (allModels (placed ms gaps)) (g .0) (placed-each ms gaps (h .1) (g .1)))
+      (h .0, each-append P gap (allModels (placed ms gaps)) (g .0) (placed-each ms gaps (h .1) (g .1)))
 
 -- The first model stays the first.
 pub placed-begins : (ms : List Model) (gaps : List (List Model)) → BeginsWith1 true ms

@@ -6,7 +6,7 @@ ghost use Rattle.register_map.specs.Headers as Headers;
 ghost use Rattle.register_map.specs.Answers.{headerForm, openingForm};
 
 // The most registers of a map.
-const REGISTERS: usize = 65536;
+const MOST_REGISTERS: usize = 65536;
 
 // The registers that a map begins with.
 const FIRST_REGISTER: u16 = 0x5375;
@@ -36,7 +36,7 @@ pub enum Opening {
 pub fn opened(map: &[u16]) -> Opening
     ensures { λ r. ⌜ openingForm r ≡ Headers.opening (now (map .entry)) ⌝ }
 {
-    if REGISTERS < map.len() {
+    if MOST_REGISTERS < map.len() {
         return Opening::Refused(20);
     }
     if map.len() < FIRST_HEADER {

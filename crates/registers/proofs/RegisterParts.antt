@@ -1,23 +1,24 @@
--- Laws of a part of registers: the first of them are registers; how many a part takes from a place on; whether they are all 0.
+-- Laws of a part of registers: it is registers again; how many a part takes from a place on; whether they are all 0.
 use mathlib.Core.Path.{_≡_, refl, sym, _∙_}
 use mathlib.Core.Bool.{Bool, true, false, _&&_}
 use mathlib.Core.List.{List, [], _∷_}
-use Prim.Native.Nat.{ℕ, zero, suc, _+_, _-_, _*_, _^_, _≤_, _<_}
+use Prim.Native.Nat.{ℕ, _+_, _-_, _*_, _^_, _≤_, _<_}
 use native.Mathlib.Nat.{mul-le-mul-right}
-use native.Mathlib.Numerals.{add-one}
 use native.Mathlib.Omega.{arith}
-use borrow.Author.Tests.{eq-eqb, ne-eqb, eqb-true, eqb-false}
+use borrow.Author.Tests.{ne-eqb, eqb-true, eqb-false}
 use lib.Dec.{eqb}
-use lib.ListN.{length, getD, take, drop, length-drop, drop-of-length-le}
-use lib.Seq.{drop-cons, take-all, take-nil}
+use lib.ListN.{length, take, drop, length-drop, drop-of-length-le}
+use lib.Seq.{take-all, take-nil}
+use Rattle.lists.proofs.EachLaws.{each-take, each-drop}
 use Rattle.registers.specs.Registers.{AreRegisters, join, allZero}
 use Rattle.registers.proofs.Joining.{positive}
 
--- The first of registers are registers.
+-- The first k of registers, and those after them, are registers.
 pub first-registers : (k : ℕ) (rs : List ℕ) → AreRegisters rs → AreRegisters (take k rs)
-first-registers zero rs a = tt
-first-registers (suc k) [] a = tt
-first-registers (suc k) (r ∷ rs) a = (a .0, first-registers k rs (a .1))
+first-registers = each-take (λ r. r < 65536)
+
+pub later-registers : (k : ℕ) (rs : List ℕ) → AreRegisters rs → AreRegisters (drop k rs)
+later-registers = each-drop (λ r. r < 65536)
 
 -- Behind the end nothing is taken.
 pub part-behind : (rs : List ℕ) (start count : ℕ) → length rs ≤ start → [] ≡ take count (drop start rs)
@@ -31,19 +32,7 @@ part-rest rs start count h =
     let left = length-drop start rs in
     take-all (length rs - start) rest (omega (arith, left)) ∙ sym (take-all count rest (omega (arith, left)))
 
--- From the register at i on.
-module _ (rs : List ℕ) (i : ℕ) (h : i < length rs) where
-  pub zero-on : getD rs i 0 ≡ 0 → allZero (drop i rs) ≡ allZero (drop (i + 1) rs)
-  zero-on e = rw (drop-cons rs i 0 h, add-one i) (simp (eq-eqb _ _ e))
-
-  pub zero-not : (getD rs i 0 ≡ 0 → ⊥) → allZero (drop i rs) ≡ false
-  zero-not e = rw (drop-cons rs i 0 h) (simp (ne-eqb _ _ e))
-
--- At the end of the registers.
-pub zero-end : (rs : List ℕ) (i : ℕ) → length rs ≤ i → allZero (drop i rs) ≡ true
-zero-end rs i h = rw (drop-of-length-le rs h)
-
--- Registers are all 0 just where they join to 0.
+-- Registers are all 0 if and only if they join to 0.
 pub zero-joined : (rs : List ℕ) → allZero rs ≡ eqb (join rs) 0
 unfolding join
 zero-joined [] = refl

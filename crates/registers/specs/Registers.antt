@@ -1,10 +1,11 @@
 -- Registers and the raw number that they hold (document 01, "The value rows": registers join high first).
-use mathlib.Core.Bool.{Bool, true, false, _&&_}
+use mathlib.Core.Bool.{Bool, true, false}
 use mathlib.Core.List.{List, [], _∷_}
 use Prim.Native.Nat.{ℕ, zero, suc, _+_, _*_, _/_, _%_, _^_, _<_}
 use lib.Dec.{eqb, leb}
 use lib.ListN.{length}
 use Rattle.lists.specs.Each.{Each}
+use Rattle.lists.specs.Tests.{every}
 
 -- Every number of the list is a register's: below 65536.
 abbrev pub AreRegisters : List ℕ → Type 0
@@ -17,8 +18,7 @@ join (r ∷ rs) = r * 65536 ^ length rs + join rs
 
 -- Are all these registers 0?
 abbrev pub allZero : List ℕ → Bool
-allZero [] = true
-allZero (r ∷ rs) = eqb r 0 && allZero rs
+allZero rs = every (λ r. eqb r 0) rs
 
 -- The n registers of a raw number, the highest first: what is written for it.
 unfoldable pub split : ℕ → ℕ → List ℕ

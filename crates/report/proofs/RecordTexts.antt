@@ -5,7 +5,7 @@ use Prim.Native.Nat.{ℕ, _*_}
 use native.Mathlib.Omega.{arith}
 use lib.ListN.{length}
 use lib.Seq.{take-at}
-use Rattle.listing.specs.Listing.{Record, recordNumbers, entries}
+use Rattle.listing.specs.Listing.{Record, recordNumbers, recordWidth, entries}
 use Rattle.listing.proofs.WrittenRecords.{entries-length}
 use Rattle.report.specs.Text.{numbersLine, recordLines, listingText}
 use Rattle.report.specs.Promises.{behindNumber, numbersText, listText}
@@ -27,4 +27,4 @@ pub listing-text : (rs : List Record) (rest : List ℕ) (headers : ℕ)
     → listText (length rs) headers (entries rs ++ rest) ≡ listingText rs headers
 unfolding listingText
 listing-text rs rest headers =
-    rw (take-at (entries rs) rest (length rs * 10) (omega (arith, entries-length rs)), record-lines rs)
+    rw (take-at (entries rs) rest (length rs * recordWidth) (omega (arith, entries-length rs)), record-lines rs)

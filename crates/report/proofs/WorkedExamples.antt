@@ -16,7 +16,8 @@ use Rattle.layout.specs.Points.{pointAt}
 use Rattle.layout.specs.Layout.{within, groupsSize, fillSize, countUnimplemented, fits, fillOf, pointsAt, instances, groupsAt, contentAt}
 use Rattle.layout.specs.Reading.{endsWithPad, allButLast, laidOut, readBy, topOf, reading}
 use Rattle.listing.specs.Listing.{recordNumbers, walk, recordsBy, allRecords, withRoom, listing}
-use Rattle.input.specs.Lines.{ascii, lines}
+use Rattle.lists.specs.Ascii.{ascii}
+use Rattle.input.specs.Lines.{lines}
 use Rattle.input.specs.Digits.{digitValue, isDigit, digitOr0, wordsOf}
 use Rattle.input.specs.Parsing.{mapFrom, catalogFrom}
 use Rattle.report.specs.Text.{numbersLine, recordLines, listingText, refusalText}

@@ -5,9 +5,10 @@ use Prim.Native.Nat.{ℕ, _+_, _-_, _*_, _%_}
 use Prim.Native.Char.{code}
 use lib.Dec.{eqb}
 use lib.ListN.{take}
+use Rattle.lists.specs.Ascii.{ascii}
 use Rattle.display.specs.Decimals.{digitsOf}
 use Rattle.listing.specs.Listing.{recordWidth}
-use Rattle.input.specs.Lines.{ascii, lineFeed}
+use Rattle.input.specs.Lines.{lineFeed}
 
 -- What stands behind the number with an index among the numbers of records: LF behind the last of a record, else a space.
 unfoldable pub behindNumber : ℕ → ℕ

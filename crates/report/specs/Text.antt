@@ -3,9 +3,10 @@ use mathlib.Core.List.{List, [], _∷_, _++_}
 use Prim.Native.Nat.{ℕ}
 use Prim.Native.Char.{code}
 use lib.ListN.{length}
+use Rattle.lists.specs.Ascii.{ascii}
 use Rattle.display.specs.Decimals.{digitsOf}
 use Rattle.listing.specs.Listing.{Record, recordNumbers}
-use Rattle.input.specs.Lines.{ascii, lineFeed}
+use Rattle.input.specs.Lines.{lineFeed}
 
 -- Numbers as a line: one space between them, and LF behind the last.
 unfoldable pub numbersLine : List ℕ → List ℕ

@@ -6,6 +6,7 @@ use input::FRAME_WORDS;
 use input::Parsed;
 use input::parse;
 use listing::Listing;
+use listing::WIDTH;
 use registers::part;
 use text::put_listing;
 use text::put_refusal;
@@ -27,8 +28,10 @@ pub const CATALOG_WORDS: usize = 8192;
 // The registers of the largest map.
 pub const REGISTERS: usize = 8192;
 
-// The entries of a list for 400 records.
-pub const ENTRIES: usize = 4000;
+// The most records of a listing, and the entries of a list for them.
+const RECORDS: usize = 400;
+
+pub const ENTRIES: usize = RECORDS * WIDTH;
 
 // Room for every text: 64 bytes for the first line, and 20 digits and a space or LF for each entry.
 pub const TEXT_BYTES: usize = 84064;

@@ -6,6 +6,7 @@ ghost use Prim.Native.Nat.{_+_, _*_, _≤_};
 ghost use lib.ListN.{length, take};
 ghost use Rattle.display.specs.Decimals.{digitsOf};
 ghost use Rattle.display.specs.Parts.{Put};
+ghost use Rattle.listing.specs.Listing.{recordWidth};
 ghost use Rattle.report.specs.Text.{refusalText};
 ghost use Rattle.report.specs.Promises.{numbersText, behindNumber, listText};
 
@@ -23,7 +24,7 @@ pub(crate) fn put_refusal(out: &mut [u8], number: u16, place: usize) -> usize
 
 // The first line of a listing and the records of so many points.
 pub(crate) fn put_listing(out: &mut [u8], points: usize, headers: usize, list: &[u64]) -> usize
-    requires { ⌜ points * 10 ≤ length (now list) ⌝ }
+    requires { ⌜ points * recordWidth ≤ length (now list) ⌝ }
     requires { ⌜ 64 + length (now list) * 21 ≤ length (now out) ⌝ }
     ensures { λ r. ⌜ Put (now (out .entry)) (now (out .exit)) 0 (listText points headers (now (list .entry))) r ⌝ }
     ensures { λ r. ⌜ r ≤ length (now (out .exit)) ⌝ }

@@ -10,6 +10,8 @@ use Rattle.lists.specs.Members.{among, Distinct}
 use Rattle.lists.specs.Tests.{keptBy}
 use Rattle.lists.proofs.TestOutcomes.{clash}
 use Rattle.lists.proofs.TestLaws.{neither}
+use Rattle.lists.proofs.EachLaws.{each-implied}
+use Rattle.lists.proofs.SelectedLaws.{selected-same}
 use Rattle.catalog.specs.Definitions.{Definition, definitions}
 use Rattle.catalog.specs.Soundness.{idsOf}
 use Rattle.catalog.specs.Removal.{keeping}
@@ -61,19 +63,11 @@ kept-by-id (c ∷ choice) (d ∷ ds) id distinct e = go (eqb id (d .id)) refl c 
 -- The records left of those whose ids have definitions.
 left-of-known : (choice : List Bool) (ds : List Definition) → Distinct (idsOf ds) → (rs : List Record)
     → Each (λ r. among (r .id) (idsOf ds) ≡ true) rs → recordsLeft choice ds rs ≡ recordsOf (idsOf (keptBy choice ds)) rs
-unfolding recordsLeft recordsOf
-left-of-known choice ds distinct [] known = refl
-left-of-known choice ds distinct (r ∷ rs) known =
-    go (keepsId choice ds (r .id)) (among (r .id) (idsOf (keptBy choice ds))) (kept-by-id choice ds (r .id) distinct (known .0))
-    (left-of-known choice ds distinct rs (known .1))
-  where
-    go : (b c : Bool) → b ≡ c → recordsLeft choice ds rs ≡ recordsOf (idsOf (keptBy choice ds)) rs
-        → _≡_ {A = List Record} (elim b [ true ↦ r ∷ recordsLeft choice ds rs | false ↦ recordsLeft choice ds rs ])
-        (elim c [ true ↦ r ∷ recordsOf (idsOf (keptBy choice ds)) rs | false ↦ recordsOf (idsOf (keptBy choice ds)) rs ])
-    go true true same later = ap {B = List Record} (λ xs. r ∷ xs) later
-    go false false same later = later
-    go true false same later = clash same
-    go false true same later = clash (sym same)
+left-of-known choice ds distinct rs known =
+    let kept = idsOf (keptBy choice ds) in
+    selected-same (λ r. keepsId choice ds (r .id)) (λ r. among (r .id) kept) rs
+    (each-implied (λ r. among (r .id) (idsOf ds) ≡ true) (λ r. keepsId choice ds (r .id) ≡ among (r .id) kept)
+    (λ r. kept-by-id choice ds (r .id) distinct) rs known)
 
 -- Of what is listed, the records left are those with an id of the catalog left.
 pub left-by-id : (choice : List Bool) (catalog map : List ℕ) (room : ℕ) (rs : List Record) (headers : ℕ)

@@ -14,7 +14,6 @@ pub mod AnswerMoved
 pub mod ListingMoved
 -- With definitions removed
 pub mod ReadingLeft
-pub mod RecordsLeft
 pub mod KnownRecords
 pub mod WalkLeft
 pub mod WalksLeft

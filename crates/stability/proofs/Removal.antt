@@ -7,6 +7,7 @@ use Prim.Native.Nat.{ℕ, _*_, _≤_}
 use native.Mathlib.Omega.{arith}
 use lib.ListN.{length, drop}
 use Rattle.lists.specs.Each.{Each}
+use Rattle.lists.proofs.SelectedLaws.{selected-fewer}
 use Rattle.catalog.specs.Checking.{checked, accepted}
 use Rattle.catalog.specs.Definitions.{definitions}
 use Rattle.catalog.specs.Removal.{keeping}
@@ -14,8 +15,7 @@ use Rattle.catalog.proofs.Removal as catalogs
 use Rattle.listing.specs.Listing.{Record, recordWidth, listed, withRoom, listing, entries, stored, listedTold, told}
 use Rattle.listing.proofs.ListingCases.{with-room, listing-walks}
 use Rattle.listing.proofs.WalksBehind.{listed-walks}
-use Rattle.stability.specs.Removed.{recordsLeft}
-use Rattle.stability.proofs.RecordsLeft.{fewer-left}
+use Rattle.stability.specs.Removed.{keepsId, recordsLeft}
 use Rattle.stability.proofs.WalksLeft.{listed-left}
 
 -- For every map that the catalog accepts, every choice of its models and every list that has room for the records left: these
@@ -42,7 +42,7 @@ pub removal-same-list : (choice : List Bool) (catalog map : List ℕ) (room : �
     → listing catalog map room ≡ listed rs headers
     → listing (keeping choice catalog) map room ≡ listed (recordsLeft choice (definitions catalog) rs) headers
 removal-same-list choice catalog map room rs headers e =
-    let fewer = fewer-left choice (definitions catalog) rs in
+    let fewer = selected-fewer (λ r. keepsId choice (definitions catalog) (r .id)) rs in
     let fits = listed-walks catalog map room rs headers e .1 in
     removal choice catalog map room room rs headers e (omega arith)
 

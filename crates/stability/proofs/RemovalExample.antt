@@ -7,6 +7,7 @@ use lib.ListN.{length}
 use Rattle.registers.specs.Registers.{join, shownRaw, tooWide}
 use Rattle.point_types.specs.Rows.{rows, rowAmong, registersOf}
 use Rattle.values.specs.Classes.{inRange, classOf, classified}
+use Rattle.lists.specs.Tests.{selected}
 use Rattle.catalog.specs.Frames.{frameOf, framesFrom}
 use Rattle.catalog.specs.Rules.{isSizeOf}
 use Rattle.catalog.specs.Checking.{checkFrom, checked}
@@ -66,7 +67,7 @@ both-listed = refl
 
 -- What is left of it without model 1.
 pub model7-left : recordsLeft (allButOne 0) (definitions catalog) (model1 ∷ model7 ∷ []) ≡ model7 ∷ []
-unfolding frameOf framesFrom parsed keepsId recordsLeft
+unfolding frameOf framesFrom parsed keepsId selected
 model7-left = refl
 
 -- What the catalog without model 1 lists, into a list of ten entries.

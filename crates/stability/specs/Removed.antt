@@ -4,6 +4,7 @@ use mathlib.Core.List.{List, [], _∷_}
 use Prim.Native.Nat.{ℕ, zero, suc}
 use lib.Dec.{eqb}
 use Rattle.lists.specs.Members.{among}
+use Rattle.lists.specs.Tests.{selected}
 use Rattle.catalog.specs.Definitions.{Definition}
 use Rattle.register_map.specs.Scan.{Model}
 use Rattle.listing.specs.Listing.{Record}
@@ -15,10 +16,8 @@ keepsId (c ∷ choice) [] id = true
 keepsId (c ∷ choice) (d ∷ ds) id = elim (eqb (d .id) id) [ true ↦ c | false ↦ keepsId choice ds id ]
 
 -- The records of the models whose definitions the choice keeps, in their order.
-unfoldable pub recordsLeft : List Bool → List Definition → List Record → List Record
-recordsLeft choice ds [] = []
-recordsLeft choice ds (r ∷ rs) =
-    elim (keepsId choice ds (r .id)) [ true ↦ r ∷ recordsLeft choice ds rs | false ↦ recordsLeft choice ds rs ]
+abbrev pub recordsLeft : List Bool → List Definition → List Record → List Record
+recordsLeft choice ds = selected (λ r. keepsId choice ds (r .id))
 
 -- Does the choice keep the definition that the model with an index finds? (Behind the last model there is nothing to remove.)
 unfoldable pub keepsAt : List Bool → List Definition → ℕ → List Model → Bool
@@ -27,6 +26,5 @@ keepsAt choice ds zero (m ∷ ms) = keepsId choice ds (m .id)
 keepsAt choice ds (suc n) (m ∷ ms) = keepsAt choice ds n ms
 
 -- The records of the models with one of these ids.
-unfoldable pub recordsOf : List ℕ → List Record → List Record
-recordsOf ids [] = []
-recordsOf ids (r ∷ rs) = elim (among (r .id) ids) [ true ↦ r ∷ recordsOf ids rs | false ↦ recordsOf ids rs ]
+abbrev pub recordsOf : List ℕ → List Record → List Record
+recordsOf ids = selected (λ r. among (r .id) ids)

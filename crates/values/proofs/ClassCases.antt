@@ -1,4 +1,4 @@
--- The ways to a class, and from a class to the answer of `decode`.
+-- The ways to a class, and to the answer of `decode`.
 use mathlib.Core.Path.{_≡_, refl}
 use mathlib.Core.Bool.{Bool, true, false, _&&_, and-false}
 use mathlib.Core.Option.{Option, none, some}
@@ -6,58 +6,19 @@ use mathlib.Core.List.{List}
 use Prim.Native.Nat.{ℕ, _≤_, _<_}
 use borrow.Author.Tests.{le-leb, lt-leb, leb-true}
 use lib.Dec.{leb}
-use lib.Ieee.{binary32, ofBits}
 use Rattle.lists.proofs.TestOutcomes.{impossible}
 use Rattle.registers.specs.Registers as registers
-use Rattle.point_types.specs.Rows.{TypeRow, Kind, rowOf}
+use Rattle.point_types.specs.Rows.{TypeRow, rowOf}
 use Rattle.point_types.proofs.Table.{from-one}
-use Rattle.values.specs.Classes.{width, twosComplement, isUnimplemented, inRange, value, unimplemented, outOfRange, classOf, classified, ofClass, tooWide, unknownType}
-use Rattle.values.specs.Decoding as decoding
-use Rattle.values.specs.Decoding.{patternIn, numberOf, valueOf, decodable, decoded, refused}
+use Rattle.values.specs.Classes.{isUnimplemented, inRange, value, unimplemented, classOf, classified, ofClass, tooWide}
+use Rattle.values.specs.Decoding.{patternIn, valueOf, decodable, decoded, refused}
 
-module _ (row : TypeRow) (raw : ℕ) where
-  pub unimplemented-pattern : isUnimplemented (row .unimplemented) raw ≡ true → classOf row raw ≡ unimplemented
-  unfolding classOf
-  unimplemented-pattern m = simp (classOf, m)
-
-  pub in-range : isUnimplemented (row .unimplemented) raw ≡ false → inRange row raw ≡ true → classOf row raw ≡ value
-  unfolding classOf
-  in-range m r = simp (classOf, m, r)
-
-  pub not-in-range : isUnimplemented (row .unimplemented) raw ≡ false → inRange row raw ≡ false → classOf row raw ≡ outOfRange
-  unfolding classOf
-  not-in-range m r = simp (classOf, m, r)
-
-  pub answer-value : classOf row raw ≡ value → valueOf row raw ≡ numberOf row raw
-  unfolding valueOf
-  answer-value e = simp (valueOf, e)
-
-  pub answer-unimplemented : classOf row raw ≡ unimplemented → valueOf row raw ≡ decoding.unimplemented
-  unfolding valueOf
-  answer-unimplemented e = simp (valueOf, e)
-
-  pub answer-out-of-range : classOf row raw ≡ outOfRange → valueOf row raw ≡ decoding.outOfRange
-  unfolding valueOf
-  answer-out-of-range e = simp (valueOf, e)
-
-  -- The number by the type's kind.
-  pub number-signed : row .kind ≡ Kind.signed → numberOf row raw ≡ decoding.signed (twosComplement (width row) raw)
-  unfolding numberOf
-  number-signed e = simp (numberOf, e)
-
-  pub number-unsigned : row .kind ≡ Kind.unsigned → numberOf row raw ≡ decoding.unsigned raw
-  unfolding numberOf
-  number-unsigned e = simp (numberOf, e)
-
-  pub number-float : row .kind ≡ Kind.float → numberOf row raw ≡ decoding.float (ofBits binary32 raw)
-  unfolding numberOf
-  number-float e = simp (numberOf, e)
+pub in-range : (row : TypeRow) (raw : ℕ) → isUnimplemented (row .unimplemented) raw ≡ false → inRange row raw ≡ true
+    → classOf row raw ≡ value
+unfolding classOf
+in-range row raw m r = simp (classOf, m, r)
 
 module _ (code raw : ℕ) where
-  pub unknown : rowOf code ≡ none → classified code raw ≡ unknownType
-  unfolding classified
-  unknown e = simp (classified, e)
-
   pub too-wide : (row : TypeRow) → rowOf code ≡ some row → registers.tooWide (row .most) raw ≡ true → classified code raw ≡ tooWide
   unfolding classified
   too-wide row e w = simp (classified, e, w)

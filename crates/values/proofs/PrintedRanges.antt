@@ -13,7 +13,7 @@ use lib.Ieee.Fits.{and-l, and-r}
 use lib.Signed.{leZ, _≤ℤ_}
 use Rattle.lists.specs.Each.{Each}
 use Rattle.lists.specs.Tests.{every}
-use Rattle.lists.proofs.TestOutcomes.{impossible}
+use Rattle.lists.proofs.TestOutcomes.{impossible, clash}
 use Rattle.registers.specs.Registers.{AreRegisters}
 use Rattle.point_types.specs.Rows.{TypeRow, Kind, signed, unsigned, float, Unimplemented, never, pattern, Range, whole, between, notNaN, rows, rowAmong}
 use Rattle.point_types.proofs.Table.{signed-width, edgeTest, edges}
@@ -61,9 +61,6 @@ greatest row = greatestIn (row .range) (row .kind) (width row) (onesUnimplemente
 -- An integer from the row's least to its greatest.
 abbrev Bounded : TypeRow → ℤ → Type 0
 Bounded row z = T (leZ (least row) z) × T (leZ z (greatest row))
-
-never-both : false ≡ true → ⊥
-never-both e = subst T (sym e) tt
 
 other-kind : unsigned ≡ signed → ⊥
 other-kind e = impossible (cc)
@@ -113,7 +110,7 @@ module _ (row : TypeRow) (raw : ℕ) (p : PatternOf row raw) (v : classOf row ra
     where
       top : (b : Bool) → onesUnimplemented row ≡ b → T (leZ (pos raw) (greatestIn whole unsigned (width row) b))
       top true e =
-          let n : raw ≡ 2 ^ width row - 1 → ⊥ = λ q. never-both (sym implemented ∙ ap (isUnimplemented (row .unimplemented)) q ∙ e) in
+          let n : raw ≡ 2 ^ width row - 1 → ⊥ = λ q. clash (sym e ∙ sym (ap (isUnimplemented (row .unimplemented)) q) ∙ implemented) in
           le→leb raw (2 ^ width row - 2) (omega (arith, p .fits, n))
       top false e = le→leb raw (2 ^ width row - 1) (omega (arith, p .fits))
 

@@ -29,9 +29,10 @@ module _ (row : TypeRow) (raw : ℕ) where
       go false e false q = (e, q)
 
   of-tests : (c : Class) → Tests c → classOf row raw ≡ c
-  of-tests unimplemented t = cases.unimplemented-pattern row raw t
-  of-tests outOfRange t = cases.not-in-range row raw (t .0) (t .1)
-  of-tests value t = cases.in-range row raw (t .0) (t .1)
+  unfolding classOf
+  of-tests unimplemented t = simp (classOf, t)
+  of-tests outOfRange t = simp (classOf, t .0, t .1)
+  of-tests value t = simp (classOf, t .0, t .1)
 
   pub class-is-its-tests : (c : Class) → (classOf row raw ≡ c) ↔ Tests c
   class-is-its-tests c = (λ e. rw e at tested, of-tests c)

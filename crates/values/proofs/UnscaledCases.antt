@@ -1,7 +1,7 @@
 -- The ways to the integer that a scale factor multiplies, or to why there is none.
 use mathlib.Core.Path.{_≡_, refl, sym, ap, _∙_}
 use mathlib.Core.Bool.{Bool, true, false, not}
-use mathlib.Core.Option.{none, some}
+use mathlib.Core.Option.{some}
 use Prim.Native.Nat.{ℕ, suc, _+_, _-_, _/_, _^_, _≤_, _<_}
 use native.Mathlib.Omega.{arith}
 use borrow.Author.Tests.{leb-false}
@@ -11,31 +11,13 @@ use lib.Signed.{nonNeg}
 use Rattle.lists.proofs.TestOutcomes.{impossible}
 use Rattle.registers.specs.Registers.{tooWide}
 use Rattle.point_types.specs.Rows.{TypeRow, rowOf}
-use Rattle.values.specs.Classes.{width, twosComplement, integer, isValue, classified}
-use Rattle.values.specs.Unscaled.{Unscaled, number, noValue, notScalable, unscaled}
+use Rattle.values.specs.Classes.{width, twosComplement, isValue, classified}
+use Rattle.values.specs.Unscaled.{Unscaled, number, noValue, notScalable}
 use Rattle.values.specs.Answers.{bySign, unscaledForm}
 use Rattle.values.specs.declared.UnscaledValue.{UnscaledValue}
 use Rattle.values.proofs.ClassCases.{too-wide}
 use Rattle.values.proofs.TwosComplement.{lower-half, upper-half}
 use Rattle.values.proofs.MachineIntegers.{halves}
-
-module _ (code raw : ℕ) where
-  pub unknown : rowOf code ≡ none → unscaled code raw ≡ notScalable
-  unfolding unscaled
-  unknown e = simp (unscaled, e)
-
-  module _ (row : TypeRow) (is : rowOf code ≡ some row) where
-    pub not-scalable : row .scalable ≡ false → unscaled code raw ≡ notScalable
-    unfolding unscaled
-    not-scalable s = simp (unscaled, is, s)
-
-    pub no-value : row .scalable ≡ true → isValue (classified code raw) ≡ false → unscaled code raw ≡ noValue
-    unfolding unscaled
-    no-value s v = simp (unscaled, is, s, v)
-
-    pub a-number : row .scalable ≡ true → isValue (classified code raw) ≡ true → unscaled code raw ≡ number (integer row raw)
-    unfolding unscaled
-    a-number s v = simp (unscaled, is, s, v)
 
 -- A raw number that is a value of its type is not too wide for it.
 pub value-fits : (code raw : ℕ) (row : TypeRow) → rowOf code ≡ some row → isValue (classified code raw) ≡ true → raw < 2 ^ width row

@@ -6,59 +6,17 @@ use lib.Seq.{length-take-le}
 use Rattle.examples.proofs.gives.Statement.{statement}
 use Rattle.examples.proofs.gives.Tie as tie
 
-read-plant-requires : tie.Need-read-plant-requires
-read-plant-requires c κs = search needs
-
-enum-known-report : tie.Need-enum-known-report
-enum-known-report c = search needs
-
-array-share-prefix-text : tie.Need-array-share-prefix-text
-array-share-prefix-text c =
-    let h = rw (c .before .report .given .1) at (c .before .before .before .read-plant .ensures .1 .1 .0) in
-    omega (arith, h)
-
-slice-aggregate-same : tie.Need-slice-aggregate-same
-slice-aggregate-same c =
-    let h = rw (c .before .before .report .given .1) at (c .before .before .before .before .read-plant .ensures .1 .1 .0) in
-    sym (length-take-le _ _ h)
-
-same-requires : tie.Need-same-requires
-same-requires c κs = search needs
-
-enum-known-report-2 : tie.Need-enum-known-report-2
-enum-known-report-2 c = search needs
-
-array-share-prefix-text-2 : tie.Need-array-share-prefix-text-2
-array-share-prefix-text-2 c =
-    let h = rw (c .before .report2 .given .1) at (c .before .before .before .read-plant .ensures .1 .1 .0) in
-    omega (arith, h)
-
-slice-aggregate-is-refusal : tie.Need-slice-aggregate-is-refusal
-slice-aggregate-is-refusal c =
-    let h = rw (c .before .before .report2 .given .1) at (c .before .before .before .before .read-plant .ensures .1 .1 .0) in
-    sym (length-take-le _ _ h)
-
-is-refusal-requires : tie.Need-is-refusal-requires
-is-refusal-requires c κs = search needs
-
-returns : tie.Need-returns
-returns c = search needs
-
-returns-2 : tie.Need-returns-2
-returns-2 c = search needs
-
 pub gives-spec : {M : Type 1} → statement M
 gives-spec =
     tie.close
-    (tie.spec
-    read-plant-requires
-    enum-known-report
-    array-share-prefix-text
-    slice-aggregate-same
-    same-requires
-    enum-known-report-2
-    array-share-prefix-text-2
-    slice-aggregate-is-refusal
-    is-refusal-requires
-    returns
-    returns-2)
+    (tie.spec (λ c κs. search needs) (λ c. search needs)
+    (λ c. omega (arith, rw (c .before .report .given .1) at (c .before .before .before .read-plant .ensures .1 .1 .0)))
+    (λ c.
+    let h = rw (c .before .before .report .given .1) at (c .before .before .before .before .read-plant .ensures .1 .1 .0) in
+    sym (length-take-le _ _ h))
+    (λ c κs. search needs) (λ c. search needs)
+    (λ c. omega (arith, rw (c .before .report2 .given .1) at (c .before .before .before .read-plant .ensures .1 .1 .0)))
+    (λ c.
+    let h = rw (c .before .before .report2 .given .1) at (c .before .before .before .before .read-plant .ensures .1 .1 .0) in
+    sym (length-take-le _ _ h))
+    (λ c κs. search needs) (λ c. search needs) (λ c. search needs))

@@ -10,15 +10,6 @@ use Rattle.input.proofs.ParsedLists.{refusal-told, catalog-kept, map-ke
 use Rattle.input.proofs.parse.Statement.{statement}
 use Rattle.input.proofs.parse.Tie as tie
 
-survey-catalog-requires : tie.Need-survey-catalog-requires
-survey-catalog-requires c κs = search needs
-
-enum-known-found : tie.Need-enum-known-found
-enum-known-found c = search needs
-
-enum-known-found-2 : tie.Need-enum-known-found-2
-enum-known-found-2 c = search needs
-
 add-survey-map : tie.Need-add-survey-map
 add-survey-map c =
     let f = rw (c .before .found2 .given .1) at (c .before .before .before .survey-catalog .ensures) in
@@ -28,12 +19,6 @@ survey-map-requires : tie.Need-survey-map-requires
 survey-map-requires c κs =
     let f = rw (c .before .found2 .given .1) at (c .before .before .before .survey-catalog .ensures) in
     omega (arith, f .1)
-
-enum-known-rest : tie.Need-enum-known-rest
-enum-known-rest c = search needs
-
-enum-known-rest-2 : tie.Need-enum-known-rest-2
-enum-known-rest-2 c = search needs
 
 mul-store-words : tie.Need-mul-store-words
 mul-store-words c =
@@ -74,12 +59,6 @@ returns-2 c =
     let e = f .0 .rest (length (a .map .now)) ∙ ap (withFrame (f .0 .catalog)) g in
     (refusal-told e, (catalog-kept e (a .catalog .now), (map-kept e (a .map .now), tt)))
 
-same-length : tie.Need-same-length
-same-length c = search needs
-
-same-length-2 : tie.Need-same-length-2
-same-length-2 c = search needs
-
 returns-3 : tie.Need-returns-3
 returns-3 c =
     let a = c .before .before .before .before .before .before .before .before .before .before .before .before .before .before .before .before .before .before .before .args in
@@ -106,19 +85,6 @@ returns-3 c =
 pub parse-spec : {M : Type 1} → statement M
 parse-spec =
     tie.close
-    (tie.spec
-    survey-catalog-requires
-    enum-known-found
-    enum-known-found-2
-    add-survey-map
-    survey-map-requires
-    enum-known-rest
-    enum-known-rest-2
-    mul-store-words
-    store-words-requires
-    store-words-requires-2
-    returns
-    returns-2
-    same-length
-    same-length-2
-    returns-3)
+    (tie.spec (λ c κs. search needs) (λ c. search needs) (λ c. search needs) add-survey-map survey-map-requires
+    (λ c. search needs) (λ c. search needs) mul-store-words store-words-requires store-words-requires-2 returns returns-2
+    (λ c. search needs) (λ c. search needs) returns-3)

@@ -3,7 +3,7 @@ use mathlib.Core.Path.{_≡_, sym, ap, subst, _∙_}
 use mathlib.Core.List.{List}
 use Prim.Native.Nat.{ℕ, _/_, _≤_}
 use native.Mathlib.Omega.{arith}
-use lib.ListN.{length}
+use lib.ListN.{length, length-replicate}
 use Rattle.catalog.specs.Definitions.{definitions}
 use Rattle.layout.specs.Reading.{reading}
 use Rattle.listing.specs.Listing.{walked, allRecords, listedTold, told, stored, recordWidth}
@@ -29,7 +29,7 @@ survey-walk catalog registers out points headers e room =
     (w, subst (λ a. WalkFits a out) (sym (w .walks)) fits, w .walks)
 
 slice-aggregate-survey-plant : tie.Need-slice-aggregate-survey-plant
-slice-aggregate-survey-plant c = search needs
+slice-aggregate-survey-plant c = sym (length-replicate {A = ℕ} 65536 0)
 
 survey-plant-requires : tie.Need-survey-plant-requires
 survey-plant-requires c κs = search needs

@@ -2,8 +2,8 @@
 -- was kept fits there.
 use Prim.Native.Nat.{_≤_, _-_}
 use mathlib.Core.Path.{_≡_}
-use borrow.Author.Needs.{needs}
 use lib.ListN.{length}
+use borrow.Author.Needs.{needs}
 use Rattle.probe.proofs.answer_input.Statement.{statement}
 use Rattle.probe.proofs.answer_input.Tie as tie
 
@@ -16,26 +16,8 @@ abbrev μ-loop : tie.MeasureT-loop
 loop-holds : tie.Need-loop-holds Inv-loop μ-loop
 loop-holds c = search needs
 
-fill-requires : tie.Need-fill-requires Inv-loop μ-loop
-fill-requires c κs = search needs
-
-slice-reshare-prefix-answer-lines : tie.Need-slice-reshare-prefix-answer-lines Inv-loop μ-loop
-slice-reshare-prefix-answer-lines c = search needs
-
-slice-aggregate-answer-lines : tie.Need-slice-aggregate-answer-lines Inv-loop μ-loop
-slice-aggregate-answer-lines c = search needs
-
-answer-lines-requires : tie.Need-answer-lines-requires Inv-loop μ-loop
-answer-lines-requires c κs = search needs
-
-same-length : tie.Need-same-length Inv-loop μ-loop
-same-length c = search needs
-
-returns : tie.Need-returns Inv-loop μ-loop
-returns c = search needs
-
-move-to-front-requires : tie.Need-move-to-front-requires Inv-loop μ-loop
-move-to-front-requires c κs = search needs
+answer-round-requires : tie.Need-answer-round-requires Inv-loop μ-loop
+answer-round-requires c κs = search needs
 
 add-round : tie.Need-add-round Inv-loop μ-loop
 add-round c = search needs
@@ -46,11 +28,11 @@ loop-less c = search needs
 loop-again : tie.Need-loop-again Inv-loop μ-loop
 loop-again c = search needs
 
-same-length-2 : tie.Need-same-length-2 Inv-loop μ-loop
-same-length-2 c = search needs
+same-length : tie.Need-same-length Inv-loop μ-loop
+same-length c = search needs
 
-returns-2 : tie.Need-returns-2 Inv-loop μ-loop
-returns-2 c = search needs
+returns : tie.Need-returns Inv-loop μ-loop
+returns c = search needs
 
 pub answer-input-spec : {M : Type 1} → statement M
 answer-input-spec =
@@ -59,15 +41,9 @@ answer-input-spec =
     Inv-loop
     μ-loop
     loop-holds
-    fill-requires
-    slice-reshare-prefix-answer-lines
-    slice-aggregate-answer-lines
-    answer-lines-requires
-    same-length
-    returns
-    move-to-front-requires
+    answer-round-requires
     add-round
     loop-less
     loop-again
-    same-length-2
-    returns-2)
+    same-length
+    returns)

@@ -1,7 +1,7 @@
--- `probe::answer_lines` meets its contract, and ends: each line starts behind the one before it.
+-- `probe::answer_lines` meets its contract, and ends: each line starts after the one before it.
 use Prim.Native.Nat.{_-_}
-use borrow.Author.Needs.{needs}
 use lib.ListN.{length}
+use borrow.Author.Needs.{needs}
 use Rattle.probe.proofs.answer_lines.Statement.{statement}
 use Rattle.probe.proofs.answer_lines.Tie as tie
 
@@ -16,9 +16,6 @@ loop-holds c = search needs
 
 find-requires : tie.Need-find-requires Inv-loop μ-loop
 find-requires c κs = search needs
-
-is-cut-requires : tie.Need-is-cut-requires Inv-loop μ-loop
-is-cut-requires c κs = search needs
 
 returns : tie.Need-returns Inv-loop μ-loop
 returns c = search needs
@@ -55,7 +52,6 @@ answer-lines-spec =
     μ-loop
     loop-holds
     find-requires
-    is-cut-requires
     returns
     sub-answer
     part-answer-start

@@ -9,25 +9,16 @@ use borrow.Author.Needs.{needs}
 use Rattle.register_map.proofs.opened.Statement.{statement}
 use Rattle.register_map.proofs.opened.Tie as tie
 
-returns : tie.Need-returns
-returns c = sym (opening-long (c .before .args .map .now) (c .if1 .taken))
-
 returns-2 : tie.Need-returns-2
 returns-2 c =
     let map = c .before .before .args .map .now in
     sym (opening-without-SunS map (c .before .if1 .left) (too-short map (c .if2 .taken)))
-
-shared-slice-read-if3 : tie.Need-shared-slice-read-if3
-shared-slice-read-if3 c = search needs
 
 returns-3 : tie.Need-returns-3
 returns-3 c =
     let map = c .before .before .before .before .args .map .now in
     let wrong = ne-eqb _ _ (c .if3 .taken) in
     sym (opening-without-SunS map (c .before .before .before .if1 .left) (rw wrong))
-
-shared-slice-read-if4 : tie.Need-shared-slice-read-if4
-shared-slice-read-if4 c = search needs
 
 returns-4 : tie.Need-returns-4
 returns-4 c =
@@ -46,11 +37,5 @@ returns-5 c =
 pub opened-spec : {M : Type 1} → statement M
 opened-spec =
     tie.close
-    (tie.spec
-    returns
-    returns-2
-    shared-slice-read-if3
-    returns-3
-    shared-slice-read-if4
-    returns-4
-    returns-5)
+    (tie.spec (λ c. sym (opening-long (c .before .args .map .now) (c .if1 .taken)))
+    returns-2 (λ c. search needs) returns-3 (λ c. search needs) returns-4 returns-5)

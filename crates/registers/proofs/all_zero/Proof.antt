@@ -3,9 +3,11 @@ use mathlib.Core.Path.{_≡_, sym, _∙_}
 use Prim.Native.Nat.{_-_}
 use native.Mathlib.Omega.{arith}
 use borrow.Author.Needs.{needs}
-use lib.ListN.{length, drop}
+use borrow.Author.Tests.{eq-eqb, ne-eqb}
+use lib.Dec.{eqb}
+use lib.ListN.{length, getD, drop}
+use Rattle.lists.proofs.EveryLaws.{every-on, every-not, every-end}
 use Rattle.registers.specs.Registers.{allZero}
-use Rattle.registers.proofs.RegisterParts.{zero-on, zero-not, zero-end}
 use Rattle.registers.proofs.all_zero.Statement.{statement}
 use Rattle.registers.proofs.all_zero.Tie as tie
 
@@ -15,49 +17,31 @@ Inv-loop registers i₀ i = allZero (drop i registers) ≡ allZero registers
 abbrev μ-loop : tie.MeasureT-loop
 μ-loop registers i₀ i = length registers - i
 
-loop-holds : tie.Need-loop-holds Inv-loop μ-loop
-loop-holds c = search needs
-
-mul-if1 : tie.Need-mul-if1 Inv-loop μ-loop
-mul-if1 c = search needs
-
-shared-slice-read-if1 : tie.Need-shared-slice-read-if1 Inv-loop μ-loop
-shared-slice-read-if1 c = search needs
-
 returns : tie.Need-returns Inv-loop μ-loop
 returns c =
     let l = c .before .before .before in
     let rs = l .before .args .registers .now in
-    sym (zero-not rs (l .loop .i) (c .before .before .loop-test .taken) (λ q. omega (arith, q, c .if1 .taken))) ∙ l .loop .inv
-
-add-i : tie.Need-add-i Inv-loop μ-loop
-add-i c = search needs
-
-loop-less : tie.Need-loop-less Inv-loop μ-loop
-loop-less c = search needs
+    sym
+    (every-not (λ r. eqb r 0) rs (l .loop .i) (c .before .before .loop-test .taken)
+    (ne-eqb (getD rs (l .loop .i) 0) 0 (λ q. omega (arith, q, c .if1 .taken))))
+    ∙ l .loop .inv
 
 loop-again : tie.Need-loop-again Inv-loop μ-loop
 loop-again c =
     let l = c .before .before .before in
     let rs = l .before .args .registers .now in
-    sym (zero-on rs (l .loop .i) (c .before .before .loop-test .taken) (omega (arith, c .if1 .left))) ∙ l .loop .inv
+    sym
+    (every-on (λ r. eqb r 0) rs (l .loop .i) (c .before .before .loop-test .taken)
+    (eq-eqb (getD rs (l .loop .i) 0) 0 (omega (arith, c .if1 .left))))
+    ∙ l .loop .inv
 
 returns-2 : tie.Need-returns-2 Inv-loop μ-loop
 returns-2 c =
     let l = c .before in
-    sym (zero-end (l .before .args .registers .now) (l .loop .i) (c .loop-test .left)) ∙ l .loop .inv
+    sym (every-end (λ r. eqb r 0) (l .before .args .registers .now) (l .loop .i) (c .loop-test .left)) ∙ l .loop .inv
 
 pub all-zero-spec : {M : Type 1} → statement M
 all-zero-spec =
     tie.close
-    (tie.spec
-    Inv-loop
-    μ-loop
-    loop-holds
-    mul-if1
-    shared-slice-read-if1
-    returns
-    add-i
-    loop-less
-    loop-again
-    returns-2)
+    (tie.spec Inv-loop μ-loop (λ c. search needs) (λ c. search needs) (λ c. search needs) returns (λ c. search needs)
+    (λ c. search needs) loop-again returns-2)

@@ -36,29 +36,11 @@ mul-raw c =
     let rs = c .before .before .before .before .args .registers .now in
     omega (arith, room (length rs - l .left) (l .raw) (omega arith) (l .inv .2))
 
-sub-wide : tie.Need-sub-wide Inv-loop μ-loop
-sub-wide c = search needs
-
-mul-wide : tie.Need-mul-wide Inv-loop μ-loop
-mul-wide c = search needs
-
-shared-slice-read-wide : tie.Need-shared-slice-read-wide Inv-loop μ-loop
-shared-slice-read-wide c = search needs
-
-wide-requires : tie.Need-wide-requires Inv-loop μ-loop
-wide-requires c κs = search needs
-
 add-raw : tie.Need-add-raw Inv-loop μ-loop
 add-raw c =
     let l = c .before .before .before .loop in
     let rs = c .before .before .before .before .before .before .args .registers .now in
     omega (arith, c .wide .ensures .1, room (length rs - l .left) (l .raw) (omega arith) (l .inv .2))
-
-sub-left : tie.Need-sub-left Inv-loop μ-loop
-sub-left c = search needs
-
-loop-less : tie.Need-loop-less Inv-loop μ-loop
-loop-less c = search needs
 
 loop-again : tie.Need-loop-again Inv-loop μ-loop
 loop-again c =
@@ -84,18 +66,5 @@ returns-2 c =
 pub raw-value-spec : {M : Type 1} → statement M
 raw-value-spec =
     tie.close
-    (tie.spec
-    Inv-loop
-    μ-loop
-    returns
-    loop-holds
-    mul-raw
-    sub-wide
-    mul-wide
-    shared-slice-read-wide
-    wide-requires
-    add-raw
-    sub-left
-    loop-less
-    loop-again
-    returns-2)
+    (tie.spec Inv-loop μ-loop returns loop-holds mul-raw (λ c. search needs) (λ c. search needs) (λ c. search needs)
+    (λ c κs. search needs) add-raw (λ c. search needs) (λ c. search needs) loop-again returns-2)

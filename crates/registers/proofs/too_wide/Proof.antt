@@ -8,13 +8,10 @@ use Rattle.registers.proofs.Joining.{above-ones}
 use Rattle.registers.proofs.too_wide.Statement.{statement}
 use Rattle.registers.proofs.too_wide.Tie as tie
 
-all-ones-requires : tie.Need-all-ones-requires
-all-ones-requires c κs = search needs
-
 returns : tie.Need-returns
 returns c =
     let a = c .before .args in
     ap (λ (ones : ℕ). ltb ones (a .raw)) (c .all-ones .ensures) ∙ above-ones (a .count) (a .raw) (omega arith)
 
 pub too-wide-spec : {M : Type 1} → statement M
-too-wide-spec = tie.close (tie.spec all-ones-requires returns)
+too-wide-spec = tie.close (tie.spec (λ c κs. search needs) returns)

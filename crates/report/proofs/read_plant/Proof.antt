@@ -14,31 +14,10 @@ use Rattle.report.proofs.InputCases.{catalog-cut, map-cut, found-words,
 use Rattle.report.proofs.read_plant.Statement.{statement}
 use Rattle.report.proofs.read_plant.Tie as tie
 
-parse-requires : tie.Need-parse-requires
-parse-requires c κs = search needs
-
-enum-known-parsed : tie.Need-enum-known-parsed
-enum-known-parsed c = search needs
-
-put-refusal-requires : tie.Need-put-refusal-requires
-put-refusal-requires c κs = search needs
-
-enum-known-parsed-2 : tie.Need-enum-known-parsed-2
-enum-known-parsed-2 c = search needs
-
 mul-part : tie.Need-mul-part
 mul-part c =
     let f = rw (c .before .before .before .parsed2 .given .1) at (c .before .before .before .before .before .parse .ensures .1 .1 .1) in
     omega (arith, f .0)
-
-part-requires : tie.Need-part-requires
-part-requires c κs = search needs
-
-part-requires-2 : tie.Need-part-requires-2
-part-requires-2 c κs = search needs
-
-report-listing-requires : tie.Need-report-listing-requires
-report-listing-requires c κs = search needs
 
 returns : tie.Need-returns
 returns c =
@@ -92,14 +71,5 @@ returns-2 c =
 pub read-plant-spec : {M : Type 1} → statement M
 read-plant-spec =
     tie.close
-    (tie.spec
-    parse-requires
-    enum-known-parsed
-    put-refusal-requires
-    enum-known-parsed-2
-    mul-part
-    part-requires
-    part-requires-2
-    report-listing-requires
-    returns
-    returns-2)
+    (tie.spec (λ c κs. search needs) (λ c. search needs) (λ c κs. search needs) (λ c. search needs) mul-part
+    (λ c κs. search needs) (λ c κs. search needs) (λ c κs. search needs) returns returns-2)

@@ -11,22 +11,10 @@ use Rattle.report.proofs.ReportCases.{refusal-made, listing-made}
 use Rattle.report.proofs.report_listing.Statement.{statement}
 use Rattle.report.proofs.report_listing.Tie as tie
 
-list-requires : tie.Need-list-requires
-list-requires c κs = search needs
-
-enum-known-listing : tie.Need-enum-known-listing
-enum-known-listing c = search needs
-
-put-refusal-requires : tie.Need-put-refusal-requires
-put-refusal-requires c κs = search needs
-
-enum-known-listing-2 : tie.Need-enum-known-listing-2
-enum-known-listing-2 c = search needs
-
 put-listing-requires : tie.Need-put-listing-requires
 put-listing-requires c κs =
     let a = c .before .before .before .before .before .before .before .before .before .before .args in
-    let room : length (a .list .now) ≡ 4000 = search needs in
+    let room : length (a .list .now) ≡ listRoom = search needs in
     let found = listing (a .catalog .now) (a .map .now) listRoom in
     let g = c .before .before .before .before .listing2 .given in
     let tells = ap answer (sym (g .1)) ∙ (rw room at (c .before .before .before .before .before .before .list .ensures .0)) in
@@ -38,7 +26,7 @@ put-listing-requires c κs =
 returns : tie.Need-returns
 returns c =
     let a = c .before .before .before .before .before .before .before .before .before .args in
-    let room : length (a .list .now) ≡ 4000 = search needs in
+    let room : length (a .list .now) ≡ listRoom = search needs in
     let found = listing (a .catalog .now) (a .map .now) listRoom in
     let g = c .before .before .before .listing .given in
     let tells = ap answer (sym (g .1)) ∙ (rw room at (c .before .before .before .before .before .list .ensures .0)) in
@@ -49,7 +37,7 @@ returns c =
 returns-2 : tie.Need-returns-2
 returns-2 c =
     let a = c .before .before .before .before .before .before .before .before .before .before .before .args in
-    let room : length (a .list .now) ≡ 4000 = search needs in
+    let room : length (a .list .now) ≡ listRoom = search needs in
     let found = listing (a .catalog .now) (a .map .now) listRoom in
     let g = c .before .before .before .before .before .listing2 .given in
     let tells = ap answer (sym (g .1)) ∙ (rw room at (c .before .before .before .before .before .before .before .list .ensures .0)) in
@@ -61,11 +49,5 @@ returns-2 c =
 pub report-listing-spec : {M : Type 1} → statement M
 report-listing-spec =
     tie.close
-    (tie.spec
-    list-requires
-    enum-known-listing
-    put-refusal-requires
-    enum-known-listing-2
-    put-listing-requires
-    returns
+    (tie.spec (λ c κs. search needs) (λ c. search needs) (λ c κs. search needs) (λ c. search needs) put-listing-requires returns
     returns-2)

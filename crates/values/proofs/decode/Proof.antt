@@ -11,18 +11,6 @@ use Rattle.values.proofs.FoundRow as row
 use Rattle.values.proofs.decode.Statement.{statement}
 use Rattle.values.proofs.decode.Tie as tie
 
-returns : tie.Need-returns
-returns c = sym (cases.beyond (c .before .args .type-code) (c .before .args .t2) (omega arith))
-
-row-of-requires : tie.Need-row-of-requires
-row-of-requires c κs = search needs
-
-enum-known-found : tie.Need-enum-known-found
-enum-known-found c = search needs
-
-cast-count : tie.Need-cast-count
-cast-count c = search needs
-
 -- The row that was found is the table's.
 at : (c : tie.After-found) → rowOf (c .before .before .before .before .args .type-code) ≡ some (rowMeans (c .found .given .0 .0))
 at c = sym (c .before .before .row-of .ensures) ∙ ap foundMeans (c .found .given .1)
@@ -39,18 +27,12 @@ slice-aggregate-raw-value c =
     let e = f .before .before .before in
     row.first-length (e .before .args .type-code) (e .before .args .t2) (rowMeans (f .found .given .0 .0)) (search needs) (e .if1 .left) (at f)
 
-raw-value-requires : tie.Need-raw-value-requires
-raw-value-requires c κs = search needs
-
 value-of-requires : tie.Need-value-of-requires
 value-of-requires c κs =
     let f = c .before .before .before .before in
     let e = f .before .before .before in
     row.pattern-of (e .before .args .type-code) (e .before .args .t2) (rowMeans (f .found .given .0 .0)) (search needs) (e .if1 .left) (at f)
     (c .raw-value .result) (c .raw-value .ensures .1)
-
-enum-told : tie.Need-enum-told
-enum-told c = search needs
 
 returns-2 : tie.Need-returns-2
 returns-2 c =
@@ -68,15 +50,6 @@ returns-3 c =
 pub decode-spec : {M : Type 1} → statement M
 decode-spec =
     tie.close
-    (tie.spec
-    returns
-    row-of-requires
-    enum-known-found
-    cast-count
-    array-share-prefix-registers
-    slice-aggregate-raw-value
-    raw-value-requires
-    value-of-requires
-    enum-told
-    returns-2
-    returns-3)
+    (tie.spec (λ c. sym (cases.beyond (c .before .args .type-code) (c .before .args .t2) (omega arith)))
+    (λ c κs. search needs) (λ c. search needs) (λ c. search needs) array-share-prefix-registers slice-aggregate-raw-value
+    (λ c κs. search needs) value-of-requires (λ c. search needs) returns-2 returns-3)

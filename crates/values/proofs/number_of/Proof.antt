@@ -1,30 +1,21 @@
 -- `number_of` reads the pattern by the type's kind; the table says that a signed type takes at most four registers and a float
 -- two, and a value of a float type is no NaN.
-use mathlib.Core.Path.{sym, ap, _∙_}
+use mathlib.Core.Path.{ap, _∙_}
 use Prim.Native.Nat.{ℕ, _*_, _^_}
 use mir.Facts.{toZ-ofZ}
 use borrow.Author.Needs.{needs}
 use Rattle.point_types.specs.Answers.{rowMeans, kindMeans}
 use Rattle.point_types.proofs.Table.{signed-width, float-row}
 use Rattle.values.specs.Decoding as decoding
-use Rattle.values.proofs.ClassCases as cases
+use Rattle.values.specs.Decoding.{numberOf}
 use Rattle.values.proofs.NoNaN.{no-nan-pattern}
 use Rattle.values.proofs.number_of.Statement.{statement}
 use Rattle.values.proofs.number_of.Tie as tie
-
-enum-told : tie.Need-enum-told
-enum-told c = search needs
 
 twos-complement-requires : tie.Need-twos-complement-requires
 twos-complement-requires c κs =
     let s = c .before .before in
     (signed-width (rowMeans (s .args .row)) (s .pre .0 .listed) (ap kindMeans (c .enum-told .given .1)), s .pre .0 .fits)
-
-enum-told-2 : tie.Need-enum-told-2
-enum-told-2 c = search needs
-
-enum-told-3 : tie.Need-enum-told-3
-enum-told-3 c = search needs
 
 cast-t6 : tie.Need-cast-t6
 cast-t6 c =
@@ -38,31 +29,15 @@ float-from-bits-t7 c =
     rw (no-nan-pattern (rowMeans (s .args .row)) (s .args .raw) (s .pre .0 .listed) (ap kindMeans (c .enum-told3 .given .1)) (s .pre .1)) tt
 
 returns : tie.Need-returns
+unfolding numberOf
 returns c =
-    let a = c .before .before .before .args in
     ap decoding.signed (toZ-ofZ (record { sfits = c .twos-complement .ok }) ∙ c .twos-complement .ensures)
-    ∙ sym (cases.number-signed (rowMeans (a .row)) (a .raw) (ap kindMeans (c .before .enum-told .given .1)))
-
-returns-2 : tie.Need-returns-2
-returns-2 c =
-    let a = c .before .before .args in
-    sym (cases.number-unsigned (rowMeans (a .row)) (a .raw) (ap kindMeans (c .enum-told2 .given .1)))
-
-returns-3 : tie.Need-returns-3
-returns-3 c =
-    let a = c .before .before .args in
-    sym (cases.number-float (rowMeans (a .row)) (a .raw) (ap kindMeans (c .enum-told3 .given .1)))
+    ∙ simp (numberOf, ap kindMeans (c .before .enum-told .given .1))
 
 pub number-of-spec : {M : Type 1} → statement M
+unfolding numberOf
 number-of-spec =
     tie.close
-    (tie.spec
-    enum-told
-    twos-complement-requires
-    enum-told-2
-    enum-told-3
-    cast-t6
-    float-from-bits-t7
+    (tie.spec (λ c. search needs) twos-complement-requires (λ c. search needs) (λ c. search needs) cast-t6 float-from-bits-t7
     returns
-    returns-2
-    returns-3)
+    (λ c. simp (numberOf, ap kindMeans (c .enum-told2 .given .1))) (λ c. simp (numberOf, ap kindMeans (c .enum-told3 .given .1))))

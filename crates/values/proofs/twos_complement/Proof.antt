@@ -8,27 +8,15 @@ use Rattle.values.proofs.MachineIntegers.{lower-pattern, upper-fits, up
 use Rattle.values.proofs.twos_complement.Statement.{statement}
 use Rattle.values.proofs.twos_complement.Tie as tie
 
-all-ones-requires : tie.Need-all-ones-requires
-all-ones-requires c κs = search needs
-
 -- What `all_ones` gave is the largest pattern.
 ones : (c : tie.After-all-ones) → c .all-ones .result ≡ 2 ^ (16 * c .before .args .count) - 1
 ones c = c .all-ones .ensures ∙ four-ones (c .before .args .count) (c .before .pre .0 .1)
-
-cast-result : tie.Need-cast-result
-cast-result c = search needs
 
 returns : tie.Need-returns
 returns c =
     let d = c .before in
     let a = d .before .args in
     lower-pattern (16 * a .count) (a .raw) (d .all-ones .result) (omega arith) (omega arith) (ones d) (omega arith)
-
-sub-result : tie.Need-sub-result
-sub-result c = search needs
-
-cast-result-2 : tie.Need-cast-result-2
-cast-result-2 c = search needs
 
 sub-result-2 : tie.Need-sub-result-2
 sub-result-2 c =
@@ -45,11 +33,4 @@ returns-2 c =
 pub twos-complement-spec : {M : Type 1} → statement M
 twos-complement-spec =
     tie.close
-    (tie.spec
-    all-ones-requires
-    cast-result
-    returns
-    sub-result
-    cast-result-2
-    sub-result-2
-    returns-2)
+    (tie.spec (λ c κs. search needs) (λ c. search needs) returns (λ c. search needs) (λ c. search needs) sub-result-2 returns-2)

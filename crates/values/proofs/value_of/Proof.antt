@@ -1,57 +1,26 @@
 -- `value_of` answers by the pattern's class.
 use mathlib.Core.Path.{sym, ap, _∙_}
 use borrow.Author.Needs.{needs}
-use Rattle.point_types.specs.Answers.{rowMeans}
 use Rattle.values.specs.Answers.{classAnswer}
-use Rattle.values.proofs.ClassCases as cases
+use Rattle.values.specs.Decoding.{valueOf}
 use Rattle.values.proofs.value_of.Statement.{statement}
 use Rattle.values.proofs.value_of.Tie as tie
-
-class-in-requires : tie.Need-class-in-requires
-class-in-requires c κs = search needs
-
-enum-told : tie.Need-enum-told
-enum-told c = search needs
 
 number-of-requires : tie.Need-number-of-requires
 number-of-requires c κs =
     let k = c .before .before in
     (k .before .pre, sym (k .class-in .ensures) ∙ ap classAnswer (c .enum-told .given .1))
 
-enum-told-2 : tie.Need-enum-told-2
-enum-told-2 c = search needs
-
-enum-told-3 : tie.Need-enum-told-3
-enum-told-3 c = search needs
-
 returns : tie.Need-returns
+unfolding valueOf
 returns c =
-    let k = c .before .before .before in
-    let a = k .before .args in
-    c .number-of .ensures
-    ∙ sym (cases.answer-value (rowMeans (a .row)) (a .raw) (sym (k .class-in .ensures) ∙ ap classAnswer (c .before .enum-told .given .1)))
-
-returns-2 : tie.Need-returns-2
-returns-2 c =
-    let k = c .before .before in
-    let a = k .before .args in
-    sym (cases.answer-unimplemented (rowMeans (a .row)) (a .raw) (sym (k .class-in .ensures) ∙ ap classAnswer (c .enum-told2 .given .1)))
-
-returns-3 : tie.Need-returns-3
-returns-3 c =
-    let k = c .before .before in
-    let a = k .before .args in
-    sym (cases.answer-out-of-range (rowMeans (a .row)) (a .raw) (sym (k .class-in .ensures) ∙ ap classAnswer (c .enum-told3 .given .1)))
+    let class = sym (c .before .before .before .class-in .ensures) ∙ ap classAnswer (c .before .enum-told .given .1) in
+    c .number-of .ensures ∙ simp (valueOf, class)
 
 pub value-of-spec : {M : Type 1} → statement M
+unfolding valueOf
 value-of-spec =
     tie.close
-    (tie.spec
-    class-in-requires
-    enum-told
-    number-of-requires
-    enum-told-2
-    enum-told-3
-    returns
-    returns-2
-    returns-3)
+    (tie.spec (λ c κs. search needs) (λ c. search needs) number-of-requires (λ c. search needs) (λ c. search needs) returns
+    (λ c. simp (valueOf, sym (c .before .before .class-in .ensures) ∙ ap classAnswer (c .enum-told2 .given .1)))
+    (λ c. simp (valueOf, sym (c .before .before .class-in .ensures) ∙ ap classAnswer (c .enum-told3 .given .1))))

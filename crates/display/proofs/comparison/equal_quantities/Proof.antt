@@ -2,29 +2,11 @@
 use mathlib.Core.Path.{sym, ap, _∙_}
 use borrow.Author.Needs.{needs}
 use Rattle.display.specs.Answers.{scaleFactor, quantityAmount}
-use Rattle.display.specs.Equality.{equalIf}
+use Rattle.display.specs.Equality.{equalIf, equality}
 use Rattle.display.proofs.AmountCases.{was-refused, was-amount, parts-within}
-use Rattle.display.proofs.EqualityCases.{first-refused, second-refused, both-accepted}
+use Rattle.display.proofs.EqualityCases.{both-accepted}
 use Rattle.display.proofs.comparison.equal_quantities.Statement.{statement}
 use Rattle.display.proofs.comparison.equal_quantities.Tie as tie
-
-accept-requires : tie.Need-accept-requires
-accept-requires c κs = search needs
-
-accept-requires-2 : tie.Need-accept-requires-2
-accept-requires-2 c κs = search needs
-
-enum-known-first : tie.Need-enum-known-first
-enum-known-first c = search needs
-
-enum-known-first-2 : tie.Need-enum-known-first-2
-enum-known-first-2 c = search needs
-
-enum-known-second : tie.Need-enum-known-second
-enum-known-second c = search needs
-
-enum-known-second-2 : tie.Need-enum-known-second-2
-enum-known-second-2 c = search needs
 
 is-same-requires : tie.Need-is-same-requires
 is-same-requires c κs =
@@ -38,18 +20,15 @@ is-same-requires c κs =
       parts-within (q .«type_code») (q .raw) (scaleFactor (q .scale)) (y .second2 .given .0 .0) (sym (y .second2 .given .1) ∙ b .accept2 .ensures),
     )
 
-equal-if-requires : tie.Need-equal-if-requires
-equal-if-requires c κs = search needs
-
 returns : tie.Need-returns
+unfolding equality
 returns c =
     let f = c .before in
     let a = f .before .before .before in
-    let p = quantityAmount (a .before .args .a) in
-    let q = quantityAmount (a .before .args .b) in
-    sym (first-refused p q (f .first .given .0 .0) (was-refused p (f .first .given .0 .0) (sym (f .first .given .1) ∙ a .accept .ensures)))
+    rw (was-refused (quantityAmount (a .before .args .a)) (f .first .given .0 .0) (sym (f .first .given .1) ∙ a .accept .ensures))
 
 returns-2 : tie.Need-returns-2
+unfolding equality
 returns-2 c =
     let y = c .before in
     let x = y .before .before .before in
@@ -57,10 +36,8 @@ returns-2 c =
     let a = b .before in
     let p = quantityAmount (a .before .args .a) in
     let q = quantityAmount (a .before .args .b) in
-    sym
-    (second-refused p q (x .first2 .given .0 .0) (y .second .given .0 .0)
-    (was-amount p (x .first2 .given .0 .0) (sym (x .first2 .given .1) ∙ a .accept .ensures))
-    (was-refused q (y .second .given .0 .0) (sym (y .second .given .1) ∙ b .accept2 .ensures)))
+    let w = was-amount p (x .first2 .given .0 .0) (sym (x .first2 .given .1) ∙ a .accept .ensures) in
+    rw (w .is, was-refused q (y .second .given .0 .0) (sym (y .second .given .1) ∙ b .accept2 .ensures))
 
 returns-3 : tie.Need-returns-3
 returns-3 c =
@@ -80,15 +57,5 @@ returns-3 c =
 pub equal-quantities-spec : {M : Type 1} → statement M
 equal-quantities-spec =
     tie.close
-    (tie.spec
-    accept-requires
-    accept-requires-2
-    enum-known-first
-    enum-known-first-2
-    enum-known-second
-    enum-known-second-2
-    is-same-requires
-    equal-if-requires
-    returns
-    returns-2
-    returns-3)
+    (tie.spec (λ c κs. search needs) (λ c κs. search needs) (λ c. search needs) (λ c. search needs) (λ c. search needs)
+    (λ c. search needs) is-same-requires (λ c κs. search needs) returns returns-2 returns-3)

@@ -12,15 +12,6 @@ returns c =
     let a = c .before .before .before .args in
     signs-differ (a .x) (a .y) (c .if1 .taken)
 
-add-up : tie.Need-add-up
-add-up c = search needs
-
-add-down : tie.Need-add-down
-add-down c = search needs
-
-is-shifted-requires : tie.Need-is-shifted-requires
-is-shifted-requires c κs = search needs
-
 returns-2 : tie.Need-returns-2
 returns-2 c =
     let i = c .before .before .before .before .before .before in
@@ -28,12 +19,6 @@ returns-2 c =
     c .is-shifted .ensures
     ∙ first-larger (a .x .magnitude) (a .y .magnitude) (a .x .zeros + a .y .places) (a .y .zeros + a .x .places) (c .before .if2 .taken)
     ∙ signs-agree (a .x) (a .y) (i .if1 .left)
-
-sub-is-shifted : tie.Need-sub-is-shifted
-sub-is-shifted c = search needs
-
-is-shifted-requires-2 : tie.Need-is-shifted-requires-2
-is-shifted-requires-2 c κs = search needs
 
 returns-3 : tie.Need-returns-3
 returns-3 c =
@@ -47,12 +32,5 @@ returns-3 c =
 pub is-same-spec : {M : Type 1} → statement M
 is-same-spec =
     tie.close
-    (tie.spec
-    returns
-    add-up
-    add-down
-    is-shifted-requires
-    returns-2
-    sub-is-shifted
-    is-shifted-requires-2
-    returns-3)
+    (tie.spec returns (λ c. search needs) (λ c. search needs) (λ c κs. search needs) returns-2 (λ c. search needs)
+    (λ c κs. search needs) returns-3)

@@ -17,24 +17,15 @@ returns-2 c =
     let a = c .before .before .args in
     far-shifted (a .n) (a .k) (a .m) (c .if2 .left) (c .before .if1 .taken) (omega arith)
 
-power-of-ten-requires : tie.Need-power-of-ten-requires
-power-of-ten-requires c κs = search needs
-
 -- A power of ten is not 0.
 some-power : (c : tie.After-power-of-ten) → 0 < c .power-of-ten .result
 some-power c = rw (c .power-of-ten .ensures) (positive (c .before .before .args .k))
-
-rem-if3 : tie.Need-rem-if3
-rem-if3 c = some-power c
 
 returns-3 : tie.Need-returns-3
 returns-3 c =
     let p = c .before in
     let a = p .before .before .args in
     no-multiple (a .n) (a .k) (a .m) (p .power-of-ten .result) (p .power-of-ten .ensures) (c .if3 .taken)
-
-div-result : tie.Need-div-result
-div-result c = some-power (c .before)
 
 returns-4 : tie.Need-returns-4
 returns-4 c =
@@ -45,4 +36,4 @@ returns-4 c =
 pub is-shifted-spec : {M : Type 1} → statement M
 is-shifted-spec =
     tie.close
-    (tie.spec returns returns-2 power-of-ten-requires rem-if3 returns-3 div-result returns-4)
+    (tie.spec returns returns-2 (λ c κs. search needs) (λ c. some-power c) returns-3 (λ c. some-power (c .before)) returns-4)

@@ -2,24 +2,16 @@
 use mathlib.Core.Path.{sym, ap, _∙_}
 use native.Mathlib.Omega.{arith}
 use borrow.Author.Needs.{needs}
+use borrow.Author.Tests.{lt-ltb}
 use lib.ListN.{length}
 use Rattle.display.specs.Amounts.{amountOf}
-use Rattle.display.specs.Decimals.{Decimal, stored}
+use Rattle.display.specs.Decimals.{Decimal, decimalOf, stored}
 use Rattle.display.specs.Answers.{scaleFactor, bytes, lengthOf}
 use Rattle.display.proofs.AmountCases.{WasAmount, was-refused, was-amount, parts-within}
-use Rattle.display.proofs.DecimalCases.{amount-refused, short-buffer, long-buffer}
+use Rattle.display.proofs.DecimalCases.{long-buffer}
 use Rattle.display.proofs.StoredTexts.{put-start, put-length}
 use Rattle.display.proofs.decimals.decimal.Statement.{statement}
 use Rattle.display.proofs.decimals.decimal.Tie as tie
-
-accept-requires : tie.Need-accept-requires
-accept-requires c κs = search needs
-
-enum-known-accepted : tie.Need-enum-known-accepted
-enum-known-accepted c = search needs
-
-enum-known-accepted-2 : tie.Need-enum-known-accepted-2
-enum-known-accepted-2 c = search needs
 
 -- The amount that was accepted.
 accepted : (c : tie.After-accepted2)
@@ -35,11 +27,11 @@ accepted c =
     (sym (c .accepted2 .given .1) ∙ c .before .before .accept .ensures)
 
 returns : tie.Need-returns
+unfolding decimalOf
 returns c =
     let o = c .before .before in
-    let a = o .before .before .before .before .args in
-    let e = short-buffer (a .type-code) (a .raw) (scaleFactor (a .scale)) (length (a .out .now)) (o .accepted2 .given .0 .0) (accepted o) (omega (arith, c .if1 .taken)) in
-    (ap lengthOf (sym e), (ap (λ (d : Decimal). stored d (a .out .now)) (sym e), tt))
+    let short = lt-ltb (length (o .before .before .before .before .args .out .now)) 32 (omega (arith, c .if1 .taken)) in
+    (simp (decimalOf, accepted o .is, short), (simp (decimalOf, accepted o .is, short), tt))
 
 put-amount-requires : tie.Need-put-amount-requires
 put-amount-requires c κs =
@@ -51,17 +43,14 @@ put-amount-requires c κs =
     )
 
 returns-2 : tie.Need-returns-2
+unfolding decimalOf
 returns-2 c =
     let o = c .before in
     let a = o .before .before .before .before .args in
-    let n = o .accepted .given .0 .0 in
-    let s = scaleFactor (a .scale) in
-    let r = was-refused (amountOf (a .type-code) (a .raw) s) n (sym (o .accepted .given .1) ∙ o .before .before .accept .ensures) in
-    let e = amount-refused (a .type-code) (a .raw) s (length (a .out .now)) n r in
-    (ap lengthOf (sym e), (ap (λ (d : Decimal). stored d (a .out .now)) (sym e), tt))
-
-same-length : tie.Need-same-length
-same-length c = search needs
+    let r =
+    was-refused (amountOf (a .type-code) (a .raw) (scaleFactor (a .scale))) (o .accepted .given .0 .0)
+    (sym (o .accepted .given .1) ∙ o .before .before .accept .ensures) in
+    (simp (decimalOf, r), (simp (decimalOf, r), tt))
 
 returns-3 : tie.Need-returns-3
 returns-3 c =
@@ -70,7 +59,8 @@ returns-3 c =
     let o = i .before .before in
     let a = o .before .before .before .before .args in
     let parts = o .accepted2 .given .0 .0 in
-    let e = long-buffer (a .type-code) (a .raw) (scaleFactor (a .scale)) (length (a .out .now)) parts (accepted o) (omega (arith, i .if1 .left)) in
+    let s = scaleFactor (a .scale) in
+    let e = long-buffer (a .type-code) (a .raw) s (length (a .out .now)) parts (accepted o) (omega (arith, i .if1 .left)) in
     let put = p .put-amount .ensures .0 in (
       ap bytes (put .behind ∙ omega arith) ∙ ap lengthOf (sym e),
       (put-start put (omega arith) ∙ ap (λ (d : Decimal). stored d (a .out .now)) (sym e), omega (arith, put-length put)),
@@ -79,12 +69,5 @@ returns-3 c =
 pub decimal-spec : {M : Type 1} → statement M
 decimal-spec =
     tie.close
-    (tie.spec
-    accept-requires
-    enum-known-accepted
-    enum-known-accepted-2
-    returns
-    put-amount-requires
-    returns-2
-    same-length
-    returns-3)
+    (tie.spec (λ c κs. search needs) (λ c. search needs) (λ c. search needs) returns put-amount-requires returns-2
+    (λ c. search needs) returns-3)

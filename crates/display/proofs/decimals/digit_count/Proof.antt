@@ -14,12 +14,6 @@ Inv-loop n count₀ count = (1 ≤ count) × (count ≤ 20) × (1 < count → 10
 abbrev μ-loop : tie.MeasureT-loop
 μ-loop n count₀ count = 20 - count
 
-loop-holds : tie.Need-loop-holds Inv-loop μ-loop
-loop-holds c = (omega arith, omega arith, λ h. absurd (omega arith))
-
-power-of-ten-requires : tie.Need-power-of-ten-requires Inv-loop μ-loop
-power-of-ten-requires c κs = search needs
-
 returns : tie.Need-returns Inv-loop μ-loop
 returns c =
     let l = c .before .before .before in
@@ -28,12 +22,6 @@ returns c =
     let o : CountOf n k =
     record { some = l .loop .inv .0; enough = rw (c .before .power-of-ten .ensures) at (c .if1 .taken); no-fewer = l .loop .inv .2 } in
     (unique n k (digitCount n) o (count n), omega arith)
-
-add-count : tie.Need-add-count Inv-loop μ-loop
-add-count c = search needs
-
-loop-less : tie.Need-loop-less Inv-loop μ-loop
-loop-less c = search needs
 
 loop-again : tie.Need-loop-again Inv-loop μ-loop
 loop-again c =
@@ -54,13 +42,5 @@ returns-2 c =
 pub digit-count-spec : {M : Type 1} → statement M
 digit-count-spec =
     tie.close
-    (tie.spec
-    Inv-loop
-    μ-loop
-    loop-holds
-    power-of-ten-requires
-    returns
-    add-count
-    loop-less
-    loop-again
-    returns-2)
+    (tie.spec Inv-loop μ-loop (λ c. search needs) (λ c κs. search needs) returns (λ c. search needs) (λ c. search needs)
+    loop-again returns-2)

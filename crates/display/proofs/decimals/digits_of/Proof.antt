@@ -8,12 +8,6 @@ use Rattle.display.proofs.StoredTexts.{put-length, put-on-zeros}
 use Rattle.display.proofs.decimals.digits_of.Statement.{statement}
 use Rattle.display.proofs.decimals.digits_of.Tie as tie
 
-slice-aggregate-put-number : tie.Need-slice-aggregate-put-number
-slice-aggregate-put-number c = search needs
-
-put-number-requires : tie.Need-put-number-requires
-put-number-requires c κs = search needs
-
 returns : tie.Need-returns
 returns c =
     let put = c .before .put-number .ensures .0 in
@@ -22,4 +16,4 @@ returns c =
     (rw (put-on-zeros {n = 20} put (omega arith), number-length n, count), omega (arith, put-length put))
 
 pub digits-of-spec : {M : Type 1} → statement M
-digits-of-spec = tie.close (tie.spec slice-aggregate-put-number put-number-requires returns)
+digits-of-spec = tie.close (tie.spec (λ c. search needs) (λ c κs. search needs) returns)

@@ -8,15 +8,6 @@ use Rattle.display.proofs.StoredTexts.{put-same}
 use Rattle.display.proofs.decimals.put_number.Statement.{statement}
 use Rattle.display.proofs.decimals.put_number.Tie as tie
 
-digit-count-requires : tie.Need-digit-count-requires
-digit-count-requires c κs = search needs
-
-put-digits-requires : tie.Need-put-digits-requires
-put-digits-requires c κs = search needs
-
-same-length : tie.Need-same-length
-same-length c = search needs
-
 returns : tie.Need-returns
 returns c =
     let p = c .before .before in
@@ -25,4 +16,5 @@ returns c =
     (put-same (ap (λ (k : ℕ). lastDigits k n) (d .digit-count .ensures .0)) (p .put-digits .ensures .0), omega arith)
 
 pub put-number-spec : {M : Type 1} → statement M
-put-number-spec = tie.close (tie.spec digit-count-requires put-digits-requires same-length returns)
+put-number-spec =
+    tie.close (tie.spec (λ c κs. search needs) (λ c κs. search needs) (λ c. search needs) returns)

@@ -11,21 +11,6 @@ use Rattle.display.proofs.StoredTexts.{put-byte, put-both, put-same, pu
 use Rattle.display.proofs.decimals.put_places.Statement.{statement}
 use Rattle.display.proofs.decimals.put_places.Tie as tie
 
-power-of-ten-requires : tie.Need-power-of-ten-requires
-power-of-ten-requires c κs = search needs
-
-div-put-number : tie.Need-div-put-number
-div-put-number c = rw (c .power-of-ten .ensures) (positive (c .before .before .before .args .places))
-
-put-number-requires : tie.Need-put-number-requires
-put-number-requires c κs = search needs
-
-slice-write-out : tie.Need-slice-write-out
-slice-write-out c = search needs
-
-add-put-digits : tie.Need-add-put-digits
-add-put-digits c = search needs
-
 put-digits-requires : tie.Need-put-digits-requires
 put-digits-requires c κs =
     let p = c .before .before .before in (
@@ -54,12 +39,6 @@ returns c =
 pub put-places-spec : {M : Type 1} → statement M
 put-places-spec =
     tie.close
-    (tie.spec
-    power-of-ten-requires
-    div-put-number
-    put-number-requires
-    slice-write-out
-    add-put-digits
-    put-digits-requires
-    same-length
-    returns)
+    (tie.spec (λ c κs. search needs)
+    (λ c. rw (c .power-of-ten .ensures) (positive (c .before .before .before .args .places)))
+    (λ c κs. search needs) (λ c. search needs) (λ c. search needs) put-digits-requires same-length returns)

@@ -7,17 +7,9 @@ use Rattle.display.proofs.StoredTexts.{put-byte, put-same}
 use Rattle.display.proofs.decimals.put_sign.Statement.{statement}
 use Rattle.display.proofs.decimals.put_sign.Tie as tie
 
-slice-write-out : tie.Need-slice-write-out
-slice-write-out c = search needs
-
-same-length : tie.Need-same-length
-same-length c = search needs
-
-returns : tie.Need-returns
-returns c = (put-same (ap sign (sym (c .if1 .taken))) (put-byte (c .before .args .out .now) 0 minusSign), omega arith)
-
-returns-2 : tie.Need-returns-2
-returns-2 c = (put-same (ap sign (sym (c .if1 .left))) (record { stored = refl; behind = refl }), omega arith)
-
 pub put-sign-spec : {M : Type 1} → statement M
-put-sign-spec = tie.close (tie.spec slice-write-out same-length returns returns-2)
+put-sign-spec =
+    tie.close
+    (tie.spec (λ c. search needs) (λ c. search needs)
+    (λ c. (put-same (ap sign (sym (c .if1 .taken))) (put-byte (c .before .args .out .now) 0 minusSign), omega arith))
+    (λ c. (put-same (ap sign (sym (c .if1 .left))) (record { stored = refl; behind = refl }), omega arith)))

@@ -11,15 +11,9 @@ use Rattle.display.proofs.SetPositions.{count-of-ones, lowest-position}
 use Rattle.display.proofs.events.event_bits.Statement.{statement}
 use Rattle.display.proofs.events.event_bits.Tie as tie
 
-is-bitfield-requires : tie.Need-is-bitfield-requires
-is-bitfield-requires c κs = search needs
-
 returns : tie.Need-returns
 unfolding eventBits
 returns c = simp (eventBits, sym (c .before .is-bitfield .ensures) ∙ not-true _ (c .if1 .taken))
-
-is-value-requires : tie.Need-is-value-requires
-is-value-requires c κs = search needs
 
 returns-2 : tie.Need-returns-2
 unfolding eventBits
@@ -42,4 +36,4 @@ returns-3 c =
 
 pub event-bits-spec : {M : Type 1} → statement M
 event-bits-spec =
-    tie.close (tie.spec is-bitfield-requires returns is-value-requires returns-2 returns-3)
+    tie.close (tie.spec (λ c κs. search needs) returns (λ c κs. search needs) returns-2 returns-3)

@@ -4,15 +4,9 @@ use Rattle.display.proofs.PowersOfTen.{tenfold, power-at}
 use Rattle.display.proofs.powers.power_of_ten.Statement.{statement}
 use Rattle.display.proofs.powers.power_of_ten.Tie as tie
 
-mul-result : tie.Need-mul-result
-mul-result c = search needs
-
-array-read-result : tie.Need-array-read-result
-array-read-result c = search needs
-
 returns : tie.Need-returns
 unfolding tenfold
 returns c = power-at 20 (c .args .k) (c .pre)
 
 pub power-of-ten-spec : {M : Type 1} → statement M
-power-of-ten-spec = tie.close (tie.spec mul-result array-read-result returns)
+power-of-ten-spec = tie.close (tie.spec (λ c. search needs) (λ c. search needs) returns)

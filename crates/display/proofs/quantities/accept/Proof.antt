@@ -4,27 +4,12 @@ use borrow.Author.Needs.{needs}
 use borrow.Author.Tests.{not-true, not-false}
 use Rattle.values.specs.Unscaled.{unscaled}
 use Rattle.values.proofs.UnscaledCases.{NumberOf, was-not-scalable, was-no-value, was-number}
+use Rattle.display.specs.Amounts.{amountOf}
 use Rattle.display.specs.Answers.{scaleFactor}
-use Rattle.display.specs.Parts.{acceptedForm}
 use Rattle.display.specs.declared.quantities.Accepted.{Accepted}
-use Rattle.display.proofs.AmountCases.{type-refused, value-refused, scale-refused, accepted, same-parts}
+use Rattle.display.proofs.AmountCases.{same-parts}
 use Rattle.display.proofs.quantities.accept.Statement.{statement}
 use Rattle.display.proofs.quantities.accept.Tie as tie
-
-unscaled-value-requires : tie.Need-unscaled-value-requires
-unscaled-value-requires c κs = search needs
-
-scale-factor-in-range-requires : tie.Need-scale-factor-in-range-requires
-scale-factor-in-range-requires c κs = search needs
-
-enum-told : tie.Need-enum-told
-enum-told c = search needs
-
-enum-told-2 : tie.Need-enum-told-2
-enum-told-2 c = search needs
-
-enum-known-unscaled : tie.Need-enum-known-unscaled
-enum-known-unscaled c = search needs
 
 -- The number that was found.
 found : (c : tie.After-unscaled)
@@ -39,15 +24,10 @@ found c =
     (sym (v .unscaled-value .ensures) ∙ c .unscaled .given .1)
 
 returns : tie.Need-returns
+unfolding amountOf
 returns c =
     let u = c .before .before in
-    let s = u .before .before in
-    let q = s .before .before .args .quantity in
-    let n = found u in
-    ap acceptedForm
-    (sym
-    (scale-refused (q .«type_code») (q .raw) (scaleFactor (q .scale)) (n .value) (n .is)
-    (sym (s .scale-factor-in-range .ensures) ∙ not-true _ (c .if1 .taken))))
+    simp (amountOf, found u .is, sym (u .before .before .scale-factor-in-range .ensures) ∙ not-true _ (c .if1 .taken))
 
 scaled-requires : tie.Need-scaled-requires
 scaled-requires c κs =
@@ -55,50 +35,33 @@ scaled-requires c κs =
     sym (s .scale-factor-in-range .ensures) ∙ not-false _ (c .if1 .left)
 
 returns-2 : tie.Need-returns-2
+unfolding amountOf
 returns-2 c =
     let v = c .before .before .before in
     let q = v .before .args .quantity in
-    ap acceptedForm
-    (sym
-    (type-refused (q .«type_code») (q .raw) (scaleFactor (q .scale))
-    (was-not-scalable (unscaled (q .«type_code») (q .raw)) (sym (v .unscaled-value .ensures) ∙ c .enum-told .given .1))))
+    simp (amountOf, was-not-scalable (unscaled (q .«type_code») (q .raw)) (sym (v .unscaled-value .ensures) ∙ c .enum-told .given .1))
 
 returns-3 : tie.Need-returns-3
+unfolding amountOf
 returns-3 c =
     let v = c .before .before .before in
     let q = v .before .args .quantity in
-    ap acceptedForm
-    (sym
-    (value-refused (q .«type_code») (q .raw) (scaleFactor (q .scale))
-    (was-no-value (unscaled (q .«type_code») (q .raw)) (sym (v .unscaled-value .ensures) ∙ c .enum-told2 .given .1))))
+    simp (amountOf, was-no-value (unscaled (q .«type_code») (q .raw)) (sym (v .unscaled-value .ensures) ∙ c .enum-told2 .given .1))
 
 returns-4 : tie.Need-returns-4
+unfolding amountOf
 returns-4 c =
     let i = c .before in
     let u = i .before .before in
     let s = u .before .before in
-    let q = s .before .before .args .quantity in
+    let scale = scaleFactor (s .before .before .args .quantity .scale) in
     let n = found u in
     let p = c .scaled .ensures in
-    let v = n .value in
-    ap Accepted.Of
-    (same-parts v (scaleFactor (q .scale)) (c .scaled .result) (p .0 .0 ∙ n .sign) (p .0 .1 ∙ n .size) (p .1 .0) (p .1 .1))
-    ∙ ap acceptedForm
-    (sym
-    (accepted (q .«type_code») (q .raw) (scaleFactor (q .scale)) v (n .is)
-    (sym (s .scale-factor-in-range .ensures) ∙ not-false _ (i .if1 .left))))
+    ap Accepted.Of (same-parts (n .value) scale (c .scaled .result) (p .0 .0 ∙ n .sign) (p .0 .1 ∙ n .size) (p .1 .0) (p .1 .1))
+    ∙ simp (amountOf, n .is, sym (s .scale-factor-in-range .ensures) ∙ not-false _ (i .if1 .left))
 
 pub accept-spec : {M : Type 1} → statement M
 accept-spec =
     tie.close
-    (tie.spec
-    unscaled-value-requires
-    scale-factor-in-range-requires
-    enum-told
-    enum-told-2
-    enum-known-unscaled
-    returns
-    scaled-requires
-    returns-2
-    returns-3
-    returns-4)
+    (tie.spec (λ c κs. search needs) (λ c κs. search needs) (λ c. search needs) (λ c. search needs) (λ c. search needs) returns
+    scaled-requires returns-2 returns-3 returns-4)

@@ -13,9 +13,6 @@ returns c =
     let e = from-zero (c .before .args .scale) (omega (arith, c .if1 .taken)) in
     ((refl, refl), (ap zeros (sym e), ap places (sym e)))
 
-sub-t7 : tie.Need-sub-t7
-sub-t7 c = search needs
-
 returns-2 : tie.Need-returns-2
 returns-2 c =
     let s = c .before .args .scale in
@@ -24,4 +21,4 @@ returns-2 c =
     ((refl, refl), (ap zeros (sym e), m ∙ ap places (sym e)))
 
 pub scaled-spec : {M : Type 1} → statement M
-scaled-spec = tie.close (tie.spec returns sub-t7 returns-2)
+scaled-spec = tie.close (tie.spec returns (λ c. search needs) returns-2)

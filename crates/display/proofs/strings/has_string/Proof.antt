@@ -7,12 +7,6 @@ use Rattle.display.proofs.TextPart.{string-end}
 use Rattle.display.proofs.strings.has_string.Statement.{statement}
 use Rattle.display.proofs.strings.has_string.Tie as tie
 
-returns : tie.Need-returns
-returns c = simp (lt-leb 1 (c .before .args .size) (omega (arith, c .if1 .taken)))
-
-returns-2 : tie.Need-returns-2
-returns-2 c = simp (lt-leb (c .before .before .args .size) 64 (omega (arith, c .if2 .taken)), and-false)
-
 returns-3 : tie.Need-returns-3
 returns-3 c =
     let a = c .before .before .before .args in
@@ -28,4 +22,8 @@ returns-4 c =
     )
 
 pub has-string-spec : {M : Type 1} → statement M
-has-string-spec = tie.close (tie.spec returns returns-2 returns-3 returns-4)
+has-string-spec =
+    tie.close
+    (tie.spec (λ c. simp (lt-leb 1 (c .before .args .size) (omega (arith, c .if1 .taken))))
+    (λ c. simp (lt-leb (c .before .before .args .size) 64 (omega (arith, c .if2 .taken)), and-false))
+    returns-3 returns-4)

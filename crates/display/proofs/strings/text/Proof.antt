@@ -8,19 +8,10 @@ use Rattle.display.proofs.TextPart.{no-string, string-of-zeros, string-
 use Rattle.display.proofs.strings.text.Statement.{statement}
 use Rattle.display.proofs.strings.text.Tie as tie
 
-has-string-requires : tie.Need-has-string-requires
-has-string-requires c κs = search needs
-
 returns : tie.Need-returns
 returns c =
     let a = c .before .before .before .before .args in
     sym (no-string (a .map .now) (a .address) (a .size) (a .fallback .now) (sym (c .before .has-string .ensures) ∙ not-true _ (c .if1 .taken)))
-
-part-requires : tie.Need-part-requires
-part-requires c κs = search needs
-
-all-zero-requires : tie.Need-all-zero-requires
-all-zero-requires c κs = search needs
 
 returns-2 : tie.Need-returns-2
 returns-2 c =
@@ -30,12 +21,6 @@ returns-2 c =
     sym
     (string-of-zeros (a .map .now) (a .address) (a .size) (a .fallback .now) (p .part .result .now) (p .part .ensures)
     (sym (i .before .has-string .ensures) ∙ not-false _ (i .if1 .left)) (sym (c .before .all-zero .ensures) ∙ c .if2 .taken))
-
-text-length-requires : tie.Need-text-length-requires
-text-length-requires c κs = search needs
-
-part-requires-2 : tie.Need-part-requires-2
-part-requires-2 c κs = search needs
 
 returns-3 : tie.Need-returns-3
 returns-3 c =
@@ -55,12 +40,5 @@ returns-3 c =
 pub text-spec : {M : Type 1} → statement M
 text-spec =
     tie.close
-    (tie.spec
-    has-string-requires
-    returns
-    part-requires
-    all-zero-requires
-    returns-2
-    text-length-requires
-    part-requires-2
-    returns-3)
+    (tie.spec (λ c κs. search needs) returns (λ c κs. search needs) (λ c κs. search needs) returns-2 (λ c κs. search needs)
+    (λ c κs. search needs) returns-3)

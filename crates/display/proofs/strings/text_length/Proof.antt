@@ -15,30 +15,15 @@ Inv-loop string i₀ i = (i ≤ length string) × (i + length (untilZeroByte (dr
 abbrev μ-loop : tie.MeasureT-loop
 μ-loop string i₀ i = length string - i
 
-loop-holds : tie.Need-loop-holds Inv-loop μ-loop
-loop-holds c = search needs
-
-mul-register : tie.Need-mul-register Inv-loop μ-loop
-mul-register c = search needs
-
-shared-slice-read-register : tie.Need-shared-slice-read-register Inv-loop μ-loop
-shared-slice-read-register c = search needs
-
 returns : tie.Need-returns Inv-loop μ-loop
 returns c =
     let l = c .before .before .before in
     omega (arith, text-stops (l .before .args .string .now) (l .loop .i) (c .before .before .loop-test .taken) (omega (arith, c .if1 .taken)))
 
-add-i : tie.Need-add-i Inv-loop μ-loop
-add-i c = search needs
-
 returns-2 : tie.Need-returns-2 Inv-loop μ-loop
 returns-2 c =
     let l = c .before .before .before .before in
     omega (arith, text-ends (l .before .args .string .now) (l .loop .i) (c .before .before .before .loop-test .taken) (omega (arith, c .before .if1 .left)) (c .if2 .taken))
-
-loop-less : tie.Need-loop-less Inv-loop μ-loop
-loop-less c = search needs
 
 loop-again : tie.Need-loop-again Inv-loop μ-loop
 loop-again c =
@@ -47,21 +32,9 @@ loop-again c =
       omega (arith, text-on (l .before .args .string .now) (l .loop .i) (c .before .before .before .loop-test .taken) (omega (arith, c .before .if1 .left)) (c .if2 .left)),
     )
 
-returns-3 : tie.Need-returns-3 Inv-loop μ-loop
-returns-3 c = omega (arith, text-end (c .before .before .args .string .now) (c .before .loop .i) (c .loop-test .left))
-
 pub text-length-spec : {M : Type 1} → statement M
 text-length-spec =
     tie.close
-    (tie.spec
-    Inv-loop
-    μ-loop
-    loop-holds
-    mul-register
-    shared-slice-read-register
-    returns
-    add-i
-    returns-2
-    loop-less
-    loop-again
-    returns-3)
+    (tie.spec Inv-loop μ-loop (λ c. search needs) (λ c. search needs) (λ c. search needs) returns (λ c. search needs) returns-2
+    (λ c. search needs) loop-again
+    (λ c. omega (arith, text-end (c .before .before .args .string .now) (c .before .loop .i) (c .loop-test .left))))

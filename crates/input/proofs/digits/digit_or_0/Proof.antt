@@ -2,34 +2,25 @@
 use mathlib.Core.Path.{sym, ap, _∙_}
 use native.Mathlib.Omega.{arith}
 use borrow.Author.Needs.{needs}
+use Rattle.input.specs.Digits.{digitOr0}
 use Rattle.input.specs.Answers.{digitForm}
-use Rattle.input.proofs.DigitValues.{digit-of-value, digit-of-none, value-small}
+use Rattle.input.proofs.DigitValues.{value-small}
 use Rattle.input.proofs.digits.digit_or_0.Statement.{statement}
 use Rattle.input.proofs.digits.digit_or_0.Tie as tie
 
-digit-of-requires : tie.Need-digit-of-requires
-digit-of-requires c κs = search needs
-
-enum-known-value : tie.Need-enum-known-value
-enum-known-value c = search needs
-
-enum-told : tie.Need-enum-told
-enum-told c = search needs
-
 returns : tie.Need-returns
+unfolding digitOr0
 returns c =
     let d = c .before .before .before in
-    let byte = d .before .args .byte in
-    let v = c .before .value .given .0 .0 in
     let e = sym (d .digit-of .ensures) ∙ ap digitForm (c .before .value .given .1) in
-    (sym (digit-of-value byte v e), value-small byte v e)
+    (simp (digitOr0, e), value-small (d .before .args .byte) (c .before .value .given .0 .0) e)
 
 returns-2 : tie.Need-returns-2
+unfolding digitOr0
 returns-2 c =
-    let d = c .before .before in
-    let e = sym (d .digit-of .ensures) ∙ ap digitForm (c .enum-told .given .1) in
-    (sym (digit-of-none (d .before .args .byte) e), omega arith)
+    (simp (digitOr0, sym (c .before .before .digit-of .ensures) ∙ ap digitForm (c .enum-told .given .1)), omega arith)
 
 pub digit-or-0-spec : {M : Type 1} → statement M
 digit-or-0-spec =
-    tie.close (tie.spec digit-of-requires enum-known-value enum-told returns returns-2)
+    tie.close
+    (tie.spec (λ c κs. search needs) (λ c. search needs) (λ c. search needs) returns returns-2)

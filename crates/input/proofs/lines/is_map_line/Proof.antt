@@ -4,20 +4,13 @@ use borrow.Author.Needs.{needs}
 use Rattle.input.proofs.lines.is_map_line.Statement.{statement}
 use Rattle.input.proofs.lines.is_map_line.Tie as tie
 
-returns : tie.Need-returns
-returns c = simp (lt-leb _ _ (c .if1 .taken))
-
-returns-2 : tie.Need-returns-2
-returns-2 c = simp (le-leb _ _ (c .before .if1 .left), lt-leb _ _ (c .if2 .taken))
-
-returns-3 : tie.Need-returns-3
-returns-3 c = simp (le-leb _ _ (c .before .before .if1 .left), le-leb _ _ (c .before .if2 .left), ne-eqb _ _ (c .if3 .taken))
-
-are-digits-requires : tie.Need-are-digits-requires
-are-digits-requires c κs = search needs
-
 returns-4 : tie.Need-returns-4
 returns-4 c = simp (le-leb _ _ (c .before .before .before .if1 .left), le-leb _ _ (c .before .before .if2 .left), eq-eqb _ _ (c .before .if3 .left), ← c .are-digits .ensures)
 
 pub is-map-line-spec : {M : Type 1} → statement M
-is-map-line-spec = tie.close (tie.spec returns returns-2 returns-3 are-digits-requires returns-4)
+is-map-line-spec =
+    tie.close
+    (tie.spec (λ c. simp (lt-leb _ _ (c .if1 .taken)))
+    (λ c. simp (le-leb _ _ (c .before .if1 .left), lt-leb _ _ (c .if2 .taken)))
+    (λ c. simp (le-leb _ _ (c .before .before .if1 .left), le-leb _ _ (c .before .if2 .left), ne-eqb _ _ (c .if3 .taken)))
+    (λ c κs. search needs) returns-4)

@@ -21,30 +21,6 @@ loop-holds c =
     let a = c .before .before .args in
     all-left (a .text .now) (a .out .now) (a .count) (a .start) (c .before .before .pre .0)
 
-shared-slice-read-if1 : tie.Need-shared-slice-read-if1 Inv-loop μ-loop
-shared-slice-read-if1 c = omega (arith, room-for-four (c .before .before .loop .inv) (c .before .loop-test .taken))
-
-add-at : tie.Need-add-at Inv-loop μ-loop
-add-at c = omega (arith, room-for-four (c .before .before .before .loop .inv) (c .before .before .loop-test .taken))
-
-loop-less : tie.Need-loop-less Inv-loop μ-loop
-loop-less c = omega (arith, room-for-four (c .before .before .before .loop .inv) (c .before .before .loop-test .taken))
-
-loop-again : tie.Need-loop-again Inv-loop μ-loop
-loop-again c = feed-stored (c .before .before .before .loop .inv) (c .before .before .loop-test .taken) (c .if1 .taken)
-
-word-at-requires : tie.Need-word-at-requires Inv-loop μ-loop
-word-at-requires c κs = omega (arith, room-for-four (c .before .before .before .loop .inv) (c .before .before .loop-test .taken))
-
-mul-out : tie.Need-mul-out Inv-loop μ-loop
-mul-out c = search needs
-
-slice-write-out : tie.Need-slice-write-out Inv-loop μ-loop
-slice-write-out c = omega (arith, c .before .before .before .before .loop .inv .same-size, c .before .before .before .loop-test .taken)
-
-add-k : tie.Need-add-k Inv-loop μ-loop
-add-k c = search needs
-
 add-at-2 : tie.Need-add-at-2 Inv-loop μ-loop
 add-at-2 c = omega (arith, room-for-four (c .before .before .before .before .loop .inv) (c .before .before .before .loop-test .taken))
 
@@ -54,29 +30,14 @@ loop-less-2 c = omega (arith, room-for-four (c .before .before .before .before .
 loop-again-2 : tie.Need-loop-again-2 Inv-loop μ-loop
 loop-again-2 c = word-stored (c .before .before .before .before .loop .inv) (c .before .before .before .loop-test .taken) (c .word-at .result) (c .before .if1 .left) (c .word-at .ensures)
 
-same-length : tie.Need-same-length Inv-loop μ-loop
-same-length c = c .before .loop .inv .same-size
-
-returns : tie.Need-returns Inv-loop μ-loop
-returns c = none-left (c .before .loop .inv) (c .loop-test .left)
-
 pub store-words-spec : {M : Type 1} → statement M
 store-words-spec =
     tie.close
-    (tie.spec
-    Inv-loop
-    μ-loop
-    loop-holds
-    shared-slice-read-if1
-    add-at
-    loop-less
-    loop-again
-    word-at-requires
-    mul-out
-    slice-write-out
-    add-k
-    add-at-2
-    loop-less-2
-    loop-again-2
-    same-length
-    returns)
+    (tie.spec Inv-loop μ-loop loop-holds
+    (λ c. omega (arith, room-for-four (c .before .before .loop .inv) (c .before .loop-test .taken)))
+    (λ c. omega (arith, room-for-four (c .before .before .before .loop .inv) (c .before .before .loop-test .taken)))
+    (λ c. omega (arith, room-for-four (c .before .before .before .loop .inv) (c .before .before .loop-test .taken)))
+    (λ c. feed-stored (c .before .before .before .loop .inv) (c .before .before .loop-test .taken) (c .if1 .taken))
+    (λ c κs. omega (arith, room-for-four (c .before .before .before .loop .inv) (c .before .before .loop-test .taken)))
+    (λ c. search needs) (λ c. search needs) (λ c. search needs) add-at-2 loop-less-2 loop-again-2 (λ c. search needs)
+    (λ c. none-left (c .before .loop .inv) (c .loop-test .left)))

@@ -37,31 +37,10 @@ loop-holds c =
       omega arith,
     )
 
-line-end-requires : tie.Need-line-end-requires Inv-loop μ-loop
-line-end-requires c κs = search needs
-
-add-t8 : tie.Need-add-t8 Inv-loop μ-loop
-add-t8 c = search needs
-
 returns : tie.Need-returns Inv-loop μ-loop
 returns c =
     let l = c .before .before .before in
     (at-empty (l .before .before .args .text .now) (l .loop .at) (c .before .line-end .result) (c .before .before .loop-test .taken) (c .before .line-end .ensures .0) (l .loop .inv .0) (c .if1 .taken), omega arith)
-
-sub-is-catalog-line : tie.Need-sub-is-catalog-line Inv-loop μ-loop
-sub-is-catalog-line c = search needs
-
-part-is-catalog-line-start : tie.Need-part-is-catalog-line-start Inv-loop μ-loop
-part-is-catalog-line-start c = search needs
-
-part-is-catalog-line-end : tie.Need-part-is-catalog-line-end Inv-loop μ-loop
-part-is-catalog-line-end c = search needs
-
-is-catalog-line-requires : tie.Need-is-catalog-line-requires Inv-loop μ-loop
-is-catalog-line-requires c κs = search needs
-
-add-t13 : tie.Need-add-t13 Inv-loop μ-loop
-add-t13 c = search needs
 
 returns-2 : tie.Need-returns-2 Inv-loop μ-loop
 returns-2 c =
@@ -69,23 +48,11 @@ returns-2 c =
     at-bad (l .before .before .args .text .now) (l .loop .at) (c .before .before .before .before .line-end .result) (c .before .before .before .before .before .loop-test .taken) (c .before .before .before .before .line-end .ensures .0) (l .loop .inv .0) (c .before .before .before .if1 .left)
     (sym (c .before .is-catalog-line .ensures) ∙ not-true (c .before .is-catalog-line .result) (c .if2 .taken))
 
-add-t14 : tie.Need-add-t14 Inv-loop μ-loop
-add-t14 c = search needs
-
 returns-3 : tie.Need-returns-3 Inv-loop μ-loop
 returns-3 c =
     let l = c .before .before .before .before .before .before .before in
     at-full (l .before .before .args .text .now) (l .loop .at) (c .before .before .before .before .before .line-end .result) (c .before .before .before .before .before .before .loop-test .taken) (c .before .before .before .before .before .line-end .ensures .0) (l .loop .inv .0) (c .before .before .before .before .if1 .left)
     (sym (c .before .before .is-catalog-line .ensures) ∙ not-false (c .before .before .is-catalog-line .result) (c .before .if2 .left)) (c .if3 .taken)
-
-add-count : tie.Need-add-count Inv-loop μ-loop
-add-count c = search needs
-
-add-at : tie.Need-add-at Inv-loop μ-loop
-add-at c = search needs
-
-loop-less : tie.Need-loop-less Inv-loop μ-loop
-loop-less c = search needs
 
 loop-again : tie.Need-loop-again Inv-loop μ-loop
 loop-again c =
@@ -96,9 +63,6 @@ loop-again c =
       omega arith,
     )
 
-add-t15 : tie.Need-add-t15 Inv-loop μ-loop
-add-t15 c = search needs
-
 returns-4 : tie.Need-returns-4 Inv-loop μ-loop
 returns-4 c =
     let l = c .before in
@@ -107,24 +71,6 @@ returns-4 c =
 pub survey-catalog-spec : {M : Type 1} → statement M
 survey-catalog-spec =
     tie.close
-    (tie.spec
-    Inv-loop
-    μ-loop
-    loop-holds
-    line-end-requires
-    add-t8
-    returns
-    sub-is-catalog-line
-    part-is-catalog-line-start
-    part-is-catalog-line-end
-    is-catalog-line-requires
-    add-t13
-    returns-2
-    add-t14
-    returns-3
-    add-count
-    add-at
-    loop-less
-    loop-again
-    add-t15
-    returns-4)
+    (tie.spec Inv-loop μ-loop loop-holds (λ c κs. search needs) (λ c. search needs) returns (λ c. search needs)
+    (λ c. search needs) (λ c. search needs) (λ c κs. search needs) (λ c. search needs) returns-2 (λ c. search needs) returns-3
+    (λ c. search needs) (λ c. search needs) (λ c. search needs) loop-again (λ c. search needs) returns-4)

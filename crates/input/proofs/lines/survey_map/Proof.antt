@@ -29,21 +29,6 @@ loop-holds c =
     let all = mapFrom (a .first) (a .room) (lines (drop (a .start) (a .text .now))) in
     (record { map = []; full = refl; fits = omega arith; rest = rw e (no-registers all) }, search needs)
 
-line-end-requires : tie.Need-line-end-requires Inv-loop μ-loop
-line-end-requires c κs = search needs
-
-sub-is-map-line : tie.Need-sub-is-map-line Inv-loop μ-loop
-sub-is-map-line c = search needs
-
-part-is-map-line-start : tie.Need-part-is-map-line-start Inv-loop μ-loop
-part-is-map-line-start c = search needs
-
-part-is-map-line-end : tie.Need-part-is-map-line-end Inv-loop μ-loop
-part-is-map-line-end c = search needs
-
-is-map-line-requires : tie.Need-is-map-line-requires Inv-loop μ-loop
-is-map-line-requires c κs = search needs
-
 returns : tie.Need-returns Inv-loop μ-loop
 returns c =
     let l = c .before .before .before .before .before in
@@ -51,30 +36,12 @@ returns c =
     at-bad (l .before .before .args .text .now) (l .loop .at) (c .before .before .before .line-end .result) (l .loop .line) (c .before .before .before .before .loop-test .taken) (c .before .before .before .line-end .ensures .0) (l .loop .inv .0)
     (sym (m .ensures) ∙ not-true (m .result) (c .if1 .taken))
 
-sub-registers : tie.Need-sub-registers Inv-loop μ-loop
-sub-registers c = search needs
-
-sub-if2 : tie.Need-sub-if2 Inv-loop μ-loop
-sub-if2 c = omega (arith, c .before .before .before .before .before .loop .inv .0 .fits)
-
 returns-2 : tie.Need-returns-2 Inv-loop μ-loop
 returns-2 c =
     let l = c .before .before .before .before .before .before in
     let m = c .before .before .is-map-line in
     at-full (l .before .before .args .text .now) (l .loop .at) (c .before .before .before .before .line-end .result) (l .loop .line) (c .before .before .before .before .before .loop-test .taken) (c .before .before .before .before .line-end .ensures .0) (l .loop .inv .0)
     (sym (m .ensures) ∙ not-false (m .result) (c .before .if1 .left)) (c .if2 .taken)
-
-add-count : tie.Need-add-count Inv-loop μ-loop
-add-count c = omega (arith, c .before .before .before .before .before .before .loop .inv .0 .fits)
-
-add-line : tie.Need-add-line Inv-loop μ-loop
-add-line c = search needs
-
-add-at : tie.Need-add-at Inv-loop μ-loop
-add-at c = search needs
-
-loop-less : tie.Need-loop-less Inv-loop μ-loop
-loop-less c = search needs
 
 loop-again : tie.Need-loop-again Inv-loop μ-loop
 loop-again c =
@@ -93,22 +60,6 @@ returns-3 c =
 pub survey-map-spec : {M : Type 1} → statement M
 survey-map-spec =
     tie.close
-    (tie.spec
-    Inv-loop
-    μ-loop
-    loop-holds
-    line-end-requires
-    sub-is-map-line
-    part-is-map-line-start
-    part-is-map-line-end
-    is-map-line-requires
-    returns
-    sub-registers
-    sub-if2
-    returns-2
-    add-count
-    add-line
-    add-at
-    loop-less
-    loop-again
-    returns-3)
+    (tie.spec Inv-loop μ-loop loop-holds (λ c κs. search needs) (λ c. search needs) (λ c. search needs) (λ c. search needs)
+    (λ c κs. search needs) returns (λ c. search needs) (λ c. search needs) returns-2 (λ c. search needs) (λ c. search needs)
+    (λ c. search needs) (λ c. search needs) loop-again returns-3)

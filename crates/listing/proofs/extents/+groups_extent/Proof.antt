@@ -1,21 +1,24 @@
 -- `listing::extents::groups_extent` meets its contract: the groups summed up and those from there on are those of the group.
 use mathlib.Core.Path.{_≡_, refl, sym, ap, subst, _∙_}
-use Prim.Native.Nat.{ℕ, _-_, _/_, _<_}
+use Prim.Native.Nat.{ℕ, _+_, _-_, _/_, _<_}
 use native.Mathlib.Omega.{arith}
 use lib.ListN.{length}
 use Rattle.layout.specs.Walks.{heldAt, scopeIn, AtGroups}
+use Rattle.layout.specs.Answers as Layout
 use Rattle.layout.proofs.Standing as standing
+use Rattle.layout.proofs.RunSteps.{run-whole}
 use Rattle.layout.proofs.IntoGroups as groups
-use Rattle.listing.specs.Answers.{groupOrForm}
+use Rattle.layout.specs.Answers.{groupOrForm}
+use Rattle.listing.specs.Promises.{RunOf}
 use Rattle.listing.proofs.ExtentSteps as steps
 use Rattle.listing.proofs.ExtentWalks as walks
 use Rattle.listing.proofs.extents.groups_extent.Reads as reads
 use Rattle.listing.proofs.extents.groups_extent.Kinds as kinds
 use Rattle.listing.proofs.extents.+groups_extent.Lts-groups_extent as lts
 use Rattle.listing.proofs.extents.at_end.Reads as at-end-reads
-use Rattle.listing.proofs.extents.run_extent.Reads as run-extent-reads
+use Rattle.layout.proofs.run_extent.Reads as run-extent-reads
 use Rattle.listing.proofs.extents.with_group.Reads as with-group-reads
-use Rattle.listing.proofs.frames.group_at.Reads as group-at-reads
+use Rattle.layout.proofs.group_at.Reads as group-at-reads
 use Rattle.listing.proofs.extents.+groups_extent.{statement}
 use Rattle.listing.proofs.extents.+groups_extent.Tie.{close}
 use borrow.Author.Needs.{needs}
@@ -72,12 +75,22 @@ module _ (t : ℕ) where
   add-run-extent c = search needs
 
   run-extent-requires : lts.Need-run-extent-requires (known t) (asked t) reads.Post Inv-loop μ-loop
-  run-extent-requires c κs =
-      let l = c .before .before .before .before .before .before .loop in
-      let a = c .before .before .before .before .before .before .before .before .before .args in
+  run-extent-requires c κs = search needs
+
+  -- The run is the points of the group that begins here.
+  own-run : (c : lts.After-run-extent (known t) (asked t) reads.Post Inv-loop μ-loop)
+      → RunOf (c .before .before .before .before .before .before .before .before .before .before .args .catalog .now)
+      (c .before .before .before .before .before .before .before .loop .sum .next + 1) (c .run-extent .result)
+  own-run c =
+      let l = c .before .before .before .before .before .before .before .loop in
+      let a = c .before .before .before .before .before .before .before .before .before .before .args in
       let at = l .inv .0 .standing in
-      let found = sym (c .before .before .before .group-at .ensures) ∙ ap groupOrForm (c .before .next .given .1) in
-      (standing.group-next (a .catalog .now) (l .sum .next) (at .stands) (at .noPoint) _ found .1, at .few)
+      let ws = a .catalog .now in
+      let group = c .before .before .before .before .group-at .ensures in
+      let found = sym group ∙ ap groupOrForm (c .before .before .next .given .1) in
+      let within = standing.group-next ws (l .sum .next) (at .stands) (at .noPoint) _ found .1 in
+      subst (λ ps. Layout.RunOf ps (l .sum .next + 1) (c .run-extent .result))
+      (run-whole ws (l .sum .next + 1) within (at .few)) (c .run-extent .ensures)
 
   sub-groups-extent : lts.Need-sub-groups-extent (known t) (asked t) reads.Post Inv-loop μ-loop
   sub-groups-extent c =
@@ -97,7 +110,7 @@ module _ (t : ℕ) where
       let group = c .before .before .before .before .group-at .ensures in
       let found = sym group ∙ ap groupOrForm (c .before .before .next .given .1) in
       let into = groups.into-group (a .catalog .now) (l .sum .next) (a .levels) (w .standing) (w .few) _ found in
-      let behind-run = sym (c .run-extent .ensures .next) in
+      let behind-run = sym (own-run c .next) in
       let there = subst (λ n. AtGroups (a .catalog .now) n (a .levels - 1)) behind-run (into .1) in
       (omega (arith, s .pre .0, into .0), (there, (s .pre .1 .1 .0, omega (arith, w .few))))
 
@@ -110,7 +123,7 @@ module _ (t : ℕ) where
       let group = c .before .before .before .before .before .group-at .ensures in
       let found = sym group ∙ ap groupOrForm (c .before .before .before .next .given .1) in
       let own = walks.own-few (a .catalog .now) (l .sum .next) (a .levels) (w .standing) (w .few) _ found in
-      let run = c .before .run-extent .ensures in
+      let run = own-run (c .before) in
       let inside = c .groups-extent .ensures .0 in
       let capped = w .summed .capped in (
         s .pre .1 .1 .0,
@@ -132,7 +145,7 @@ module _ (t : ℕ) where
       let found = sym group ∙ ap groupOrForm (c .before .before .before .before .next .given .1) in
       let inside = c .before .groups-extent .ensures in
       walks.walks-on (a .catalog .now) (scopeIn (a .table .now)) (a .levels) (a .first) (l .sum) (l .inv .0) _ found _
-      (c .before .before .run-extent .ensures) _ (inside .0) (inside .1) _ (c .with-group .ensures)
+      (own-run (c .before .before)) _ (inside .0) (inside .1) _ (c .with-group .ensures)
 
   loop-less : lts.Need-loop-less (known t) (asked t) reads.Post Inv-loop μ-loop
   loop-less c =

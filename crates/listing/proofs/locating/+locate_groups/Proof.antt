@@ -14,13 +14,14 @@ use Rattle.layout.specs.Layout.{countOf}
 use Rattle.layout.specs.Walks.{heldAt, headOf, levelOf, scopeIn}
 use Rattle.layout.specs.Locating.{locatedIn}
 use Rattle.layout.proofs.Standing as standing
-use Rattle.listing.specs.Answers.{groupOrForm, locatedForm}
+use Rattle.layout.specs.Answers.{groupOrForm}
+use Rattle.listing.specs.Answers.{locatedForm}
 use Rattle.listing.specs.Promises.{LocateAsks}
 use Rattle.listing.proofs.LocatedGroups as steps
 use Rattle.listing.proofs.locating.locate_groups.Reads as reads
 use Rattle.listing.proofs.locating.locate_groups.Kinds as kinds
 use Rattle.listing.proofs.locating.+locate_groups.Lts-locate_groups as lts
-use Rattle.listing.proofs.frames.group_at.Reads as group-at-reads
+use Rattle.layout.proofs.group_at.Reads as group-at-reads
 use Rattle.listing.proofs.locating.locate_own.Reads as locate-own-reads
 use Rattle.listing.proofs.locating.number_at.Reads as number-at-reads
 use Rattle.listing.proofs.locating.shape_of.Reads as shape-of-reads

@@ -7,9 +7,11 @@ use Rattle.catalog.specs.Definitions.{Groups, pointsSize}
 use Rattle.layout.specs.Layout.{countOf}
 use Rattle.layout.specs.Walks.{heldAt, scopeIn}
 use Rattle.layout.specs.Locating.{Located, orElse, locatedIn}
+use Rattle.layout.specs.Answers as Layout
 use Rattle.layout.proofs.Standing as standing
+use Rattle.layout.proofs.RunSteps.{run-whole}
 use Rattle.listing.specs.Answers.{locatedForm}
-use Rattle.listing.specs.Promises.{LocateAsks}
+use Rattle.listing.specs.Promises.{RunOf, LocateAsks}
 use Rattle.listing.proofs.locating.locate_model.Statement.{statement}
 use Rattle.listing.proofs.locating.locate_model.Tie as tie
 
@@ -38,11 +40,19 @@ enum-told c = search needs
 run-extent-requires : tie.Need-run-extent-requires
 run-extent-requires c κs = search needs
 
+-- The run is the top points.
+top-run : (c : tie.After-run-extent) → RunOf (c .before .before .before .before .before .before .args .catalog .now) (c .before .before .before .before .before .before .args .first) (c .run-extent .result)
+top-run c =
+    let s = c .before .before .before .before .before .before in
+    let a = s .args in
+    subst (λ ps. Layout.RunOf ps (a .first) (c .run-extent .result))
+    (run-whole (a .catalog .now) (a .first) (s .pre .0 .stands) (s .pre .0 .groups .standing .few)) (c .run-extent .ensures)
+
 locate-groups-requires : tie.Need-locate-groups-requires
 locate-groups-requires c κs =
     let s = c .before .before .before .before .before .before in
     let a = s .args in
-    let run = c .run-extent .ensures in
+    let run = top-run c in
     let Asks : ℕ → ℕ → Type 0 = LocateAsks (a .catalog .now) (a .table .now) (a .fill) 3 in
     (subst (λ n. Asks n (c .run-extent .result .size)) (sym (run .next)) (subst (Asks _) (sym (run .size)) (s .pre .0 .groups)), s .pre .1)
 
@@ -51,7 +61,7 @@ returns-2 c =
     let s = c .before .before .before .before .before .before .before in
     let a = s .args in
     let top = heldAt (a .catalog .now) (a .first) in
-    let run = c .before .run-extent .ensures in
+    let run = top-run (c .before) in
     let none = sym (c .before .before .before .before .locate-own .ensures) ∙ ap locatedForm (c .before .before .enum-told .given .1) in
     let there : heldAt (a .catalog .now) (c .before .run-extent .result .next) .groups ≡ top .groups =
     ap (λ n. heldAt (a .catalog .now) n .groups) (run .next)

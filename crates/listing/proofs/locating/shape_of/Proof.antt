@@ -1,11 +1,14 @@
 -- `listing::locating::shape_of` meets its contract: the shape by the extents of the group's points and of the groups in it.
 use mathlib.Core.Path.{sym, subst}
-use Prim.Native.Nat.{_-_}
+use Prim.Native.Nat.{_+_, _-_}
 use native.Mathlib.Omega.{arith}
 use borrow.Author.Needs.{needs}
 use Rattle.layout.specs.Walks.{AtGroups}
+use Rattle.layout.specs.Answers as Layout
 use Rattle.layout.proofs.Standing as standing
+use Rattle.layout.proofs.RunSteps.{run-whole}
 use Rattle.layout.proofs.IntoGroups as groups
+use Rattle.listing.specs.Promises.{RunOf}
 use Rattle.listing.proofs.ExtentWalks.{own-few}
 use Rattle.listing.proofs.LocatedGroups.{shape-is}
 use Rattle.listing.proofs.locating.shape_of.Statement.{statement}
@@ -18,10 +21,17 @@ add-run-extent c =
     omega (arith, standing.stands-within (s .args .catalog .now) (s .args .frame) (at .stands), at .few)
 
 run-extent-requires : tie.Need-run-extent-requires
-run-extent-requires c κs =
-    let s = c .before .before in
+run-extent-requires c κs = search needs
+
+-- The run is the points of the group.
+own-run : (c : tie.After-run-extent) → RunOf (c .before .before .before .args .catalog .now) (c .before .before .before .args .frame + 1) (c .run-extent .result)
+own-run c =
+    let s = c .before .before .before in
+    let a = s .args in
     let at = s .pre .0 in
-    (standing.group-next (s .args .catalog .now) (s .args .frame) (at .stands) (at .noPoint) _ (s .pre .1 .1) .1, at .few)
+    let stands = standing.group-next (a .catalog .now) (a .frame) (at .stands) (at .noPoint) _ (s .pre .1 .1) .1 in
+    subst (λ ps. Layout.RunOf ps (a .frame + 1) (c .run-extent .result))
+    (run-whole (a .catalog .now) (a .frame + 1) stands (at .few)) (c .run-extent .ensures)
 
 sub-groups-extent : tie.Need-sub-groups-extent
 sub-groups-extent c =
@@ -33,7 +43,7 @@ groups-extent-requires c κs =
     let s = c .before .before .before in
     let a = s .args in
     let into = groups.into-group (a .catalog .now) (a .frame) (a .levels) (s .pre .0) (s .pre .1 .0 .1) _ (s .pre .1 .1) in
-    let there = subst (λ n. AtGroups (a .catalog .now) n (a .levels - 1)) (sym (c .run-extent .ensures .next)) (into .1) in
+    let there = subst (λ n. AtGroups (a .catalog .now) n (a .levels - 1)) (sym (own-run c .next)) (into .1) in
     (there, (s .pre .1 .0 .0, omega (arith, s .pre .1 .0 .1)))
 
 count-of-requires : tie.Need-count-of-requires
@@ -44,7 +54,7 @@ add-t10 c =
     let s = c .before .before .before .before .before .before .before in
     let a = s .args in
     let own = own-few (a .catalog .now) (a .frame) (a .levels) (s .pre .0) (s .pre .1 .0 .1) _ (s .pre .1 .1) in
-    omega (arith, c .before .before .before .before .run-extent .ensures .size, own .1, c .before .before .before .groups-extent .ensures .0 .size)
+    omega (arith, own-run (c .before .before .before .before) .size, own .1, c .before .before .before .groups-extent .ensures .0 .size)
 
 returns : tie.Need-returns
 returns c =
@@ -52,7 +62,8 @@ returns c =
     let lower = c .before .before .before .groups-extent .ensures in
     let count = c .before .before .count-of .ensures in
     shape-is (s .args .catalog .now) (s .args .table .now) (s .args .fill) (s .args .levels) (s .args .frame) (s .pre .0)
-    (s .pre .1 .0 .1) _ (s .pre .1 .1) _ _ _ (c .before .before .before .before .run-extent .ensures) (lower .0) (lower .1) (count .0) (count .1)
+    (s .pre .1 .0 .1) _ (s .pre .1 .1) _ _ _ (own-run (c .before .before .before .before)) (lower .0) (lower .1) (count .0)
+    (omega (arith, count .1, s .pre .1 .0 .2))
 
 pub shape-of-spec : {M : Type 1} → statement M
 shape-of-spec =

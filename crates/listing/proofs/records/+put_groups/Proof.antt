@@ -8,16 +8,17 @@ use lib.ListN.{length, getD, length-set}
 use Rattle.catalog.specs.Answers.{headForm}
 use Rattle.layout.specs.Walks.{heldAt, Stands, pastEnd, levelOf}
 use Rattle.layout.proofs.Standing as standing
-use Rattle.listing.specs.Answers.{groupOrForm}
+use Rattle.layout.proofs.PassedFrames.{group-passed}
+use Rattle.layout.specs.Answers.{groupOrForm}
 use Rattle.listing.specs.declared.records.Progress.{Progress}
 use Rattle.listing.proofs.InstanceSteps as steps
 use Rattle.listing.proofs.GroupsWriting.{Writing}
 use Rattle.listing.proofs.records.put_groups.Reads as reads
 use Rattle.listing.proofs.records.put_groups.Kinds as kinds
 use Rattle.listing.proofs.records.+put_groups.Lts-put_groups as lts
-use Rattle.listing.proofs.extents.count_of.Reads as count-of-reads
-use Rattle.listing.proofs.frames.behind_group.Reads as behind-group-reads
-use Rattle.listing.proofs.frames.group_at.Reads as group-at-reads
+use Rattle.layout.proofs.count_of.Reads as count-of-reads
+use Rattle.layout.proofs.behind_group.Reads as behind-group-reads
+use Rattle.layout.proofs.group_at.Reads as group-at-reads
 use Rattle.listing.proofs.records.at_frame.Reads as at-frame-reads
 use Rattle.listing.proofs.records.enter.Reads as enter-reads
 use Rattle.listing.proofs.records.put_own.Reads as put-own-reads
@@ -82,10 +83,7 @@ module _ (t : ℕ) where
   enum-known-next c = search needs
 
   count-of-requires : lts.Need-count-of-requires (known t) (asked t) reads.Post Inv-loop μ-loop
-  count-of-requires c κs =
-      let at-loop = c .before .before .before .before .before .before .before in
-      let at-start = at-loop .before .before .before .before .before in
-      (at-loop .loop .inv .0 .isTable, at-start .pre .1 .filling)
+  count-of-requires c κs = search needs
 
   cast-enter : lts.Need-cast-enter (known t) (asked t) reads.Post Inv-loop μ-loop
   cast-enter c = search needs
@@ -167,7 +165,9 @@ module _ (t : ℕ) where
       let at-if2 = at-put-own .before .before .before .before in
       let at-count-of = at-if2 .before in
       let f = ap (λ (x : Progress). x .frame) (c .at-frame .ensures) in
-      omega (arith, f, at-count-of .count-of .ensures .1, at-if2 .if2)
+      let at-loop = at-count-of .before .before .before .before .before .before .before .before in
+      let filling = at-loop .before .before .before .before .before .pre .1 .filling in
+      omega (arith, f, at-count-of .count-of .ensures .1, filling, at-if2 .if2)
 
   loop-again : lts.Need-loop-again (known t) (asked t) reads.Post Inv-loop μ-loop
   loop-again c =
@@ -197,20 +197,10 @@ module _ (t : ℕ) where
       (λ x. Inv-loop (v .catalog .now) (v .table .now) (v .out .now) (v .model) (v .body .now) (v .levels) (v .instance)
       (length (v .catalog .now) / 8) (v .start) 0 (g .last .1 .0) (g .last .1 .1 .0) x (l .j + 1))
       (sym (c .at-frame .ensures))
-      (on, inv .1, inv .2, inv .3, omega (arith, at-count-of .count-of .ensures .1, at-if2 .if2))
+      (on, inv .1, inv .2, inv .3, omega (arith, at-count-of .count-of .ensures .1, a .filling, at-if2 .if2))
 
   behind-group-requires : lts.Need-behind-group-requires (known t) (asked t) reads.Post Inv-loop μ-loop
-  behind-group-requires c κs =
-      let at-next = c .before .before .before .before in
-      let at-group-at = at-next .before .before in
-      let at-loop = at-group-at .before .before .before in
-      let at-start = at-loop .before .before .before .before .before in
-      let v = at-start .args in
-      let a = at-start .pre .1 in
-      let l = at-loop .loop in
-      let hd = at-next .next .given .0 .0 in
-      let e = sym (at-group-at .group-at .ensures) ∙ ap groupOrForm (at-next .next .given .1) in
-      (standing.group-next (v .catalog .now) (l .at .frame) (l .inv .1) (l .inv .2) (headForm hd) e .1, a .standing .few)
+  behind-group-requires c κs = search needs
 
   at-frame-requires-2 : lts.Need-at-frame-requires-2 (known t) (asked t) reads.Post Inv-loop μ-loop
   at-frame-requires-2 c κs = search needs
@@ -231,7 +221,7 @@ module _ (t : ℕ) where
       omega (
         arith,
         f,
-        c .before .behind-group .ensures,
+        c .before .behind-group .ensures ∙ group-passed (v .catalog .now) (l .at .frame) s,
         standing.past-end-within (v .catalog .now) (l .at .frame + 1) s,
         l .inv .3,
         at-if1 .if1,
@@ -247,12 +237,14 @@ module _ (t : ℕ) where
       let a = at-start .pre .1 in
       let l = at-loop .loop in
       let e = sym (at-group-at .group-at .ensures) ∙ ap groupOrForm (at-next .next .given .1) in
+      let opened = standing.group-next (v .catalog .now) (l .at .frame) (l .inv .1) (l .inv .2) _ e .1 in
       let s = steps.stands-past a (l .inv .0) (l .inv .1) (l .inv .2) e in
       let w = steps.passes a (l .inv .0) (l .inv .1) (l .inv .2) e
       (omega (arith, c .before .before .before .count-of .ensures .0, c .before .before .if2)) in
       let at-frame : ℕ → Progress = λ k. record { records = l .at .records; offset = l .at .offset; frame = k } in
+      let past = c .before .behind-group .ensures ∙ group-passed (v .catalog .now) (l .at .frame) opened in
       let f : c .at-frame2 .result ≡ at-frame (pastEnd (v .catalog .now) (l .at .frame + 1)) =
-      c .at-frame2 .ensures ∙ ap at-frame (c .before .behind-group .ensures) in
+      c .at-frame2 .ensures ∙ ap at-frame past in
       subst (λ x. Inv-loop (v .catalog .now) (v .table .now) (v .out .now) (v .model) (v .body .now) (v .levels) (v .instance)
       (length (v .catalog .now) / 8) (v .start) 0 (l .table) (l .out) x 0)
       (sym f)

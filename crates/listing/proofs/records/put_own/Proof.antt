@@ -9,6 +9,7 @@ use Rattle.catalog.specs.Frames.{Point}
 use Rattle.layout.specs.Points.{ModelPoint}
 use Rattle.layout.specs.Walks.{heldAt, noted, begun}
 use Rattle.layout.proofs.Standing.{stands-within}
+use Rattle.layout.proofs.FrameRuns.{held-noted}
 use Rattle.layout.proofs.NotedPoints.{noted-length, numbers-in-table, begun-all, own-points}
 use Rattle.listing.specs.Promises.{written, RunAsks, BehindRun}
 use Rattle.listing.specs.declared.records.Progress.{Progress}
@@ -42,9 +43,7 @@ put-run-requires c κs =
     let noting = c .before .before .before .before in
     let s = noting .before .before .before .before .before .before .before in
     let a = s .args in
-    let isTable = ap length (noting .note-run .ensures)
-    ∙ noted-length (a .body .now) (a .at .offset) (ownBegun s) (a .table .now)
-    ∙ s .pre .0 .0 in (
+    let isTable = ap length (noting .note-run .ensures) ∙ noted-length _ _ _ _ ∙ s .pre .0 .0 in (
       (isTable, s .pre .0 .1),
       subst (λ (ps : List Point). RunAsks (a .catalog .now) (a .body .now) (a .out .now) (a .visit) (start s) ps)
           (sym (all-begun s)) (s .pre .1),
@@ -66,15 +65,17 @@ returns c =
     let a = s .args in
     let body = a .body .now in
     let all = all-begun s in
+    let filled = noting .note-run .ensures
+    ∙ held-noted (a .catalog .now) (a .at .frame + 1) (s .pre .1 .stands) body (a .at .offset) (a .table .now) in
     let words : (k : ℕ) → getD (a .catalog .now) k 0 < 65536 = λ k. omega (arith, known .shared-slice-known .given k) in
     let numbers = numbers-in-table (a .catalog .now) words (a .at .frame + 1) (s .pre .1 .stands) in
     let points = own-points body (a .at .offset) (own s) (a .table .now) (a .instance .path .instances)
     (noting .note-run .last .1 .1 .1 .1 .0)
-    (s .pre .0 .0) numbers all (noting .note-run .ensures) in (
+    (s .pre .0 .0) numbers all filled in (
       subst (λ (ps : List Point). BehindRun (start s) ps (put .result)) all (put .ensures .0),
       (
         put .ensures .1 ∙ ap (λ (ps : List ModelPoint). written (a .visit) (a .at .records) ps (a .out .now)) points,
-        noting .note-run .ensures ∙ ap (λ (ps : List Point). noted body (a .at .offset) ps (a .table .now)) all,
+        filled ∙ ap (λ (ps : List Point). noted body (a .at .offset) ps (a .table .now)) all,
       ),
     )
 

@@ -1,17 +1,14 @@
 -- `listing::records::put_record` meets its contract: the ten numbers of a point's record are written.
-use mathlib.Core.Path.{_≡_, sym, ap, subst, _∙_}
-use mathlib.Core.Bool.{true}
+use mathlib.Core.Path.{ap, _∙_}
 use mathlib.Core.List.{List}
-use Prim.Native.Nat.{ℕ, _*_, _≤_}
+use Prim.Native.Nat.{ℕ, _*_}
 use native.Mathlib.Omega.{arith}
-use lib.ListN.{length, getD, drop, length-drop}
-use lib.Seq.{sets, length-take-le}
-use Rattle.catalog.specs.Rules.{isSizeOf}
+use lib.ListN.{getD}
+use lib.Seq.{sets}
 use Rattle.catalog.specs.Answers.{pointForm}
-use Rattle.layout.specs.Points.{registersAt}
 use Rattle.layout.specs.Walks.{scopeIn}
+use Rattle.layout.proofs.PointClasses.{shown-at}
 use Rattle.listing.specs.Listing.{recordWidth}
-use Rattle.listing.specs.Promises.{ShownOf}
 use Rattle.listing.proofs.PointRuns.{shown-numbers}
 use Rattle.listing.proofs.records.put_record.Statement.{statement}
 use Rattle.listing.proofs.records.put_record.Tie as tie
@@ -41,15 +38,7 @@ shared-slice-read-show : tie.Need-shared-slice-read-show
 shared-slice-read-show c = search needs
 
 show-requires : tie.Need-show-requires
-show-requires c κs =
-    let s = c .before .before .before .before .before .before .before .before in
-    let a = s .args in
-    let p = pointForm (a .point) in
-    let rest = drop (a .at .offset) (a .body .now) in
-    let fits : p .size ≤ length rest = rw length-drop (omega (arith, s .pre .1 .0 .inside)) in
-    let call = c .before .before .part in
-    let n : length (call .result .now) ≡ p .size = ap length (call .ensures) ∙ length-take-le (p .size) rest fits in
-    subst (λ (k : ℕ). isSizeOf (p .typeCode) k ≡ true) (sym n) (s .pre .1 .0 .sized)
+show-requires c κs = search needs
 
 cast-t17 : tie.Need-cast-t17
 cast-t17 c = search needs
@@ -104,8 +93,11 @@ returns c =
     let p = pointForm (a .point) in
     let register = scopeIn (a .table .now) (p .scale) in
     let shown = show .show .result in
-    let is : ShownOf p (registersAt (a .body .now) (a .at .offset) p) register shown =
-    subst (λ (rs : List ℕ). ShownOf p rs register shown) (show .before .before .before .part .ensures) (show .show .ensures) in
+    let at-body = show .before .before .before .before .before .before in
+    let fits = at-body .before .before .before .pre .1 .0 in
+    let part = show .before .before .before .part in
+    let is = shown-at p (a .body .now) (a .at .offset) (λ k. omega (arith, at-body .shared-slice-known2 .given k)) (fits .sized)
+    (fits .inside) (part .result .now) (part .ensures) register shown (show .show .ensures) in
     c .before .before .put .ensures
     ∙ ap (λ (ns : List ℕ). sets (a .out .now) (recordWidth * a .at .records) ns)
     (shown-numbers (a .visit) (a .body .now) (a .table .now) (a .instance .path .instances) (a .at .offset) p shown is)

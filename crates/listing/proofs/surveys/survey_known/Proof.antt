@@ -1,11 +1,16 @@
 -- `listing::surveys::survey_known` meets its contract: what the definition says, by the frames and the table.
-use mathlib.Core.Path.{sym, _∙_}
+use mathlib.Core.Path.{_≡_, sym, subst, _∙_}
 use Prim.Native.Nat.{ℕ, _≤_, _<_}
 use native.Mathlib.Omega.{arith}
 use lib.ListN.{length, getD}
+use Rattle.catalog.specs.Rules.{run}
 use Rattle.catalog.specs.Definitions.{pointsSize}
-use Rattle.layout.specs.Walks.{heldAt}
+use Rattle.layout.specs.Walks.{onward, heldAt, noted, begun, begunAt}
+use Rattle.layout.specs.Answers as Layout
+use Rattle.layout.proofs.FrameRuns.{held-noted}
+use Rattle.layout.proofs.RunSteps.{run-whole}
 use Rattle.layout.proofs.AcceptedModels.{accepted-few}
+use Rattle.listing.specs.Promises.{RunOf}
 use Rattle.listing.proofs.SurveyedModels as models
 use Rattle.listing.proofs.SurveyedByFrames as laws
 use Rattle.listing.proofs.surveys.survey_known.Statement.{statement}
@@ -13,21 +18,30 @@ use Rattle.listing.proofs.surveys.survey_known.Tie as tie
 use borrow.Author.Needs.{needs}
 
 run-extent-requires : tie.Need-run-extent-requires
-run-extent-requires c κs =
-    let b = c .before .before .before in
+run-extent-requires c κs = search needs
+
+-- Where the definition is found, the run is the points of its top group.
+top-run : (c : tie.After-run-extent) → RunOf (c .before .before .before .before .args .catalog .now)
+    (c .before .before .before .before .args .first) (c .run-extent .result)
+top-run c =
+    let b = c .before .before .before .before in
     let a = b .args in
-    let ws = a .catalog .now in
-    (b .pre .1 .1 .0, accepted-few ws (b .pre .0))
+    let whole = run-whole (a .catalog .now) (a .first) (b .pre .1 .1 .0) (accepted-few (a .catalog .now) (b .pre .0)) in
+    subst (λ ps. Layout.RunOf ps (a .first) (c .run-extent .result)) whole (c .run-extent .ensures)
 
 is-pad-left-out-requires : tie.Need-is-pad-left-out-requires
-is-pad-left-out-requires c κs = search needs
+is-pad-left-out-requires c κs = let b = c .before .before .before .before in ((b .pre .1 .1 .0, top-run c), b .pre .1 .0 .1)
+
+-- Where the definition is found, the points recorded are those of its top group.
+top-noted : (b : tie.Start) → let a = b .args in
+    noted (a .body .now) 0 (begun (length (a .body .now)) 0 (run (onward (a .catalog .now) (a .first)))) (a .table .now)
+    ≡ noted (a .body .now) 0 (begunAt (a .catalog .now) (a .body .now) 0 (a .first)) (a .table .now)
+top-noted b =
+    let a = b .args in
+    held-noted (a .catalog .now) (a .first) (b .pre .1 .1 .0) (a .body .now) 0 (a .table .now)
 
 note-run-requires : tie.Need-note-run-requires
-note-run-requires c κs =
-    let b = c .before .before .before .before .before .before .before in
-    let a = b .args in
-    let ws = a .catalog .now in
-    ((b .pre .1 .1 .0, accepted-few ws (b .pre .0)), (b .pre .1 .0 .0, b .pre .1 .0 .1))
+note-run-requires c κs = search needs
 
 sub-t13 : tie.Need-sub-t13
 sub-t13 c =
@@ -37,7 +51,7 @@ sub-t13 c =
     let a = b .args in
     let e = sym (at-is-pad-left-out .is-pad-left-out .ensures) ∙ c .before .before .before .before .before .if1 .taken in
     laws.has-point (a .id) (b .pre .0) (b .pre .1 .1 .0) (b .pre .1 .1 .1) (length (a .body .now))
-    (at-run-extent .run-extent .ensures) e
+    (top-run at-run-extent) e
 
 same-length : tie.Need-same-length
 same-length c = search needs
@@ -50,36 +64,32 @@ returns c =
     let a = b .args in
     let e = sym (at-is-pad-left-out .is-pad-left-out .ensures) ∙ c .before .before .before .before .before .if1 .taken in
     laws.pad-left-out (a .id) (b .pre .0) (b .pre .1 .1 .0) (b .pre .1 .1 .1) (a .body .now) (a .table .now) (b .pre .1 .0 .0)
-    (c .before .before .before .note-run .ensures) (at-run-extent .run-extent .ensures) e
+    (c .before .before .before .note-run .ensures ∙ top-noted b) (top-run at-run-extent) e
 
 returns-2 : tie.Need-returns-2
 returns-2 c =
     let b = c .before .before .before .before .before .before .before .before in
     let a = b .args in
     let ws = a .catalog .now in
-    let r = c .before .before .before .before .run-extent in
+    let r = top-run (c .before .before .before .before) in
     let e = sym (c .before .before .before .is-pad-left-out .ensures) ∙ c .before .before .if1 .left in
     let short : length (a .body .now) < pointsSize (heldAt ws (a .first) .points) =
-    omega (arith, c .if2 .taken, r .ensures .size) in
+    omega (arith, c .if2 .taken, r .size) in
     (models.below-surveyed (a .id) (heldAt ws (a .first)) (a .body .now) e short, (tt, b .pre .1 .0 .0))
 
 note-run-requires-2 : tie.Need-note-run-requires-2
-note-run-requires-2 c κs =
-    let b = c .before .before .before .before .before .before .before .before .before in
-    let a = b .args in
-    let ws = a .catalog .now in
-    ((b .pre .1 .1 .0, accepted-few ws (b .pre .0)), (b .pre .1 .0 .0, b .pre .1 .0 .1))
+note-run-requires-2 c κs = search needs
 
 groups-extent-requires : tie.Need-groups-extent-requires
 groups-extent-requires c κs =
     let at-run-extent = c .before .before .before .before .before .before .before .before .before in
     let b = at-run-extent .before .before .before .before in
     let a = b .args in
-    let r = at-run-extent .run-extent in (
-      laws.at-groups (a .id) (b .pre .0) (b .pre .1 .1 .0) (b .pre .1 .1 .1) (r .ensures),
+    let r = top-run at-run-extent in (
+      laws.at-groups (a .id) (b .pre .0) (b .pre .1 .1 .0) (b .pre .1 .1 .1) r,
       (
         laws.still-table (a .id) (b .pre .0) (b .pre .1 .1 .0) (b .pre .1 .1 .1) (a .body .now) (a .table .now) (b .pre .1 .0 .0)
-            (c .before .before .before .note-run2 .ensures),
+            (c .before .before .before .note-run2 .ensures ∙ top-noted b),
         omega arith,
       ),
     )
@@ -98,16 +108,16 @@ returns-3 c =
     let a = b .args in
     let ws = a .catalog .now in
     let words : (k : ℕ) → getD ws k 0 < 65536 = λ k. omega (arith, at-slices .shared-slice-known .given k) in
-    let r = at-run-extent .run-extent in
+    let r = top-run at-run-extent in
     let e = sym (at-is-pad-left-out .is-pad-left-out .ensures) ∙ at-if1 .if1 .left in
     let n = c .before .before .before .before .before .note-run2 in
     let long : pointsSize (heldAt ws (a .first) .points) ≤ length (a .body .now) =
-    omega (arith, at-if2 .if2 .left, r .ensures .size) in
+    omega (arith, at-if2 .if2 .left, r .size) in
     let u = laws.unimplemented (a .id) (b .pre .0) (b .pre .1 .1 .0) (b .pre .1 .1 .1) (a .body .now) (a .table .now)
-    (b .pre .1 .0 .0) (n .ensures) words (b .pre .1 .0 .1) e long
-    (r .ensures) (c .before .groups-extent .ensures .0) (c .if3 .taken) in
+    (b .pre .1 .0 .0) (n .ensures ∙ top-noted b) words (b .pre .1 .0 .1) e long
+    r (c .before .groups-extent .ensures .0) (c .if3 .taken) in
     let t = laws.still-table (a .id) (b .pre .0) (b .pre .1 .1 .0) (b .pre .1 .1 .1) (a .body .now) (a .table .now)
-    (b .pre .1 .0 .0) (n .ensures) in
+    (b .pre .1 .0 .0) (n .ensures ∙ top-noted b) in
     (u, (tt, t))
 
 fitted-requires : tie.Need-fitted-requires
@@ -116,9 +126,9 @@ fitted-requires c κs =
     let at-run-extent = at-if2 .before .before .before .before in
     let b = at-run-extent .before .before .before .before in
     let a = b .args in
-    let r = at-run-extent .run-extent in
+    let r = top-run at-run-extent in
     let x = c .before .groups-extent .ensures .0 in
-    let few = laws.few-points (a .id) (b .pre .0) (b .pre .1 .1 .0) (b .pre .1 .1 .1) (r .ensures) in (
+    let few = laws.few-points (a .id) (b .pre .0) (b .pre .1 .1 .0) (b .pre .1 .1 .1) r in (
       (omega (arith, at-if2 .if2 .left), b .pre .1 .0 .1, few),
       (omega (arith, x .size), omega (arith, x .points), omega (arith, x .fillPoints)),
     )
@@ -138,14 +148,14 @@ returns-4 c =
     let a = b .args in
     let ws = a .catalog .now in
     let words : (k : ℕ) → getD ws k 0 < 65536 = λ k. omega (arith, at-slices .shared-slice-known .given k) in
-    let r = at-run-extent .run-extent in
+    let r = top-run at-run-extent in
     let e = sym (at-is-pad-left-out .is-pad-left-out .ensures) ∙ at-if1 .if1 .left in
     let n = at-note-run2 .note-run2 in
     let long : pointsSize (heldAt ws (a .first) .points) ≤ length (a .body .now) =
-    omega (arith, at-if2 .if2 .left, r .ensures .size) in
+    omega (arith, at-if2 .if2 .left, r .size) in
     laws.surveyed-here (a .id) (b .pre .0) (b .pre .1 .1 .0) (b .pre .1 .1 .1) (a .body .now) (a .table .now) (b .pre .1 .0 .0)
-    (n .ensures) words (b .pre .1 .0 .1) e long
-    (r .ensures) (c .before .before .groups-extent .ensures .0) (c .before .if3 .left) (c .fitted .ensures)
+    (n .ensures ∙ top-noted b) words (b .pre .1 .0 .1) e long
+    r (c .before .before .groups-extent .ensures .0) (c .before .if3 .left) (c .fitted .ensures)
 
 pub survey-known-spec : {M : Type 1} → statement M
 survey-known-spec =

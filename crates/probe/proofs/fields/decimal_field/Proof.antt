@@ -1,22 +1,19 @@
 -- `probe::fields::decimal_field` meets its contract. The loop's invariant: the number of the digits so far is at most the bound.
 use Prim.Native.Nat.{_≤_, _-_}
 use native.Mathlib.Omega.{arith}
-use borrow.Author.Tests.{ltb-false}
+use borrow.Author.Tests.{not-false}
 use borrow.Author.Needs.{needs}
 use Rattle.probe.proofs.fields.decimal_field.Statement.{statement}
 use Rattle.probe.proofs.fields.decimal_field.Tie as tie
 
 abbrev Inv-loop : tie.InvT-loop
-Inv-loop line at bound start end value₀ i₀ value i = (value ≤ bound) × (i ≤ end)
+Inv-loop line at bound field end value₀ i₀ value i = value ≤ bound
 
 abbrev μ-loop : tie.MeasureT-loop
-μ-loop line at bound start end value₀ i₀ value i = end - i
+μ-loop line at bound field end value₀ i₀ value i = end - i
 
 field-at-requires : tie.Need-field-at-requires Inv-loop μ-loop
 field-at-requires c κs = search needs
-
-returns : tie.Need-returns Inv-loop μ-loop
-returns c = search needs
 
 loop-holds : tie.Need-loop-holds Inv-loop μ-loop
 loop-holds c = search needs
@@ -27,20 +24,17 @@ shared-slice-read-decimal-digit c = search needs
 decimal-digit-requires : tie.Need-decimal-digit-requires Inv-loop μ-loop
 decimal-digit-requires c κs = search needs
 
-returns-2 : tie.Need-returns-2 Inv-loop μ-loop
-returns-2 c = search needs
+has-room-requires : tie.Need-has-room-requires Inv-loop μ-loop
+has-room-requires c κs = search needs
 
-sub-if4 : tie.Need-sub-if4 Inv-loop μ-loop
-sub-if4 c = search needs
-
-returns-3 : tie.Need-returns-3 Inv-loop μ-loop
-returns-3 c = search needs
+returns : tie.Need-returns Inv-loop μ-loop
+returns c = search needs
 
 mul-value : tie.Need-mul-value Inv-loop μ-loop
-mul-value c = search needs
+mul-value c = record { fits = omega (arith, c .before .has-room .ensures (not-false _ (c .if1 .left))) }
 
 add-value : tie.Need-add-value Inv-loop μ-loop
-add-value c = search needs
+add-value c = record { fits = omega (arith, c .before .has-room .ensures (not-false _ (c .if1 .left))) }
 
 add-i : tie.Need-add-i Inv-loop μ-loop
 add-i c = search needs
@@ -49,10 +43,10 @@ loop-less : tie.Need-loop-less Inv-loop μ-loop
 loop-less c = search needs
 
 loop-again : tie.Need-loop-again Inv-loop μ-loop
-loop-again c = omega (arith, ltb-false)
+loop-again c = c .before .has-room .ensures (not-false _ (c .if1 .left))
 
-returns-4 : tie.Need-returns-4 Inv-loop μ-loop
-returns-4 c = search needs
+returns-2 : tie.Need-returns-2 Inv-loop μ-loop
+returns-2 c = search needs
 
 pub decimal-field-spec : {M : Type 1} → statement M
 decimal-field-spec =
@@ -61,16 +55,14 @@ decimal-field-spec =
     Inv-loop
     μ-loop
     field-at-requires
-    returns
     loop-holds
     shared-slice-read-decimal-digit
     decimal-digit-requires
-    returns-2
-    sub-if4
-    returns-3
+    has-room-requires
+    returns
     mul-value
     add-value
     add-i
     loop-less
     loop-again
-    returns-4)
+    returns-2)

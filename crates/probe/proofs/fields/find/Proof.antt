@@ -1,8 +1,8 @@
 -- `probe::fields::find` meets its contract. The loop's invariant: `i` is not below `start`.
 use Prim.Native.Nat.{_≤_, _-_}
-use borrow.Author.Needs.{needs}
 use lib.ListN.{length}
 use Rattle.io.proofs.Counting.{counts}
+use borrow.Author.Needs.{needs}
 use Rattle.probe.proofs.fields.find.Statement.{statement}
 use Rattle.probe.proofs.fields.find.Tie as tie
 

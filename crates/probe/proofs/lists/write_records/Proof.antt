@@ -1,7 +1,7 @@
--- `probe::lists::write_records` is safe and ends.
+-- `probe::lists::write_records` is safe, and ends at the list's end.
 use Prim.Native.Nat.{_-_}
-use borrow.Author.Needs.{needs}
 use lib.ListN.{length}
+use borrow.Author.Needs.{needs}
 use Rattle.probe.proofs.lists.write_records.Statement.{statement}
 use Rattle.probe.proofs.lists.write_records.Tie as tie
 
@@ -17,17 +17,17 @@ loop-holds c = search needs
 returns : tie.Need-returns Inv-loop μ-loop
 returns c = search needs
 
-write-gap-requires : tie.Need-write-gap-requires Inv-loop μ-loop
-write-gap-requires c κs = search needs
+gap-before-requires : tie.Need-gap-before-requires Inv-loop μ-loop
+gap-before-requires c κs = search needs
 
-mul-unsigned : tie.Need-mul-unsigned Inv-loop μ-loop
-mul-unsigned c = search needs
+mul-counted : tie.Need-mul-counted Inv-loop μ-loop
+mul-counted c = search needs
 
-shared-slice-read-unsigned : tie.Need-shared-slice-read-unsigned Inv-loop μ-loop
-shared-slice-read-unsigned c = search needs
+shared-slice-read-counted : tie.Need-shared-slice-read-counted Inv-loop μ-loop
+shared-slice-read-counted c = search needs
 
-unsigned-requires : tie.Need-unsigned-requires Inv-loop μ-loop
-unsigned-requires c κs = search needs
+counted-requires : tie.Need-counted-requires Inv-loop μ-loop
+counted-requires c κs = search needs
 
 add-i : tie.Need-add-i Inv-loop μ-loop
 add-i c = search needs
@@ -49,10 +49,10 @@ write-records-spec =
     μ-loop
     loop-holds
     returns
-    write-gap-requires
-    mul-unsigned
-    shared-slice-read-unsigned
-    unsigned-requires
+    gap-before-requires
+    mul-counted
+    shared-slice-read-counted
+    counted-requires
     add-i
     loop-less
     loop-again

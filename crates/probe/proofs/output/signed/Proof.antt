@@ -29,35 +29,29 @@ not-below : (z : ℤ) → SFits w64 z → ltZ z (pos 0) ≡ false → T (nonNeg 
 not-below (pos n) f t = (tt, record { fits = omega arith })
 not-below (negsuc n) f t = impossible (cc)
 
-slice-aggregate-text : tie.Need-slice-aggregate-text
-slice-aggregate-text c = search needs
-
-text-requires : tie.Need-text-requires
-text-requires c κs = search needs
-
-sub-unsigned : tie.Need-sub-unsigned
-sub-unsigned c =
-    let l = below _ (sfits-toZ (fits-ofZ (c .before .before .before .fits .n))) (c .before .before .if1 .taken) in
+sub-counted : tie.Need-sub-counted
+sub-counted c =
+    let l = below _ (sfits-toZ (fits-ofZ (c .before .fits .n))) (c .if1 .taken) in
     rw (l .is) (record { sfits = l .small })
 
-cast-unsigned : tie.Need-cast-unsigned
-cast-unsigned c =
-    let l = below _ (sfits-toZ (fits-ofZ (c .before .before .before .fits .n))) (c .before .before .if1 .taken) in
+cast-counted : tie.Need-cast-counted
+cast-counted c =
+    let l = below _ (sfits-toZ (fits-ofZ (c .before .fits .n))) (c .if1 .taken) in
     rw (l .is, toZ-pos w64 (l .small)) (tt, record { fits = omega arith })
 
-add-unsigned : tie.Need-add-unsigned
-add-unsigned c =
-    let l = below _ (sfits-toZ (fits-ofZ (c .before .before .before .fits .n))) (c .before .before .if1 .taken) in
+add-counted : tie.Need-add-counted
+add-counted c =
+    let l = below _ (sfits-toZ (fits-ofZ (c .before .fits .n))) (c .if1 .taken) in
     rw (l .is, toZ-pos w64 (l .small)) (record { fits = omega arith })
 
-unsigned-requires : tie.Need-unsigned-requires
-unsigned-requires c κs = search needs
+counted-requires : tie.Need-counted-requires
+counted-requires c κs = search needs
 
-cast-unsigned-2 : tie.Need-cast-unsigned-2
-cast-unsigned-2 c = not-below _ (sfits-toZ (fits-ofZ (c .before .fits .n))) (c .if1 .left)
+cast-counted-2 : tie.Need-cast-counted-2
+cast-counted-2 c = not-below _ (sfits-toZ (fits-ofZ (c .before .fits .n))) (c .if1 .left)
 
-unsigned-requires-2 : tie.Need-unsigned-requires-2
-unsigned-requires-2 c κs = search needs
+counted-requires-2 : tie.Need-counted-requires-2
+counted-requires-2 c κs = search needs
 
 returns : tie.Need-returns
 returns c = search needs
@@ -69,13 +63,11 @@ pub signed-spec : {M : Type 1} → statement M
 signed-spec =
     tie.close
     (tie.spec
-    slice-aggregate-text
-    text-requires
-    sub-unsigned
-    cast-unsigned
-    add-unsigned
-    unsigned-requires
-    cast-unsigned-2
-    unsigned-requires-2
+    sub-counted
+    cast-counted
+    add-counted
+    counted-requires
+    cast-counted-2
+    counted-requires-2
     returns
     returns-2)

@@ -1,24 +1,23 @@
--- `probe::output::words` is safe and ends.
+-- `probe::output::words` is safe, and ends by the count.
 use Prim.Native.Nat.{_-_}
 use borrow.Author.Needs.{needs}
-use lib.ListN.{length}
 use Rattle.probe.proofs.output.words.Statement.{statement}
 use Rattle.probe.proofs.output.words.Tie as tie
 
 abbrev Inv-loop : tie.InvT-loop
-Inv-loop s i₀ i = Unit {0}
+Inv-loop s count i₀ i = Unit {0}
 
 abbrev μ-loop : tie.MeasureT-loop
-μ-loop s i₀ i = length s - i
+μ-loop s count i₀ i = count - i
 
-slice-aggregate-text : tie.Need-slice-aggregate-text Inv-loop μ-loop
-slice-aggregate-text c = search needs
-
-text-requires : tie.Need-text-requires Inv-loop μ-loop
-text-requires c κs = search needs
+say-requires : tie.Need-say-requires Inv-loop μ-loop
+say-requires c κs = search needs
 
 loop-holds : tie.Need-loop-holds Inv-loop μ-loop
 loop-holds c = search needs
+
+returns : tie.Need-returns Inv-loop μ-loop
+returns c = search needs
 
 mul-hex4 : tie.Need-mul-hex4 Inv-loop μ-loop
 mul-hex4 c = search needs
@@ -38,8 +37,8 @@ loop-less c = search needs
 loop-again : tie.Need-loop-again Inv-loop μ-loop
 loop-again c = search needs
 
-returns : tie.Need-returns Inv-loop μ-loop
-returns c = search needs
+returns-2 : tie.Need-returns-2 Inv-loop μ-loop
+returns-2 c = search needs
 
 pub words-spec : {M : Type 1} → statement M
 words-spec =
@@ -47,13 +46,13 @@ words-spec =
     (tie.spec
     Inv-loop
     μ-loop
-    slice-aggregate-text
-    text-requires
+    say-requires
     loop-holds
+    returns
     mul-hex4
     shared-slice-read-hex4
     hex4-requires
     add-i
     loop-less
     loop-again
-    returns)
+    returns-2)

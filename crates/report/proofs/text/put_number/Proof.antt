@@ -9,12 +9,6 @@ use Rattle.display.proofs.StoredTexts.{put-same}
 use Rattle.report.proofs.text.put_number.Statement.{statement}
 use Rattle.report.proofs.text.put_number.Tie as tie
 
-digits-of-requires : tie.Need-digits-of-requires
-digits-of-requires c κs = search needs
-
-array-share-prefix-bytes : tie.Need-array-share-prefix-bytes
-array-share-prefix-bytes c = search needs
-
 slice-aggregate-put-bytes : tie.Need-slice-aggregate-put-bytes
 slice-aggregate-put-bytes c =
     let d = c .before .before .before .digits-of in
@@ -25,9 +19,6 @@ put-bytes-requires c κs =
     let d = c .before .before .before .digits-of in
     let twenty : length (d .result .bytes) ≡ 20 = search needs in
     omega (arith, length-take-le (d .result .count) (d .result .bytes) (d .ensures .1))
-
-same-length : tie.Need-same-length
-same-length c = search needs
 
 returns : tie.Need-returns
 returns c =
@@ -42,10 +33,5 @@ returns c =
 pub put-number-spec : {M : Type 1} → statement M
 put-number-spec =
     tie.close
-    (tie.spec
-    digits-of-requires
-    array-share-prefix-bytes
-    slice-aggregate-put-bytes
-    put-bytes-requires
-    same-length
+    (tie.spec (λ c κs. search needs) (λ c. search needs) slice-aggregate-put-bytes put-bytes-requires (λ c. search needs)
     returns)

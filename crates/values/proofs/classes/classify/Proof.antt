@@ -7,15 +7,8 @@ use Rattle.point_types.specs.Rows.{rowOf}
 use Rattle.point_types.specs.Answers.{foundMeans, rowMeans}
 use Rattle.point_types.proofs.Table.{own-code, listed}
 use Rattle.values.specs.Classes.{classified}
-use Rattle.values.proofs.ClassCases.{unknown}
 use Rattle.values.proofs.classes.classify.Statement.{statement}
 use Rattle.values.proofs.classes.classify.Tie as tie
-
-row-of-requires : tie.Need-row-of-requires
-row-of-requires c κs = search needs
-
-enum-known-found : tie.Need-enum-known-found
-enum-known-found c = search needs
 
 -- The row that was found is the table's.
 at : (c : tie.After-found) → rowOf (c .before .before .before .args .type-code) ≡ some (rowMeans (c .found .given .0 .0))
@@ -26,9 +19,6 @@ classified-in-requires c κs =
     let f = c .before in
     listed (f .before .before .before .args .type-code) (rowMeans (f .found .given .0 .0)) (at f)
 
-enum-told : tie.Need-enum-told
-enum-told c = search needs
-
 returns : tie.Need-returns
 returns c =
     let f = c .before .before in
@@ -36,12 +26,9 @@ returns c =
     c .classified-in .ensures
     ∙ ap (λ (code : ℕ). classified code (a .raw)) (sym (own-code (a .type-code) (rowMeans (f .found .given .0 .0)) (at f)))
 
-returns-2 : tie.Need-returns-2
-returns-2 c =
-    let r = c .before .before in
-    sym (unknown (r .before .args .type-code) (r .before .args .raw) (sym (r .row-of .ensures) ∙ ap foundMeans (c .enum-told .given .1)))
-
 pub classify-spec : {M : Type 1} → statement M
+unfolding classified
 classify-spec =
     tie.close
-    (tie.spec row-of-requires enum-known-found classified-in-requires enum-told returns returns-2)
+    (tie.spec (λ c κs. search needs) (λ c. search needs) classified-in-requires (λ c. search needs) returns
+    (λ c. simp (classified, sym (c .before .before .row-of .ensures) ∙ ap foundMeans (c .enum-told .given .1))))

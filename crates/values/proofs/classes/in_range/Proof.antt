@@ -6,31 +6,10 @@ use Rattle.values.proofs.Ranges as ranges
 use Rattle.values.proofs.classes.in_range.Statement.{statement}
 use Rattle.values.proofs.classes.in_range.Tie as tie
 
-enum-told : tie.Need-enum-told
-enum-told c = search needs
-
-enum-known-range : tie.Need-enum-known-range
-enum-known-range c = search needs
-
-enum-known-range-2 : tie.Need-enum-known-range-2
-enum-known-range-2 c = search needs
-
-enum-told-2 : tie.Need-enum-told-2
-enum-told-2 c = search needs
-
 cast-scale-factor-in-range : tie.Need-cast-scale-factor-in-range
 cast-scale-factor-in-range c =
     let s = c .before .before in
     record { fits = ranges.one-register (rowMeans (s .args .row)) (s .args .raw) (s .pre) (ap rangeMeans (c .enum-told2 .given .1)) }
-
-scale-factor-in-range-requires : tie.Need-scale-factor-in-range-requires
-scale-factor-in-range-requires c κs = search needs
-
-enum-told-3 : tie.Need-enum-told-3
-enum-told-3 c = search needs
-
-not-nan-requires : tie.Need-not-nan-requires
-not-nan-requires c κs = search needs
 
 returns : tie.Need-returns
 returns c =
@@ -63,17 +42,5 @@ returns-5 c =
 pub in-range-spec : {M : Type 1} → statement M
 in-range-spec =
     tie.close
-    (tie.spec
-    enum-told
-    enum-known-range
-    enum-known-range-2
-    enum-told-2
-    cast-scale-factor-in-range
-    scale-factor-in-range-requires
-    enum-told-3
-    not-nan-requires
-    returns
-    returns-2
-    returns-3
-    returns-4
-    returns-5)
+    (tie.spec (λ c. search needs) (λ c. search needs) (λ c. search needs) (λ c. search needs) cast-scale-factor-in-range
+    (λ c κs. search needs) (λ c. search needs) (λ c κs. search needs) returns returns-2 returns-3 returns-4 returns-5)

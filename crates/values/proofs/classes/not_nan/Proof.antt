@@ -6,13 +6,9 @@ use lib.Ieee.{nanBits}
 use Rattle.values.proofs.classes.not_nan.Statement.{statement}
 use Rattle.values.proofs.classes.not_nan.Tie as tie
 
-returns : tie.Need-returns
-unfolding nanBits
-returns c = simp (nanBits, eq-eqb _ _ (c .if1 .taken)) (sym (Bool·not-not _))
-
-returns-2 : tie.Need-returns-2
-unfolding nanBits
-returns-2 c = simp (nanBits, ne-eqb _ _ (c .if1 .left))
-
 pub not-nan-spec : {M : Type 1} → statement M
-not-nan-spec = tie.close (tie.spec returns returns-2)
+unfolding nanBits
+not-nan-spec =
+    tie.close
+    (tie.spec (λ c. simp (nanBits, eq-eqb _ _ (c .if1 .taken)) (sym (Bool·not-not _)))
+    (λ c. simp (nanBits, ne-eqb _ _ (c .if1 .left))))

@@ -10,8 +10,8 @@ returns c =
     let s = c .before .args .scale in
     rw (lower-half 16 s (omega arith)) (simp (le-leb s 10 (omega (arith, c .if1 .taken))))
 
-returns-2 : tie.Need-returns-2
-returns-2 c = scale-factor-tail (c .before .args .scale) (omega (arith, c .if1 .left)) (omega arith)
-
 pub scale-factor-in-range-spec : {M : Type 1} → statement M
-scale-factor-in-range-spec = tie.close (tie.spec returns returns-2)
+scale-factor-in-range-spec =
+    tie.close
+    (tie.spec returns
+    (λ c. scale-factor-tail (c .before .args .scale) (omega (arith, c .if1 .left)) (omega arith)))

@@ -8,19 +8,10 @@ use Rattle.values.proofs.Ranges.{signed-integer, unsigned-integer, floa
 use Rattle.values.proofs.unscaled.integer_by_sign.Statement.{statement}
 use Rattle.values.proofs.unscaled.integer_by_sign.Tie as tie
 
-enum-told : tie.Need-enum-told
-enum-told c = search needs
-
 twos-complement-by-sign-requires : tie.Need-twos-complement-by-sign-requires
 twos-complement-by-sign-requires c κs =
     let s = c .before .before in
     (signed-width (rowMeans (s .args .row)) (s .pre .listed) (ap kindMeans (c .enum-told .given .1)), s .pre .fits)
-
-enum-told-2 : tie.Need-enum-told-2
-enum-told-2 c = search needs
-
-enum-told-3 : tie.Need-enum-told-3
-enum-told-3 c = search needs
 
 returns : tie.Need-returns
 returns c =
@@ -41,11 +32,5 @@ returns-3 c =
 pub integer-by-sign-spec : {M : Type 1} → statement M
 integer-by-sign-spec =
     tie.close
-    (tie.spec
-    enum-told
-    twos-complement-by-sign-requires
-    enum-told-2
-    enum-told-3
-    returns
-    returns-2
+    (tie.spec (λ c. search needs) twos-complement-by-sign-requires (λ c. search needs) (λ c. search needs) returns returns-2
     returns-3)

@@ -8,9 +8,6 @@ use Rattle.values.proofs.UnscaledCases.{from-zero, below-zero}
 use Rattle.values.proofs.unscaled.twos_complement_by_sign.Statement.{statement}
 use Rattle.values.proofs.unscaled.twos_complement_by_sign.Tie as tie
 
-all-ones-requires : tie.Need-all-ones-requires
-all-ones-requires c κs = search needs
-
 -- What `all_ones` gave is the largest pattern.
 ones : (c : tie.After-all-ones) → c .all-ones .result ≡ 2 ^ (16 * c .before .args .count) - 1
 ones c = c .all-ones .ensures ∙ four-ones (c .before .args .count) (c .before .pre .0 .1)
@@ -21,12 +18,6 @@ returns c =
     let a = d .before .args in
     from-zero (16 * a .count) (a .raw) (d .all-ones .result) (omega arith) (ones d) (c .if1 .taken)
 
-sub-t4 : tie.Need-sub-t4
-sub-t4 c = search needs
-
-add-t6 : tie.Need-add-t6
-add-t6 c = search needs
-
 returns-2 : tie.Need-returns-2
 returns-2 c =
     let d = c .before in
@@ -35,4 +26,5 @@ returns-2 c =
 
 pub twos-complement-by-sign-spec : {M : Type 1} → statement M
 twos-complement-by-sign-spec =
-    tie.close (tie.spec all-ones-requires returns sub-t4 add-t6 returns-2)
+    tie.close
+    (tie.spec (λ c κs. search needs) returns (λ c. search needs) (λ c. search needs) returns-2)

@@ -8,34 +8,19 @@ use Rattle.point_types.specs.Rows.{rowOf}
 use Rattle.point_types.specs.Answers.{foundMeans, rowMeans}
 use Rattle.point_types.proofs.Table.{own-code, listed}
 use Rattle.values.specs.Classes.{isValue, classified}
-use Rattle.values.specs.Answers.{unscaledForm}
-use Rattle.values.proofs.UnscaledCases.{unknown, not-scalable, no-value, a-number, value-fits}
+use Rattle.values.specs.Unscaled.{unscaled}
+use Rattle.values.proofs.UnscaledCases.{value-fits}
 use Rattle.values.proofs.unscaled.unscaled_value.Statement.{statement}
 use Rattle.values.proofs.unscaled.unscaled_value.Tie as tie
-
-row-of-requires : tie.Need-row-of-requires
-row-of-requires c κs = search needs
-
-enum-known-found : tie.Need-enum-known-found
-enum-known-found c = search needs
 
 -- The row that was found is the table's.
 at : (c : tie.After-found) → rowOf (c .before .before .before .args .type-code) ≡ some (rowMeans (c .found .given .0 .0))
 at c = sym (c .before .before .row-of .ensures) ∙ ap foundMeans (c .found .given .1)
 
-returns : tie.Need-returns
-returns c =
-    let f = c .before .before .before in
-    let a = f .before .before .before .args in
-    ap unscaledForm (sym (not-scalable (a .type-code) (a .raw) (rowMeans (f .found .given .0 .0)) (at f) (not-true _ (c .if1 .taken))))
-
 classified-in-requires : tie.Need-classified-in-requires
 classified-in-requires c κs =
     let f = c .before .before .before in
     listed (f .before .before .before .args .type-code) (rowMeans (f .found .given .0 .0)) (at f)
-
-is-value-in-requires : tie.Need-is-value-in-requires
-is-value-in-requires c κs = search needs
 
 -- Whether it is a value.
 value : (c : tie.After-is-value-in)
@@ -52,14 +37,12 @@ value c =
     ∙ sym (c .is-value-in .ensures)
 
 returns-2 : tie.Need-returns-2
+unfolding unscaled
 returns-2 c =
     let i = c .before .before .before in
     let f = i .before .before .before in
-    let a = f .before .before .before .args in
-    ap unscaledForm
-    (sym
-    (no-value (a .type-code) (a .raw) (rowMeans (f .found .given .0 .0)) (at f) (not-false _ (i .if1 .left))
-    (value (c .before) ∙ not-true _ (c .if2 .taken))))
+    let scalable = not-false (f .found .given .0 .0 .scalable) (i .if1 .left) in
+    simp (unscaled, at f, scalable, value (c .before) ∙ not-true _ (c .if2 .taken))
 
 integer-by-sign-requires : tie.Need-integer-by-sign-requires
 integer-by-sign-requires c κs =
@@ -71,38 +54,22 @@ integer-by-sign-requires c κs =
       fits = value-fits (a .type-code) (a .raw) r (at f) (value (c .before) ∙ not-false _ (c .if2 .left));
     }
 
-enum-told : tie.Need-enum-told
-enum-told c = search needs
-
 returns-3 : tie.Need-returns-3
+unfolding unscaled
 returns-3 c =
     let v = c .before in
     let i = v .before .before .before in
     let f = i .before .before .before in
-    let a = f .before .before .before .args in
-    c .integer-by-sign .ensures
-    ∙ ap unscaledForm
-    (sym
-    (a-number (a .type-code) (a .raw) (rowMeans (f .found .given .0 .0)) (at f) (not-false _ (i .if1 .left))
-    (value (v .before) ∙ not-false _ (v .if2 .left))))
-
-returns-4 : tie.Need-returns-4
-returns-4 c =
-    let r = c .before .before in
-    ap unscaledForm
-    (sym (unknown (r .before .args .type-code) (r .before .args .raw) (sym (r .row-of .ensures) ∙ ap foundMeans (c .enum-told .given .1))))
+    let scalable = not-false (f .found .given .0 .0 .scalable) (i .if1 .left) in
+    c .integer-by-sign .ensures ∙ simp (unscaled, at f, scalable, value (v .before) ∙ not-false _ (v .if2 .left))
 
 pub unscaled-value-spec : {M : Type 1} → statement M
+unfolding unscaled
 unscaled-value-spec =
     tie.close
-    (tie.spec
-    row-of-requires
-    enum-known-found
-    returns
-    classified-in-requires
-    is-value-in-requires
-    returns-2
-    integer-by-sign-requires
-    enum-told
-    returns-3
-    returns-4)
+    (tie.spec (λ c κs. search needs) (λ c. search needs)
+    (λ c.
+    let f = c .before .before .before in
+    simp (unscaled, at f, not-true (f .found .given .0 .0 .scalable) (c .if1 .taken)))
+    classified-in-requires (λ c κs. search needs) returns-2 integer-by-sign-requires (λ c. search needs) returns-3
+    (λ c. simp (unscaled, sym (c .before .before .row-of .ensures) ∙ ap foundMeans (c .enum-told .given .1))))

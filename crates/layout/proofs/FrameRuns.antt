@@ -1,0 +1,65 @@
+-- The unbroken run of point frames from a frame on, frame by frame, and in a group that is open there.
+use mathlib.Core.Path.{_≡_, refl, sym, ap, _∙_}
+use mathlib.Core.List.{List, [], _∷_, _++_}
+use mathlib.Core.Option.{none, some}
+use Prim.Native.Nat.{ℕ, _+_, _/_, _≤_, _<_}
+use native.Mathlib.Decide.{decLe}
+use native.Mathlib.Omega.{arith}
+use lib.ListN.{length}
+use Rattle.lists.proofs.TestOutcomes.{impossible}
+use Rattle.catalog.specs.Frames.{Point, Frame, modelFrame, groupFrame, pointFrame, endFrame, malformed, frameIn}
+use Rattle.catalog.specs.Rules.{run}
+use Rattle.catalog.specs.Definitions.{groupFrames}
+use Rattle.catalog.proofs.TreeFrames.{run-points, run-groups}
+use Rattle.catalog.proofs.FramesByIndex.{frame-beyond}
+use Rattle.layout.specs.Walks.{onward, heldAt, Stands, pointOf, noted, begun, begunAt}
+use Rattle.layout.proofs.Standing.{onward-more, onward-none}
+
+first-run : (f : Frame) (fs : List Frame) (p : Point) → pointOf f ≡ some p → run (f ∷ fs) ≡ p ∷ run fs
+first-run (pointFrame q) fs p e = cc
+first-run (modelFrame id) fs p e = cc
+first-run (groupFrame h) fs p e = cc
+first-run endFrame fs p e = cc
+first-run malformed fs p e = cc
+
+no-run : (f : Frame) (fs : List Frame) → pointOf f ≡ none → run (f ∷ fs) ≡ []
+no-run (pointFrame q) fs e = cc
+no-run (modelFrame id) fs e = refl
+no-run (groupFrame h) fs e = refl
+no-run endFrame fs e = refl
+no-run malformed fs e = refl
+
+-- A point frame is one of the catalog, and begins the run.
+pub run-more : (ws : List ℕ) (i : ℕ) (p : Point) → pointOf (frameIn ws i) ≡ some p
+    → (i < length ws / 8) × (run (onward ws i) ≡ p ∷ run (onward ws (i + 1)))
+run-more ws i p e = go (decLe (length ws / 8) i)
+  where
+    go : Dec (length ws / 8 ≤ i) → (i < length ws / 8) × (run (onward ws i) ≡ p ∷ run (onward ws (i + 1)))
+    go (yes h) =
+        let beyond : none ≡ some p = sym (ap pointOf (frame-beyond ws i h)) ∙ e in
+        impossible (cc)
+    go (no n) =
+        let h : i < length ws / 8 = omega arith in
+        (h, ap run (onward-more ws i h) ∙ first-run (frameIn ws i) (onward ws (i + 1)) p e)
+
+-- Any other frame ends it.
+pub run-ends : (ws : List ℕ) (i : ℕ) → pointOf (frameIn ws i) ≡ none → run (onward ws i) ≡ []
+run-ends ws i e = go (decLe (length ws / 8) i)
+  where
+    go : Dec (length ws / 8 ≤ i) → run (onward ws i) ≡ []
+    go (yes h) = ap run (onward-none ws i h)
+    go (no n) = ap run (onward-more ws i (omega arith)) ∙ no-run (frameIn ws i) (onward ws (i + 1)) e
+
+-- Where a group is open, the run is the points that it still holds.
+pub run-held : (ws : List ℕ) (i : ℕ) → Stands ws i → run (onward ws i) ≡ heldAt ws i .points
+run-held ws i s =
+    ap run (s .here)
+    ∙ run-points (heldAt ws i .points) (groupFrames (heldAt ws i .groups) ++ (endFrame ∷ s .behind))
+    (run-groups (heldAt ws i .groups) (s .behind))
+
+-- So recording the run records those points.
+pub held-noted : (ws : List ℕ) (i : ℕ) → Stands ws i → (body : List ℕ) (offset : ℕ) (table : List ℕ)
+    → noted body offset (begun (length body) offset (run (onward ws i))) table
+    ≡ noted body offset (begunAt ws body offset i) table
+held-noted ws i s body offset table =
+    ap (λ (ps : List Point). noted body offset (begun (length body) offset ps) table) (run-held ws i s)

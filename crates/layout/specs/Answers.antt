@@ -1,0 +1,51 @@
+-- What the code's types mean.
+use mathlib.Core.Path.{_≡_}
+use mathlib.Core.Bool.{true, false}
+use mathlib.Core.List.{List}
+use mathlib.Core.Option.{Option, none, some}
+use Prim.Native.Nat.{ℕ, _+_}
+use lib.Dec.{leb}
+use lib.ListN.{length}
+use Rattle.registers.specs.Registers.{join, allZero, shownRaw}
+use Rattle.values.specs.Classes.{Classified, classified}
+use Rattle.catalog.specs.Frames as Frames
+use Rattle.catalog.specs.Answers.{headForm, pointForm}
+use Rattle.catalog.specs.Definitions.{pointsSize}
+use Rattle.layout.specs.Points.{statusOf, scaleOf}
+use Rattle.layout.specs.Reading.{endsWithPad}
+use Rattle.layout.specs.declared.frames.PointOr.{PointOr}
+use Rattle.layout.specs.declared.frames.GroupOr.{GroupOr}
+use Rattle.layout.specs.declared.points.Shown.{Shown}
+use Rattle.layout.specs.declared.counts.Run.{Run}
+
+-- A frame's point, if it is a point frame.
+abbrev pub pointOrForm : PointOr → Option Frames.Point
+pointOrForm (PointOr.Point p) = some (pointForm p)
+pointOrForm PointOr.Other = none
+
+-- A frame's head, if it is a group frame.
+abbrev pub groupOrForm : GroupOr → Option Frames.Head
+groupOrForm (GroupOr.Group h) = some (headForm h)
+groupOrForm GroupOr.Other = none
+
+-- The class that `show` finds of any registers: up to four, the class of their raw value; of more, the class of 0 where all are
+-- 0, else that of 1. (It is the class of the raw value for any size that the type may have: `proofs/PointClasses.antt`.)
+unfoldable pub registersClass : ℕ → List ℕ → Classified
+registersClass code rs =
+    elim (leb (length rs) 4) [
+      | true ↦ classified code (join rs)
+      | false ↦ elim (allZero rs) [ true ↦ classified code 0 | false ↦ classified code 1 ]
+    ]
+
+-- What is shown of a point by its registers, the class that they have, and the register of its scale point.
+pub record ShownOf (p : Frames.Point) (class : Classified) (registers : List ℕ) (register : ℕ) (r : Shown) : Type 0 where
+  pub status : r .status ≡ statusOf p class register
+  pub raw : r .raw ≡ shownRaw registers
+  pub scale : r .scale ≡ scaleOf p (statusOf p class register) register
+
+-- The registers and the number of a run of points from frame `first` on, the frame after it, and whether its last point is a pad.
+pub record RunOf (ps : List Frames.Point) (first : ℕ) (r : Run) : Type 0 where
+  pub size : r .size ≡ pointsSize ps
+  pub points : r .points ≡ length ps
+  pub next : r .next ≡ first + length ps
+  pub pad : r .«ends_with_pad» ≡ endsWithPad ps

