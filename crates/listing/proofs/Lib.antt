@@ -24,7 +24,6 @@ pub mod SurveyedModels
 pub mod SurveyedByFrames
 -- Points and records
 pub mod WrittenRecords
-pub mod SoughtPoints
 pub mod PointRuns
 pub mod GroupsWriting
 pub mod InstanceSteps

@@ -12,11 +12,11 @@ use Rattle.lists.proofs.TestOutcomes.{clash}
 use Rattle.lists.proofs.FirstFound.{not-none, found-in}
 use Rattle.catalog.specs.Frames.{Point, Head}
 use Rattle.catalog.specs.Definitions.{Groups, noGroup, group, Content, pointsSize}
-use Rattle.layout.specs.Layout.{countOf, measured, groupsSize, countsOf, noInstance, topInstance, groupsAt}
+use Rattle.layout.specs.Layout.{countOf, measured, groupsSize, countsOf, noInstance, topInstance}
 use Rattle.layout.specs.Points.{ModelPoint}
 use Rattle.layout.specs.Paths.{isPoint}
 use Rattle.layout.specs.Reading.{Reading, unknown, faulty, points, allButLast, readBy, hasNoGroup}
-use Rattle.layout.specs.Walks.{heldAt, Accepted, scopeIn, instanceIn, AtGroups, pointsOf, HasPoints, Ready}
+use Rattle.layout.specs.Walks.{heldAt, Accepted, scopeIn, instanceIn, pointsOf, HasPoints, Ready}
 use Rattle.layout.specs.Locating.{Located, locationOf, firstLocation, orElse, locatedOwn, locatedIn}
 use Rattle.layout.proofs.Readings.{HowRead, leftOut, full}
 use Rattle.layout.proofs.Standing as standing

@@ -20,7 +20,7 @@ use Rattle.layout.proofs.PointCounts as pointCounts
 use Rattle.layout.proofs.LeftOutPad as pads
 use Rattle.layout.proofs.Sizes.{points-sized}
 use Rattle.listing.specs.Listing.{recordWidth}
-use Rattle.listing.specs.Promises.{capacity, written, RunAsks, BehindRun, GroupsAsk, BehindGroups}
+use Rattle.listing.specs.Promises.{written, RunAsks, BehindRun, GroupsAsk, BehindGroups}
 use Rattle.listing.specs.declared.records.Visit.{Visit}
 use Rattle.listing.specs.declared.records.Progress.{Progress}
 use Rattle.listing.proofs.WrittenRecords as lists
@@ -48,7 +48,7 @@ module _ {ws : List ℕ} {id : ℕ} {body table : List ℕ} {first fill : ℕ} (
 
   -- ---- What is asked and what comes out
 
-  module _ (has : HasPoints read) (room : recordWidth * (records + length (pointsOf read)) ≤ capacity (visit .task) (length out)) where
+  module _ (has : HasPoints read) (room : recordWidth * (records + length (pointsOf read)) ≤ length out) where
     -- What writing the top points asks for.
     pub run-asks : RunAsks ws body out visit start laid
     run-asks = go (readBy id top body) (model.read-here accepted ready words) (model.how accepted ready words has)
@@ -150,7 +150,7 @@ module _ {ws : List ℕ} {id : ℕ} {body table : List ℕ} {first fill : ℕ} (
               room,
               run .records,
               ap length b,
-              ap (capacity (visit .task)) (ap length wrote ∙ o),
+              ap length wrote ∙ o,
             );
           }
 

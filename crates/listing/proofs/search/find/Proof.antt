@@ -6,7 +6,7 @@ use borrow.Author.Needs.{needs}
 use lib.ListN.{length}
 use Rattle.listing.specs.Listing as Listing
 use Rattle.listing.specs.Listing.{listed, allRecords, listedTold}
-use Rattle.listing.specs.Finding.{findingIn, finding, refusedTold, told}
+use Rattle.listing.specs.Finding.{findingIn, finding, told}
 use Rattle.listing.specs.Answers.{answer}
 use Rattle.listing.specs.Promises.{IsListed}
 use Rattle.listing.proofs.ListingCases.{Walks, records-walk}

@@ -9,7 +9,7 @@ use Rattle.lists.specs.Tests.{firstWith}
 use Rattle.layout.specs.Points.{ModelPoint}
 use Rattle.layout.specs.Paths.{isPoint}
 use Rattle.layout.specs.Reading.{Reading}
-use Rattle.layout.specs.Walks.{readIn, HasPoints, Ready}
+use Rattle.layout.specs.Walks.{readIn}
 use Rattle.listing.specs.Finding.{nothingTold, foundTold}
 use Rattle.listing.specs.Answers.{surveyForm, locatedForm}
 use Rattle.listing.specs.Promises.{ReadyBy, toldAt}
