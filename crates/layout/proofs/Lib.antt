@@ -33,3 +33,5 @@ pub mod PassedFrames
 pub mod ModelSearch
 pub mod IntoGroups
 pub mod NotedPoints
+pub mod LocatingSteps
+pub mod LocatedPoints

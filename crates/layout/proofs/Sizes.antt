@@ -68,7 +68,7 @@ module _ (s : Scope) (f : ℕ) where
           absurd (n (omega arith))
 
   -- No group below level 2 is the fill group, so what such groups measure does not depend on it either.
-  lower-measure : (weight : List Point → ℕ) (top enclosing : List Point) (level : ℕ) (g : Groups) → 3 ≤ level
+  pub lower-measure : (weight : List Point → ℕ) (top enclosing : List Point) (level : ℕ) (g : Groups) → 3 ≤ level
       → SoundGroups top enclosing level g → measured weight (countOf s f) g ≡ measured weight (countOf s 0) g
   unfolding measured
   lower-measure weight top enclosing level noGroup l e = refl

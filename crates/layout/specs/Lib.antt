@@ -3,6 +3,7 @@ pub mod Layout
 pub mod Reading
 pub mod Counts
 pub mod Paths
+pub mod Locating
 pub mod Tiling
 pub mod Walks
 pub mod Answers

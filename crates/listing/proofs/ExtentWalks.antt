@@ -51,7 +51,7 @@ module _ (ws : List ℕ) (i levels : ℕ) (at : AtGroups ws i levels) (few : lev
       omega (arith, here, there, f)
 
   -- Behind its points is in front of its own end.
-  own-end : pastEnd ws (i + 1 + length (heldAt ws (i + 1) .points)) ≡ pastEnd ws (i + 1)
+  pub own-end : pastEnd ws (i + 1 + length (heldAt ws (i + 1) .points)) ≡ pastEnd ws (i + 1)
   own-end =
       let n = standing.group-next ws i (at .stands) (at .noPoint) h e in
       let r = standing.behind-run ws (i + 1) (n .1) in

@@ -17,7 +17,7 @@ use Rattle.layout.proofs.IntoGroups.{SoundBelow, below, sound-below, standing-a
 use Rattle.layout.proofs.CountsAgree as counts
 use Rattle.layout.proofs.Sizes.{points-sized}
 use Rattle.layout.proofs.NotedPoints.{noted-length, noted-scope, numbers-in-table}
-use Rattle.listing.specs.Promises.{capacity, written, RunAsks, GroupsAsk, BehindRun, BehindGroups}
+use Rattle.listing.specs.Promises.{written, RunAsks, GroupsAsk, BehindRun, BehindGroups}
 use Rattle.listing.specs.declared.records.Visit.{Visit}
 use Rattle.listing.specs.declared.records.Progress.{Progress}
 use Rattle.listing.proofs.WrittenRecords as lists
@@ -120,7 +120,7 @@ module _ {ws body : List ℕ} {visit : Visit} {fill levels : ℕ} {path table₀
               address = asks .address;
               sized = points-sized (own ++ there .enclosing) own (there .sound .sound .2);
               inside = omega (arith, z, there .size, asks .inside);
-              room = omega (arith, p, there .points, ap (capacity (visit .task)) (there .sameLength), asks .room);
+              room = omega (arith, p, there .points, there .sameLength, asks .room);
             }
 
         module _ (words : (k : ℕ) → getD ws k 0 < 65536) {table₁ out₁ path₁ : List ℕ} {at₁ : Progress}
@@ -182,7 +182,7 @@ module _ {ws body : List ℕ} {visit : Visit} {fill levels : ℕ} {path table₀
                   lower-same length,
                   p,
                   there .points,
-                  ap (capacity (visit .task)) (ap length wrote ∙ o ∙ there .sameLength),
+                  ap length wrote ∙ o ∙ there .sameLength,
                   asks .room,
                   run .records,
                 );

@@ -19,19 +19,21 @@ pub mod RecordsTiling
 -- What the proofs of the functions cite: extents and surveys
 pub mod ExtentSteps
 pub mod ExtentWalks
+pub mod LocatedGroups
 pub mod SurveyedModels
 pub mod SurveyedByFrames
 -- Points and records
 pub mod WrittenRecords
-pub mod SoughtPoints
 pub mod PointRuns
 pub mod GroupsWriting
 pub mod InstanceSteps
+pub mod ReadyModels
+pub mod LocatedModels
 pub mod ModelWriting
 -- Whole maps
 pub mod MapSteps
 pub mod MapSurvey
 pub mod Searches
 pub mod MapRecords
-pub mod FoundNumbers
+pub mod MapSearch
 pub mod WholeAnswer

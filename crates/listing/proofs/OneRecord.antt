@@ -22,7 +22,8 @@ use Rattle.layout.proofs.Depths.{agree-itself}
 use Rattle.layout.proofs.Places.{Place}
 use Rattle.layout.proofs.PointPlaces.{point-places}
 use Rattle.listing.specs.Listing.{Record, allRecords, listed}
-use Rattle.listing.specs.Finding.{isAt, isPoint, isRecord}
+use Rattle.layout.specs.Paths.{isAt, isPoint}
+use Rattle.listing.specs.Finding.{isRecord}
 use Rattle.listing.proofs.RecordSources.{record-source, Source}
 
 -- A record is the one with its own index, number and path.

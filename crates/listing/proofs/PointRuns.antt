@@ -20,7 +20,7 @@ use Rattle.layout.specs.declared.points.Shown.{Shown}
 use Rattle.layout.proofs.Standing as standing
 use Rattle.layout.proofs.NotedPoints.{begun-past, begun-first}
 use Rattle.listing.specs.Listing.{recordNumbers, recordWidth}
-use Rattle.listing.specs.Promises.{recordAt, capacity, written, PointFits, RunAsks, BehindRun}
+use Rattle.listing.specs.Promises.{recordAt, written, PointFits, RunAsks, BehindRun}
 use Rattle.listing.specs.declared.records.Visit.{Visit}
 use Rattle.listing.specs.declared.records.Progress.{Progress}
 use Rattle.listing.proofs.WrittenRecords.{written-none, written-length, written-append}
@@ -117,7 +117,7 @@ module _ {ws body table : List ℕ} {visit : Visit} {path out₀ : List ℕ} {at
 
     -- It lies in the body, and has room.
     pub first-fits : PointFits body (at .offset) visit p
-        × (recordWidth * (at .records + 1) ≤ capacity (visit .task) (length out))
+        × (recordWidth * (at .records + 1) ≤ length out)
     first-fits =
         let next = standing.point-next ws (at .frame) (s .asks .stands) p f in
         let sized = subst (Each (λ q. isSizeOf (q .typeCode) (q .size) ≡ true)) (next .0) (s .asks .sized) in
@@ -159,7 +159,7 @@ module _ {ws body table : List ℕ} {visit : Visit} {path out₀ : List ℕ} {at
             address = a .address;
             sized = sized .1;
             inside = omega (arith, a .inside, z);
-            room = omega (arith, a .room, n, ap (capacity (visit .task)) same);
+            room = omega (arith, a .room, n, same);
           };
           holds = sym (ap (λ (ps : List ModelPoint). written visit k ps out) shown
               ∙ written-append visit k (x ∷ []) xs out

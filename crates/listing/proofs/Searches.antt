@@ -1,68 +1,21 @@
--- A search for a point: the first record of its model that has its number and path is written, and those of other models do not
--- count.
+-- The records of one model among all: a search for a point passes over those of other models.
 use mathlib.Core.Path.{_≡_, refl, sym, ap, _∙_}
 use mathlib.Core.Bool.{Bool, true, false, _&&_}
 use mathlib.Core.List.{List, [], _∷_, _++_}
 use mathlib.Core.List as Lists
 use mathlib.Core.Option.{Option, none, some}
-use Prim.Native.Nat.{ℕ, _+_, _≤_, _<_}
+use Prim.Native.Nat.{ℕ, _+_, _<_}
 use native.Mathlib.Omega.{arith}
-use borrow.Author.Tests.{eq-eqb, ne-eqb}
+use borrow.Author.Tests.{ne-eqb}
 use lib.Dec.{eqb}
-use lib.ListN.{length, getD}
-use lib.Seq.{sets, sets-eq}
 use Rattle.lists.specs.Tests.{firstWith}
 use Rattle.register_map.specs.Scan.{Model, sizeOf, Ending, marked, broken}
 use Rattle.layout.specs.Points.{ModelPoint}
 use Rattle.layout.specs.Reading.{Reading, unknown, faulty, points}
-use Rattle.listing.specs.Listing.{Record, recordOf, Answer, listed, walk}
-use Rattle.listing.specs.Finding.{isPoint, isRecord}
-use Rattle.listing.specs.Promises.{foundNumbers, foundWidth, seen, searched, foundIn}
-use Rattle.listing.specs.declared.records.Sought.{Sought}
+use Rattle.listing.specs.Listing.{Record, recordOf, listed, walk}
+use Rattle.layout.specs.Paths.{isPoint}
+use Rattle.listing.specs.Finding.{isRecord}
 use Rattle.listing.proofs.WalkSteps.{not-listed, in-front-listed, walk-unknown, walk-faulty, walk-points}
-
--- ---- The list of a search
-
--- What is written of a record that is found, or nothing.
-abbrev pub foundOr : List ℕ → Option Record → List ℕ
-foundOr out none = out
-foundOr out (some r) = sets out 0 (foundNumbers r)
-
--- A record that is found is marked.
-found-marked : (out : List ℕ) (r : Record) → foundWidth ≤ length out → getD (sets out 0 (foundNumbers r)) 0 0 ≡ 1
-found-marked out r h = ap (λ l. getD l 0 0) (sets-eq (foundNumbers r) out 0 (omega arith))
-
-module _ (sought : Sought) where
-  -- Is it the point sought?
-  abbrev isSought : Record → Bool
-  isSought r = isPoint (sought .number) (sought .path .instances) (r .point)
-
-  -- Behind one that is found nothing is written.
-  kept : (rs : List Record) (out : List ℕ) → getD out 0 0 ≡ 1 → searched sought rs out ≡ out
-  kept [] out e = refl
-  kept (r ∷ rs) out e =
-      let zero : eqb (getD out 0 0) 0 ≡ false = ap (λ n. eqb n 0) e in
-      let same : seen sought r out ≡ out =
-      ap {B = List ℕ} (λ b. elim (b && isSought r) [ true ↦ sets out 0 (foundNumbers r) | false ↦ out ]) zero in
-      ap (searched sought rs) same ∙ kept rs out e
-
-  -- A search writes the first record that is sought.
-  pub searches-first : (rs : List Record) (out : List ℕ) → foundWidth ≤ length out → getD out 0 0 ≡ 0
-      → searched sought rs out ≡ foundOr out (firstWith isSought rs)
-  unfolding firstWith
-  searches-first [] out wide e = refl
-  searches-first (r ∷ rs) out wide e =
-      ap (λ b. searched sought rs (elim (b && isSought r) [ true ↦ sets out 0 (foundNumbers r) | false ↦ out ]))
-      (eq-eqb (getD out 0 0) 0 e)
-      ∙ go (isSought r) (searches-first rs out wide e)
-    where
-      go : (b : Bool) → searched sought rs out ≡ foundOr out (firstWith isSought rs)
-          → searched sought rs (elim b [ true ↦ sets out 0 (foundNumbers r) | false ↦ out ])
-          ≡ foundOr out (elim b [ true ↦ some r | false ↦ firstWith isSought rs ])
-      go true i = kept rs (sets out 0 (foundNumbers r)) (found-marked out r wide)
-      go false i = i
-
--- ---- The records of one model among all
 
 module _ (index number : ℕ) (path : List ℕ) where
   abbrev isIt : Record → Bool
@@ -113,14 +66,3 @@ module _ (index number : ℕ) (path : List ℕ) where
           ap (firstWith isIt) (rest .2)
           ∙ passed-over i at (m .id) (ne-eqb i index n) ps (rest .0)
           ∙ behind (rest .0) (rest .1)
-
--- What is found in all records of an answer.
-pub found-listed : (a : Answer) (rs : List Record) (headers : ℕ) (sought : Sought) (out : List ℕ) → a ≡ listed rs headers
-    → foundOr out (firstWith (isRecord (sought .model) (sought .number) (sought .path .instances)) rs) ≡ foundIn a sought out
-found-listed a rs headers sought out e =
-    go (firstWith (isRecord (sought .model) (sought .number) (sought .path .instances)) rs)
-    ∙ ap (λ x. foundIn x sought out) (sym e)
-  where
-    go : (o : Option Record) → foundOr out o ≡ elim o [ none ↦ out | some r ↦ sets out 0 (foundNumbers r) ]
-    go none = refl
-    go (some r) = refl

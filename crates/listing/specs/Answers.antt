@@ -2,7 +2,9 @@
 use mathlib.Core.Option.{Option, none, some}
 use mathlib.Core.List.{List}
 use Prim.Native.Nat.{ℕ}
+use Rattle.catalog.specs.Answers.{pointForm}
 use Rattle.catalog.specs.Definitions.{Content}
+use Rattle.layout.specs.Locating as Locating
 use Rattle.layout.specs.Walks.{heldAt, Surveyed, surveyedUnknown, surveyedRefused, surveyedPoints}
 use Rattle.listing.specs.Listing as Listing
 use Rattle.listing.specs.declared.Listing as Code
@@ -11,6 +13,7 @@ use Rattle.listing.specs.declared.search.Finding as CodeFinding
 use Rattle.listing.specs.declared.search.Target.{Target}
 use Rattle.listing.specs.declared.frames.Found.{Found}
 use Rattle.listing.specs.declared.surveys.Survey.{Survey}
+use Rattle.listing.specs.declared.locating.Located.{Located}
 
 -- The answer of `list`.
 abbrev pub answer : Code.Listing → Listing.Told
@@ -19,8 +22,7 @@ answer (Code.Listing.Refused number place headers) = Listing.refusedTold number 
 
 -- A point that `find` tells of.
 abbrev pub targetForm : Target → Finding.Target
-targetForm t =
-    record { address = t .address; typeCode = t .«type_code»; size = t .size; access = t .access; raw = t .raw }
+targetForm t = record { address = t .address; definition = pointForm (t .point); raw = t .raw }
 
 -- The answer of `find`.
 abbrev pub findingForm : CodeFinding.Finding → Finding.Told
@@ -38,3 +40,8 @@ abbrev pub surveyForm : Survey → Surveyed
 surveyForm Survey.Unknown = surveyedUnknown
 surveyForm (Survey.Refused number) = surveyedRefused number
 surveyForm (Survey.Points first points fill) = surveyedPoints points
+
+-- A point that was located, if one was.
+abbrev pub locatedForm : Located → Option Locating.Located
+locatedForm (Located.At l) = some (record { offset = l .offset; definition = pointForm (l .point) })
+locatedForm Located.Nothing = none

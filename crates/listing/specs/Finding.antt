@@ -4,19 +4,11 @@ use mathlib.Core.List.{List}
 use mathlib.Core.Option.{none, some}
 use Prim.Native.Nat.{ℕ}
 use lib.Dec.{eqb}
-use lib.ListN.{getD}
 use Rattle.lists.specs.Tests.{firstWith}
-use Rattle.layout.specs.Points.{ModelPoint}
+use Rattle.catalog.specs.Frames.{Point}
+use Rattle.layout.specs.Paths.{isPoint}
 use Rattle.listing.specs.Listing.{Record, allRecords}
 use Rattle.listing.specs.Listing as Listing
-
--- Are a point's instance numbers at levels 2, 3 and 4 those of a path? (A level that it does not have has 0.)
-abbrev pub isAt : List ℕ → ModelPoint → Bool
-isAt path p = eqb (p .level2) (getD path 0 0) && (eqb (p .level3) (getD path 1 0) && eqb (p .level4) (getD path 2 0))
-
--- Is it the point with a number at a path?
-abbrev pub isPoint : ℕ → List ℕ → ModelPoint → Bool
-isPoint number path p = eqb (p .definition .number) number && isAt path p
 
 -- Is it the record of that point in the model with an index?
 abbrev pub isRecord : ℕ → ℕ → List ℕ → Record → Bool
@@ -28,34 +20,27 @@ pub data Finding : Type 0 where
   nothing : Finding
   found : Record → Finding
 
--- The point with a number at a path, in the model with an index: of the records that listing defines.
-unfoldable pub finding : List ℕ → List ℕ → ℕ → ℕ → List ℕ → Finding
-finding catalog map index number path =
-    elim (allRecords catalog map) [
-      | Listing.refused n place headers ↦ refused n place
-      | Listing.listed rs headers ↦ elim (firstWith (isRecord index number path) rs) [ none ↦ nothing | some r ↦ found r ]
-    ]
+-- The point with a number at a path, in the model with an index, among the records of an answer of listing.
+abbrev pub findingIn : ℕ → ℕ → List ℕ → Listing.Answer → Finding
+findingIn index number path (Listing.refused n place headers) = refused n place
+findingIn index number path (Listing.listed rs headers) =
+    elim (firstWith (isRecord index number path) rs) [ none ↦ nothing | some r ↦ found r ]
 
--- A point as a write asks for it: its address, its type, size and access by the catalog, and its raw value.
+-- The same among all records that listing defines.
+unfoldable pub finding : List ℕ → List ℕ → ℕ → ℕ → List ℕ → Finding
+finding catalog map index number path = findingIn index number path (allRecords catalog map)
+
+-- A point as a write needs it: its address, its definition in the catalog, and its raw value.
 pub record Target : Type 0 where
   pub address : ℕ
-  pub typeCode : ℕ
-  pub size : ℕ
-  pub access : ℕ
+  pub definition : Point
   pub raw : ℕ
 
--- What a write asks of this record.
+-- What a write needs of this record.
 abbrev pub targetOf : Record → Target
-targetOf r =
-    record {
-      address = r .address;
-      typeCode = r .point .definition .typeCode;
-      size = r .point .definition .size;
-      access = r .point .definition .access;
-      raw = r .point .raw;
-    }
+targetOf r = record { address = r .address; definition = r .point .definition; raw = r .point .raw }
 
--- What is told of what finding comes to: of a record only what a write asks of it.
+-- What is returned of what finding results in: of a record only what a write needs of it.
 pub data Told : Type 0 where
   refusedTold : ℕ → ℕ → Told
   nothingTold : Told

@@ -1,31 +1,30 @@
 -- What private functions ask for and promise each other.
 use mathlib.Core.Path.{_≡_}
-use mathlib.Core.Bool.{Bool, true, false, not, _&&_, _||_}
-use mathlib.Core.List.{List, [], _∷_, map}
-use mathlib.Core.Option.{none, some}
+use mathlib.Core.Bool.{true, false, _&&_, _||_}
+use mathlib.Core.List.{List, map}
+use mathlib.Core.Option.{Option, none, some}
 use Prim.Native.Nat.{ℕ, _+_, _*_, _-_, _/_, _%_, _≤_, min}
-use lib.Dec.{eqb, ltb, leb}
-use lib.ListN.{length, take, drop, getD}
+use lib.Dec.{eqb, ltb}
+use lib.ListN.{length, take, drop}
 use lib.Seq.{sets}
 use Rattle.lists.specs.Each.{Each}
-use Rattle.lists.specs.Tests.{firstWith}
+use Rattle.registers.specs.Registers.{shownRaw}
 use Rattle.catalog.specs.Frames as Frames
 use Rattle.catalog.specs.Rules.{isSizeOf}
-use Rattle.catalog.specs.Definitions.{Groups, pointsSize}
-use Rattle.layout.specs.Points.{ModelPoint, Scope}
+use Rattle.catalog.specs.Definitions.{Groups, Content, pointsSize}
+use Rattle.layout.specs.Points.{ModelPoint, Scope, registersAt}
 use Rattle.layout.specs.Layout.{countOf, groupsSize, fillSize, countUnimplemented}
 use Rattle.layout.specs.Counts.{groupsPoints, fillPoints, or0}
 use Rattle.layout.specs.Answers as Layout
-use Rattle.layout.specs.Walks.{heldAt, Stands, Ready, scopeIn, IsTable, AtGroups}
+use Rattle.layout.specs.Locating.{Located, orElse, locatedOwn, locatedIn}
+use Rattle.layout.specs.Walks.{heldAt, Stands, pastEnd, Ready, begun, scopeIn, IsTable, AtGroups}
 use Rattle.listing.specs.Listing as Listing
 use Rattle.listing.specs.Finding as Finding
-use Rattle.listing.specs.Finding.{isPoint}
 use Rattle.listing.specs.declared.frames.Found.{Found}
 use Rattle.layout.specs.declared.counts.Run.{Run}
 use Rattle.listing.specs.declared.extents.Extent.{Extent}
 use Rattle.listing.specs.declared.surveys.Survey.{Survey}
-use Rattle.listing.specs.declared.records.Sought.{Sought}
-use Rattle.listing.specs.declared.records.Task.{Task}
+use Rattle.listing.specs.declared.locating.Shape.{Shape}
 use Rattle.listing.specs.declared.records.Visit.{Visit}
 use Rattle.listing.specs.declared.records.Progress.{Progress}
 
@@ -89,6 +88,51 @@ ReadyBy ws id body table Survey.Unknown = Unit {0}
 ReadyBy ws id body table (Survey.Refused number) = Unit {0}
 ReadyBy ws id body table (Survey.Points first points fill) = Ready ws id body table first fill
 
+-- What locating a point in groups requires: the frames of sound groups, at a level, that end at offset 65536 or before.
+pub record LocateAsks (ws table : List ℕ) (fill levels frame offset : ℕ) : Type 0 where
+  pub standing : AtGroups ws frame levels
+  pub isTable : IsTable table
+  pub atMost3 : levels ≤ 3
+  pub filling : fill ≤ 65535
+  pub inside : offset + groupsSize (countOf (scopeIn table) fill) (heldAt ws frame .groups) ≤ 65536
+
+-- What locating a point in a model of a length requires: its definition begins at a frame, and its groups can be searched.
+pub record ModelAsks (ws table : List ℕ) (len first fill : ℕ) : Type 0 where
+  pub stands : Stands ws first
+  pub short : len ≤ 65535
+  pub groups : LocateAsks ws table fill 3 (first + length (heldAt ws first .points)) (pointsSize (heldAt ws first .points))
+
+-- Where the point with a number and a path is in a model of a length: among the top points that begin within the length, or in
+-- the groups.
+abbrev pub locatedWithin : (Frames.Head → ℕ) → ℕ → List ℕ → ℕ → Content → Option Located
+locatedWithin count number path len c =
+    orElse (locatedOwn number path 1 0 (begun len 0 (c .points)))
+    (locatedIn count number path 2 (pointsSize (c .points)) (c .groups))
+
+-- A shape is that of the group at a frame: its size is capped, and is exact where the group's registers are at most 65,536.
+pub record ShapeOf (ws : List ℕ) (counting : Frames.Head → ℕ) (h : Frames.Head) (frame : ℕ) (r : Shape) : Type 0 where
+  pub count : r .count ≡ counting h
+  pub few : r .count ≤ 65535
+  pub own : r .«own_size» ≡ pointsSize (heldAt ws (frame + 1) .points)
+  pub size : r .size ≡ r .«own_size» + min (groupsSize counting (heldAt ws (frame + 1) .groups)) 65536
+  pub short : r .«own_size» ≤ 262144
+  pub inside : r .inside ≡ frame + 1 + length (heldAt ws (frame + 1) .points)
+  pub next : r .next ≡ pastEnd ws (frame + 1)
+
+-- A point that was located in a body, as a write needs it, in the model whose header has an address.
+abbrev pub targetAt : ℕ → List ℕ → Located → Finding.Target
+targetAt at body l =
+    record {
+      address = at + 2 + l .offset;
+      definition = l .definition;
+      raw = shownRaw (registersAt body (l .offset) (l .definition));
+    }
+
+-- What a search in the model whose header has an address returns of the point that it finds, if any.
+abbrev pub toldAt : ℕ → Option ModelPoint → Finding.Told
+toldAt at none = Finding.nothingTold
+toldAt at (some p) = Finding.foundTold (record { address = at + 2 + p .offset; definition = p .definition; raw = p .raw })
+
 -- The record of a point of a model that is walked.
 abbrev pub recordAt : Visit → ModelPoint → Listing.Record
 recordAt visit = Listing.recordOf (visit .index) (visit .address) (visit .id)
@@ -97,53 +141,9 @@ recordAt visit = Listing.recordOf (visit .index) (visit .address) (visit .id)
 abbrev pub bodyAt : List ℕ → Visit → ℕ → List ℕ
 bodyAt registers visit len = take len (drop (visit .address + 2) registers)
 
--- What a search writes: that a point is found, its address, its type, size and access, and its raw value.
-abbrev pub foundNumbers : Listing.Record → List ℕ
-foundNumbers r =
-    1
-    ∷ r .address
-    ∷ r .point .definition .typeCode
-    ∷ r .point .definition .size
-    ∷ r .point .definition .access
-    ∷ r .point .raw
-    ∷ []
-
--- How many numbers these are.
-abbrev pub foundWidth : ℕ
-foundWidth = 6
-
--- Are two paths the same in their three numbers?
-abbrev pub isSamePath : List ℕ → List ℕ → Bool
-isSamePath xs ys =
-    eqb (getD xs 0 0) (getD ys 0 0) && (eqb (getD xs 1 0) (getD ys 1 0) && eqb (getD xs 2 0) (getD ys 2 0))
-
--- A list behind a record that a search meets: it is written where it is the one sought and none was before it.
-abbrev pub seen : Sought → Listing.Record → List ℕ → List ℕ
-seen sought r out =
-    elim (eqb (getD out 0 0) 0 && isPoint (sought .number) (sought .path .instances) (r .point)) [
-      | true ↦ sets out 0 (foundNumbers r)
-      | false ↦ out
-    ]
-
--- A list behind all records that a search meets.
-abbrev pub searched : Sought → List Listing.Record → List ℕ → List ℕ
-searched sought [] out = out
-searched sought (r ∷ rs) out = searched sought rs (seen sought r out)
-
--- A list behind records, the first of them as record number `count`: all are written one behind the other, or the one sought.
-abbrev pub visited : Task → Sought → ℕ → List Listing.Record → List ℕ → List ℕ
-visited Task.Records sought count rs out = sets out (Listing.recordWidth * count) (Listing.entries rs)
-visited Task.Search sought count rs out = searched sought rs out
-
--- A list behind points of a model that is walked.
+-- A list behind points of a model that is walked, the first of them as record number `count`: consecutive records.
 abbrev pub written : Visit → ℕ → List ModelPoint → List ℕ → List ℕ
-written visit count ps out = visited (visit .task) (visit .sought) count (map (recordAt visit) ps) out
-
--- How many numbers of records a list can take: as many as it has entries; a search takes any record of a map, if the list can
--- take what is told of one.
-abbrev pub capacity : Task → ℕ → ℕ
-capacity Task.Records entries = entries
-capacity Task.Search entries = elim (leb foundWidth entries) [ true ↦ Listing.recordWidth * 65536 | false ↦ 0 ]
+written visit count ps out = sets out (Listing.recordWidth * count) (Listing.entries (map (recordAt visit) ps))
 
 -- A point is sized by its type, and lies in the body of a model that is walked.
 pub record PointFits (body : List ℕ) (offset : ℕ) (visit : Visit) (p : Frames.Point) : Type 0 where
@@ -160,7 +160,7 @@ pub record RunAsks (ws body out : List ℕ) (visit : Visit) (at : Progress) (ps 
   pub address : visit .address ≤ 65536
   pub sized : Each (λ p. isSizeOf (p .typeCode) (p .size) ≡ true) (heldAt ws (at .frame) .points)
   pub inside : at .offset + pointsSize ps ≤ length body
-  pub room : Listing.recordWidth * (at .records + length ps) ≤ capacity (visit .task) (length out)
+  pub room : Listing.recordWidth * (at .records + length ps) ≤ length out
 
 -- How far the walk has come behind points.
 pub record BehindRun (at : Progress) (ps : List Frames.Point) (r : Progress) : Type 0 where
@@ -179,21 +179,12 @@ pub record GroupsAsk (ws body table out : List ℕ) (visit : Visit) (fill levels
   pub address : visit .address ≤ 65536
   pub inside : at .offset + groupsSize (countOf (scopeIn table) fill) (heldAt ws (at .frame) .groups) ≤ length body
   pub room : Listing.recordWidth * (at .records + groupsPoints (countOf (scopeIn table) fill) (heldAt ws (at .frame) .groups))
-      ≤ capacity (visit .task) (length out)
+      ≤ length out
 
 -- How far the walk has come behind groups.
 pub record BehindGroups (gs : Groups) (count : Frames.Head → ℕ) (at r : Progress) : Type 0 where
   pub records : r .records ≡ at .records + groupsPoints count gs
   pub offset : r .offset ≡ at .offset + groupsSize count gs
-
--- A search passes over every model but the one with the index sought.
-abbrev pub passedOver : Visit → Bool
-passedOver visit =
-    elim (visit .task) [ Task.Records ↦ false | Task.Search ↦ not (eqb (visit .index) (visit .sought .model)) ]
-
--- The points that are met of a model.
-abbrev pub metBy : Visit → List ModelPoint → List ModelPoint
-metBy visit ps = elim (passedOver visit) [ true ↦ [] | false ↦ ps ]
 
 -- The answer is no refusal, and its records have room in a list.
 abbrev pub WalkFits : Listing.Answer → List ℕ → Type 0
@@ -204,48 +195,3 @@ WalkFits (Listing.listed rs headers) out = Listing.recordWidth * length rs ≤ l
 abbrev pub IsListed : Listing.Answer → Type 0
 IsListed (Listing.refused number place headers) = ⊥
 IsListed (Listing.listed rs headers) = Unit {0}
-
--- A list behind a search of all records of an answer.
-abbrev pub foundIn : Listing.Answer → Sought → List ℕ → List ℕ
-foundIn (Listing.refused number place headers) sought out = out
-foundIn (Listing.listed rs headers) sought out =
-    elim (firstWith (Finding.isRecord (sought .model) (sought .number) (sought .path .instances)) rs) [
-      | none ↦ out
-      | some r ↦ sets out 0 (foundNumbers r)
-    ]
-
--- What walking a map asks for: it has no refusal. Records: they have room in the list. Search: the list has room for what is told
--- of a point, and nothing is told yet.
-abbrev pub MapFits : Task → Listing.Answer → List ℕ → Type 0
-MapFits Task.Records answer out = WalkFits answer out
-MapFits Task.Search answer out = IsListed answer × (foundWidth ≤ length out) × (getD out 0 0 ≡ 0)
-
--- The list behind the walk over a map.
-abbrev pub behindMap : Task → Sought → Listing.Answer → List ℕ → List ℕ
-behindMap Task.Records sought answer out = Listing.stored answer out
-behindMap Task.Search sought answer out = foundIn answer sought out
-
--- The type, size and access that a search wrote are 16 bits.
-pub record NarrowFound (found : List ℕ) : Type 0 where
-  pub typeCode : getD found 2 0 ≤ 65535
-  pub size : getD found 3 0 ≤ 65535
-  pub access : getD found 4 0 ≤ 65535
-
--- The point that a search tells of by its numbers.
-abbrev pub targetIn : List ℕ → Finding.Target
-targetIn found =
-    record {
-      address = getD found 1 0;
-      typeCode = getD found 2 0;
-      size = getD found 3 0;
-      access = getD found 4 0;
-      raw = getD found 5 0;
-    }
-
--- What is told by the numbers that a search wrote.
-abbrev pub toldBy : List ℕ → Finding.Told
-toldBy found =
-    elim (eqb (getD found 0 0) 0) [
-      | true ↦ Finding.nothingTold
-      | false ↦ Finding.foundTold (targetIn found)
-    ]

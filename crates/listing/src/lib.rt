@@ -2,6 +2,7 @@
 // one of them.
 mod extents;
 mod frames;
+mod locating;
 mod records;
 mod search;
 mod surveys;
@@ -10,9 +11,6 @@ use catalog::Checked;
 use catalog::check;
 use layout::NUMBERS;
 pub use records::InstancePath;
-use records::NO_POINT;
-use records::Sought;
-use records::Task;
 use records::Visit;
 pub use records::WIDTH;
 use records::put_model;
@@ -38,7 +36,7 @@ ghost use Rattle.layout.specs.Reading.{reading};
 ghost use Rattle.layout.specs.Walks.{Accepted, IsTable, pointsOf, readIn};
 ghost use Rattle.listing.specs.Listing as Listings;
 ghost use Rattle.listing.specs.Answers.{answer};
-ghost use Rattle.listing.specs.Promises.{capacity, written, bodyAt, passedOver, metBy, MapFits, behindMap};
+ghost use Rattle.listing.specs.Promises.{written, bodyAt, WalkFits};
 
 // What `list` answers: the points and the headers; or the number of a refusal, its place and the headers
 // before it.
@@ -69,7 +67,7 @@ pub fn list(catalog: &[u16], map: &[u16], out: &mut [u64]) -> Listing
             if out.len() / WIDTH < points {
                 return refused(30, points, headers);
             }
-            put_map(catalog, map, &mut table, out, Task::Records, NO_POINT);
+            put_map(catalog, map, &mut table, out);
             Listing::Listed { points, headers }
         }
         Listing::Refused {
@@ -166,21 +164,13 @@ fn refused(number: u16, place: usize, headers: usize) -> Listing
     }
 }
 
-// Walks the known models of a map that was surveyed: writes the records of all points, or what is told of the point
-// sought.
-fn put_map(
-    catalog: &[u16],
-    map: &[u16],
-    table: &mut [u16],
-    out: &mut [u64],
-    task: Task,
-    sought: Sought,
-)
+// Writes the records of the known models of a map that was surveyed.
+fn put_map(catalog: &[u16], map: &[u16], table: &mut [u16], out: &mut [u64])
     requires { ⌜ Accepted (now catalog) ⌝ }
     requires { ⌜ opening (now map) ≡ none ⌝ }
     requires { ⌜ IsTable (now table) ⌝ }
-    requires { ⌜ MapFits task (Listings.walked (reading (definitions (now catalog))) (now map)) (now out) ⌝ }
-    ensures { λ _. ⌜ now (out .exit) ≡ behindMap task sought (Listings.walked (reading (definitions (now (catalog .entry)))) (now (map .entry))) (now (out .entry)) ⌝ }
+    requires { ⌜ WalkFits (Listings.walked (reading (definitions (now catalog))) (now map)) (now out) ⌝ }
+    ensures { λ _. ⌜ now (out .exit) ≡ Listings.stored (Listings.walked (reading (definitions (now (catalog .entry)))) (now (map .entry))) (now (out .entry)) ⌝ }
 {
     let mut at = FIRST_HEADER;
     let mut index = 0usize;
@@ -193,8 +183,6 @@ fn put_map(
                     index,
                     id,
                     address: at,
-                    task,
-                    sought,
                 };
                 records = put_known(catalog, map, table, out, visit, length as usize, records);
                 at = behind_model(at, length);
@@ -206,8 +194,7 @@ fn put_map(
     }
 }
 
-// Walks a model that the catalog knows, and passes over another, or one that is not searched; answers how many points
-// were met then.
+// Writes the records of a model that the catalog knows, and skips another; returns the number of records written so far.
 fn put_known(
     catalog: &[u16],
     map: &[u16],
@@ -220,14 +207,11 @@ fn put_known(
     requires { ⌜ Accepted (now catalog) ⌝ }
     requires { ⌜ IsTable (now table) ⌝ }
     requires { ⌜ (visit .address + 2 + length ≤ Lists.length (now map)) × (length ≤ 65535) × (Lists.length (now map) ≤ 65536) ⌝ }
-    requires { ⌜ Listings.recordWidth * (records + Lists.length (metBy visit (pointsOf (readIn (now catalog) (visit .id) (bodyAt (now map) visit length))))) ≤ capacity (visit .task) (Lists.length (now out)) ⌝ }
-    ensures { λ r. ⌜ r ≡ records + Lists.length (metBy visit (pointsOf (readIn (now (catalog .entry)) (visit .id) (bodyAt (now (map .entry)) visit length)))) ⌝ }
-    ensures { λ _. ⌜ now (out .exit) ≡ written visit records (metBy visit (pointsOf (readIn (now (catalog .entry)) (visit .id) (bodyAt (now (map .entry)) visit length)))) (now (out .entry)) ⌝ }
+    requires { ⌜ Listings.recordWidth * (records + Lists.length (pointsOf (readIn (now catalog) (visit .id) (bodyAt (now map) visit length)))) ≤ Lists.length (now out) ⌝ }
+    ensures { λ r. ⌜ r ≡ records + Lists.length (pointsOf (readIn (now (catalog .entry)) (visit .id) (bodyAt (now (map .entry)) visit length))) ⌝ }
+    ensures { λ _. ⌜ now (out .exit) ≡ written visit records (pointsOf (readIn (now (catalog .entry)) (visit .id) (bodyAt (now (map .entry)) visit length))) (now (out .entry)) ⌝ }
     ensures { λ _. ⌜ IsTable (now (table .exit)) ⌝ }
 {
-    if is_passed_over(visit) {
-        return records;
-    }
     let body = part(map, visit.address + 2, length);
     let survey = survey_model(catalog, table, visit.id, body);
     match survey {
@@ -238,16 +222,5 @@ fn put_known(
             points: _,
             fill,
         } => put_model(catalog, table, out, visit, body, first, fill, records),
-    }
-}
-
-// Is a model passed over? A search walks the points of one model.
-fn is_passed_over(visit: Visit) -> bool
-    ensures { λ r. ⌜ r ≡ passedOver visit ⌝ }
-{
-    let task = visit.task;
-    match task {
-        Task::Records => false,
-        Task::Search => visit.index != visit.sought.model,
     }
 }

@@ -1,4 +1,4 @@
-// The walk over the points of one model: their records, written into the output list, or the point sought.
+// The walk over the points of one model: their records, written into the output list.
 use crate::surveys::LOWER_LEVELS;
 use catalog::Point;
 use layout::GroupOr;
@@ -10,7 +10,6 @@ use layout::note_run;
 use layout::point_at;
 use layout::show;
 use registers::part;
-use registers::raw_value;
 ghost use mathlib.Core.Path.{_≡_};
 ghost use mathlib.Core.List.{[], _∷_};
 ghost use Prim.Native.Nat.{_+_, _*_, _-_, _≤_, _<_};
@@ -20,10 +19,10 @@ ghost use Rattle.catalog.specs.Definitions.{groupFrames};
 ghost use Rattle.catalog.specs.Soundness as Soundness;
 ghost use Rattle.catalog.specs.Answers.{pointForm};
 ghost use Rattle.layout.specs.Points.{pointAt};
-ghost use Rattle.layout.specs.Layout.{within, nothing, countOf, pointsAt, groupsAt};
+ghost use Rattle.layout.specs.Layout.{within, countOf, pointsAt, groupsAt};
 ghost use Rattle.layout.specs.Walks.{heldAt, Accepted, levelOf, scopeIn, instanceIn, noted, IsTable, Elsewhere, pointsOf, HasPoints, Ready, readIn, begunAt};
-ghost use Rattle.listing.specs.Listing.{recordNumbers, recordWidth};
-ghost use Rattle.listing.specs.Promises.{recordAt, foundWidth, isSamePath, seen, capacity, written, PointFits, RunAsks, BehindRun, GroupsAsk, BehindGroups};
+ghost use Rattle.listing.specs.Listing.{recordWidth};
+ghost use Rattle.listing.specs.Promises.{written, PointFits, RunAsks, BehindRun, GroupsAsk, BehindGroups};
 
 // The numbers of a record.
 pub const WIDTH: usize = 10;
@@ -33,37 +32,11 @@ pub struct InstancePath {
     pub instances: [u16; 3],
 }
 
-// A point that is searched for, by the index of its model, its number and its path.
-pub(crate) struct Sought {
-    pub(crate) model: usize,
-    pub(crate) number: u16,
-    pub(crate) path: InstancePath,
-}
-
-// Fills the place of a point sought where records are written: nothing looks at it there.
-pub(crate) const NO_POINT: Sought = Sought {
-    model: 0,
-    number: 0,
-    path: InstancePath {
-        instances: [0, 0, 0],
-    },
-};
-
-// What the walk writes of the points that it meets: of each its record; or of the first that is sought what is
-// told of it.
-pub(crate) enum Task {
-    Records,
-    Search,
-}
-
-// A model that is walked: its index, its id, the address of its header, what is written of its points, and the
-// point that a search is for. (An enum that holds an array is not covered, so the task does not hold the point sought.)
+// A model that is walked: its index, its id, and the address of its header.
 pub(crate) struct Visit {
     pub(crate) index: usize,
     pub(crate) id: u16,
     pub(crate) address: usize,
-    pub(crate) task: Task,
-    pub(crate) sought: Sought,
 }
 
 // An instance of a group that is walked: its path. What is in its scope is in the table.
@@ -101,7 +74,7 @@ pub(crate) fn put_model(
     requires { ⌜ Ready (now catalog) (visit .id) (now body) (now table) first fill ⌝ }
     requires { ⌜ HasPoints (readIn (now catalog) (visit .id) (now body)) ⌝ }
     requires { ⌜ (length (now body) ≤ 65535) × (visit .address ≤ 65536) ⌝ }
-    requires { ⌜ recordWidth * (records + length (pointsOf (readIn (now catalog) (visit .id) (now body)))) ≤ capacity (visit .task) (length (now out)) ⌝ }
+    requires { ⌜ recordWidth * (records + length (pointsOf (readIn (now catalog) (visit .id) (now body)))) ≤ length (now out) ⌝ }
     ensures { λ r. ⌜ r ≡ records + length (pointsOf (readIn (now (catalog .entry)) (visit .id) (now (body .entry)))) ⌝ }
     ensures { λ _. ⌜ now (out .exit) ≡ written visit records (pointsOf (readIn (now (catalog .entry)) (visit .id) (now (body .entry)))) (now (out .entry)) ⌝ }
     ensures { λ _. ⌜ IsTable (now (table .exit)) ⌝ }
@@ -154,7 +127,7 @@ fn put_run(
         let next = point_at(catalog, at.frame);
         match next {
             PointOr::Point(point) => {
-                put_point(table, out, visit, body, instance, at, point);
+                put_record(table, out, visit, body, instance, at, point);
                 at = Progress {
                     records: at.records + 1,
                     offset: at.offset + point.size as usize,
@@ -259,28 +232,6 @@ fn enter(around: Instance, levels: usize, j: u16) -> Instance
     }
 }
 
-// Writes of a point what the walk is for.
-fn put_point(
-    table: &[u16],
-    out: &mut [u64],
-    visit: Visit,
-    body: &[u16],
-    instance: Instance,
-    at: Progress,
-    point: Point,
-)
-    requires { ⌜ IsTable (now table) × (length (instance .path .instances) ≡ 3) ⌝ }
-    requires { ⌜ PointFits (now body) (at .offset) visit (pointForm point) ⌝ }
-    requires { ⌜ recordWidth * (at .records + 1) ≤ capacity (visit .task) (length (now out)) ⌝ }
-    ensures { λ _. ⌜ now (out .exit) ≡ written visit (at .records) (pointAt (now (body .entry)) (instanceIn (now (table .entry)) (instance .path .instances)) (at .offset) (pointForm point) ∷ []) (now (out .entry)) ⌝ }
-{
-    let task = visit.task;
-    match task {
-        Task::Records => put_record(table, out, visit, body, instance, at, point),
-        Task::Search => put_found(out, visit, body, instance.path, at.offset, point),
-    }
-}
-
 // Writes the record of a point.
 fn put_record(
     table: &[u16],
@@ -294,7 +245,7 @@ fn put_record(
     requires { ⌜ IsTable (now table) × (length (instance .path .instances) ≡ 3) ⌝ }
     requires { ⌜ PointFits (now body) (at .offset) visit (pointForm point) ⌝ }
     requires { ⌜ recordWidth * (at .records + 1) ≤ length (now out) ⌝ }
-    ensures { λ _. ⌜ now (out .exit) ≡ sets (now (out .entry)) (recordWidth * at .records) (recordNumbers (recordAt visit (pointAt (now (body .entry)) (instanceIn (now (table .entry)) (instance .path .instances)) (at .offset) (pointForm point)))) ⌝ }
+    ensures { λ _. ⌜ now (out .exit) ≡ written visit (at .records) (pointAt (now (body .entry)) (instanceIn (now (table .entry)) (instance .path .instances)) (at .offset) (pointForm point) ∷ []) (now (out .entry)) ⌝ }
 {
     let path = instance.path.instances;
     let registers = part(body, at.offset, point.size as usize);
@@ -312,55 +263,6 @@ fn put_record(
         shown.scale,
     ];
     put(out, WIDTH * at.records, &numbers);
-}
-
-// Writes what is told of a point, if it is the one sought and none was before it.
-fn put_found(
-    out: &mut [u64],
-    visit: Visit,
-    body: &[u16],
-    path: InstancePath,
-    offset: usize,
-    point: Point,
-)
-    requires { ⌜ PointFits (now body) offset visit (pointForm point) ⌝ }
-    requires { ⌜ foundWidth ≤ length (now out) ⌝ }
-    ensures { λ _. ⌜ now (out .exit) ≡ seen (visit .sought) (recordAt visit (pointAt (now (body .entry)) (record { scope = nothing; path = path .instances }) offset (pointForm point))) (now (out .entry)) ⌝ }
-{
-    if out[0] != 0 {
-        return;
-    }
-    if point.number != visit.sought.number {
-        return;
-    }
-    if !same_path(path, visit.sought.path) {
-        return;
-    }
-    let registers = part(body, offset, point.size as usize);
-    let numbers = [
-        1,
-        (visit.address + 2 + offset) as u64,
-        point.type_code as u64,
-        point.size as u64,
-        point.access as u64,
-        raw_value(registers),
-    ];
-    put(out, 0, &numbers);
-}
-
-// Are two paths the same in all three numbers?
-fn same_path(a: InstancePath, b: InstancePath) -> bool
-    ensures { λ r. ⌜ r ≡ isSamePath (a .instances) (b .instances) ⌝ }
-{
-    let x = a.instances;
-    let y = b.instances;
-    if x[0] != y[0] {
-        return false;
-    }
-    if x[1] != y[1] {
-        return false;
-    }
-    x[2] == y[2]
 }
 
 // Writes numbers into a list, one behind the other.

@@ -1,38 +1,52 @@
 // Finds one point of a register map, by the index of its model, its number and its path.
 use crate::Listing;
-use crate::put_map;
+use crate::behind_model;
+use crate::locating::Key;
+use crate::locating::Located;
+use crate::locating::Location;
+use crate::locating::locate_model;
 use crate::records::InstancePath;
-use crate::records::Sought;
-use crate::records::Task;
 use crate::survey_plant;
+use crate::surveys::Survey;
+use crate::surveys::survey_model;
+use catalog::Point;
 use layout::NUMBERS;
+use register_map::FIRST_HEADER;
+use register_map::Header;
+use register_map::header_at;
+use registers::part;
+use registers::raw_value;
 ghost use mathlib.Core.Path.{_≡_};
+ghost use mathlib.Core.Option.{none};
+ghost use Prim.Native.Nat.{_≤_};
+ghost use lib.ListN.{length};
+ghost use Rattle.lists.specs.Tests.{firstWith};
+ghost use Rattle.catalog.specs.Definitions.{definitions};
+ghost use Rattle.catalog.specs.Answers.{pointForm};
+ghost use Rattle.register_map.specs.Headers.{opening};
+ghost use Rattle.layout.specs.Paths.{isPoint};
+ghost use Rattle.layout.specs.Reading.{reading};
+ghost use Rattle.layout.specs.Walks.{Accepted, IsTable, pointsOf, readIn};
+ghost use Rattle.listing.specs.Listing as Listings;
 ghost use Rattle.listing.specs.Finding as Findings;
-ghost use Rattle.listing.specs.Answers.{findingForm};
-ghost use Rattle.listing.specs.Promises.{toldBy, NarrowFound};
+ghost use Rattle.listing.specs.Answers.{targetForm, findingForm};
+ghost use Rattle.listing.specs.Promises.{targetAt, toldAt, IsListed};
 
-// How many numbers the walk tells of the point sought.
-const FOUND_WIDTH: usize = 6;
-
-// A point: its address, its type, size and access by the catalog, and its raw value (0 if it takes over four
-// registers).
+// A point: its address, its definition in the catalog, and its raw value (0 if it takes over four registers).
 pub struct Target {
     pub address: usize,
-    pub type_code: u16,
-    pub size: u16,
-    pub access: u16,
+    pub point: Point,
     pub raw: u64,
 }
 
-// What `find` answers: the point, that there is none, or a refusal of listing with its place.
+// What `find` returns: the point, that there is none, or a refusal of listing with its place.
 pub enum Finding {
     Found(Target),
     Nothing,
     Refused { number: u16, place: usize },
 }
 
-// Finds a point. All refusals are decided before, as for listing; then the points of its model are walked, and of
-// no other.
+// Finds a point. All refusals are decided before, as for listing; then the point is located in its model.
 pub fn find(catalog: &[u16], map: &[u16], model: usize, point: u16, path: InstancePath) -> Finding
     ensures { λ r. ⌜ findingForm r ≡ Findings.told (Findings.finding (now (catalog .entry)) (now (map .entry)) model point (path .instances)) ⌝ }
 {
@@ -40,32 +54,85 @@ pub fn find(catalog: &[u16], map: &[u16], model: usize, point: u16, path: Instan
     let survey = survey_plant(catalog, map, &mut table);
     match survey {
         Listing::Listed { .. } => {
-            let sought = Sought {
-                model,
+            let key = Key {
                 number: point,
                 path,
             };
-            let mut found = [0u64; FOUND_WIDTH];
-            put_map(catalog, map, &mut table, &mut found, Task::Search, sought);
-            told(found)
+            search_map(catalog, map, &mut table, model, key)
         }
         Listing::Refused { number, place, .. } => Finding::Refused { number, place },
     }
 }
 
-// The answer by the numbers that a search wrote.
-fn told(found: [u64; FOUND_WIDTH]) -> Finding
-    requires { ⌜ NarrowFound found ⌝ }
-    ensures { λ r. ⌜ findingForm r ≡ toldBy found ⌝ }
+// Looks for the point in the model with an index, in a map that was surveyed without a refusal.
+fn search_map(catalog: &[u16], map: &[u16], table: &mut [u16], model: usize, key: Key) -> Finding
+    requires { ⌜ Accepted (now catalog) ⌝ }
+    requires { ⌜ opening (now map) ≡ none ⌝ }
+    requires { ⌜ IsTable (now table) × (length (key .path .instances) ≡ 3) ⌝ }
+    requires { ⌜ IsListed (Listings.walked (reading (definitions (now catalog))) (now map)) ⌝ }
+    ensures { λ r. ⌜ findingForm r ≡ Findings.told (Findings.findingIn model (key .number) (key .path .instances) (Listings.walked (reading (definitions (now (catalog .entry)))) (now (map .entry)))) ⌝ }
 {
-    if found[0] == 0 {
-        return Finding::Nothing;
+    let mut at = FIRST_HEADER;
+    let mut index = 0usize;
+    while at < map.len() {
+        let header = header_at(map, at);
+        match header {
+            Header::Model { id, length } => {
+                if index == model {
+                    let body = part(map, at + 2, length as usize);
+                    return search_model(catalog, table, id, body, key, at);
+                }
+                at = behind_model(at, length);
+                index += 1;
+            }
+            Header::End => return Finding::Nothing,
+            Header::Refused(_) => return Finding::Nothing,
+        }
     }
-    Finding::Found(Target {
-        address: found[1] as usize,
-        type_code: found[2] as u16,
-        size: found[3] as u16,
-        access: found[4] as u16,
-        raw: found[5],
-    })
+    Finding::Nothing
+}
+
+// Looks for the point in the model with an id and a body, whose header is at address `at`.
+fn search_model(
+    catalog: &[u16],
+    table: &mut [u16],
+    id: u16,
+    body: &[u16],
+    key: Key,
+    at: usize,
+) -> Finding
+    requires { ⌜ Accepted (now catalog) ⌝ }
+    requires { ⌜ IsTable (now table) × (length (key .path .instances) ≡ 3) ⌝ }
+    requires { ⌜ (length (now body) ≤ 65535) × (at ≤ 65536) ⌝ }
+    ensures { λ r. ⌜ findingForm r ≡ toldAt at (firstWith (isPoint (key .number) (key .path .instances)) (pointsOf (readIn (now (catalog .entry)) id (now (body .entry))))) ⌝ }
+{
+    let survey = survey_model(catalog, table, id, body);
+    match survey {
+        Survey::Unknown => Finding::Nothing,
+        Survey::Refused(_) => Finding::Nothing,
+        Survey::Points {
+            first,
+            points: _,
+            fill,
+        } => {
+            let located = locate_model(catalog, table, body.len(), first, fill, key);
+            match located {
+                Located::At(location) => Finding::Found(target_at(at, body, location)),
+                Located::Nothing => Finding::Nothing,
+            }
+        }
+    }
+}
+
+// A point that was located in a body, in the model whose header is at address `at`.
+fn target_at(at: usize, body: &[u16], location: Location) -> Target
+    requires { ⌜ (at ≤ 65536) × (location .offset ≤ 65536) ⌝ }
+    ensures { λ r. ⌜ targetForm r ≡ targetAt at (now (body .entry)) (record { offset = location .offset; definition = pointForm (location .point) }) ⌝ }
+{
+    let point = location.point;
+    Target {
+        address: at + 2 + location.offset,
+        point,
+        raw: raw_value(part(body, location.offset, point.size as usize)),
+    }
 }

@@ -29,7 +29,7 @@ module _ (t : Target) (raw : ℕ) (map : List ℕ) where
 
   -- It takes the value.
   pub takes : {new : List ℕ} → none ≡ refusal t raw
-      → new ≡ sets map (t .address) (split (t .size) raw)
+      → new ≡ sets map (t .address) (split (t .definition .size) raw)
       → (writtenTold ≡ told (writingTo t raw map)) × (new ≡ mapBehind (writingTo t raw map) map)
   unfolding rewritten
   takes e w =
@@ -91,11 +91,11 @@ module _ (catalog map : List ℕ) (index number : ℕ) (path : List ℕ) (raw : 
         let r = told-record found t e in ap (λ x. writingTo x raw map) (r .2) ∙ sym (by-found (r .0) (r .1))
 
     -- Its registers lie in the map.
-    pub target-inside : t .address + t .size ≤ length map
+    pub target-inside : t .address + t .definition .size ≤ length map
     unfolding finding
     target-inside =
         let r = told-record found t e in
-        subst (λ (x : Target). x .address + x .size ≤ length map) (sym (r .2)) (inside (r .0) (r .1))
+        subst (λ (x : Target). x .address + x .definition .size ≤ length map) (sym (r .2)) (inside (r .0) (r .1))
       where
         by-record : (w : Record) (rs : List Record) (headers : ℕ) → allRecords catalog map ≡ Listing.listed rs headers
             → (o : Option Record) → firstWith (isRecord index number path) rs ≡ o

@@ -48,7 +48,7 @@ module _ (d : Definition) (sound : SoundDefinition d) (body : List ℕ) (ps : Li
     (w : ModelPoint) (there : In w ps) (raw : ℕ)
     (writable : w .definition .access ≡ readOnly → ⊥) (small : w .definition .size ≤ 4)
     (implemented : isUnimplementedClass (classified (w .definition .typeCode) (w .raw)) ≡ false)
-    (holds : canHold (w .definition .typeCode) (w .definition .size) raw ≡ true) where
+    (holds : canHold (w .definition) raw ≡ true) where
   -- The body behind the write.
   abbrev new : List ℕ
   new = sets body (w .offset) (split (w .definition .size) raw)

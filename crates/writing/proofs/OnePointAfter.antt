@@ -47,7 +47,7 @@ pub record Write (defined : List Point) (w : ModelPoint) (raw : ℕ) (body : Lis
   pub small : w .definition .size ≤ 4
   pub inside : w .offset + w .definition .size ≤ length body
   pub implemented : isUnimplementedClass (classified (w .definition .typeCode) (w .raw)) ≡ false
-  pub holds : canHold (w .definition .typeCode) (w .definition .size) raw ≡ true
+  pub holds : canHold (w .definition) raw ≡ true
 
 module _ (top : Content) (w : ModelPoint) (raw : ℕ) (body : List ℕ) where
   -- How many instance numbers lead to the point written.

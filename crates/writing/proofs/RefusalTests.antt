@@ -22,16 +22,16 @@ byTests readable wide missing held =
 
 module _ (t : Target) (raw : ℕ) where
   abbrev access : Bool
-  access = eqb (t .access) readOnly
+  access = eqb (t .definition .access) readOnly
 
   abbrev wide : Bool
-  wide = ltb 4 (t .size)
+  wide = ltb 4 (t .definition .size)
 
   abbrev missing : Bool
-  missing = isUnimplementedClass (classified (t .typeCode) (t .raw))
+  missing = isUnimplementedClass (classified (t .definition .typeCode) (t .raw))
 
   abbrev held : Bool
-  held = canHold (t .typeCode) (t .size) raw
+  held = canHold (t .definition) raw
 
   by-tests : byTests access wide missing held ≡ refusal t raw
   unfolding refusal

@@ -43,17 +43,20 @@ module _ (catalog map : List ℕ) (index number : ℕ) (path : List ℕ) where
   finding-refused e = rw (e, finding)
 
   module _ {rs : List Record} {headers : ℕ} (e : allRecords catalog map ≡ Listing.listed rs headers) where
+    abbrev by-record : Option Record → Finding.Finding
+    by-record o = elim o [ none ↦ Finding.nothing | some r ↦ Finding.found r ]
+
     -- where no record is the one asked for,
     finding-nothing : firstWith (isRecord index number path) rs ≡ none
         → finding catalog map index number path ≡ Finding.nothing
     unfolding finding
-    finding-nothing f = rw (e, finding) (rw f)
+    finding-nothing f = ap (Finding.findingIn index number path) e ∙ ap by-record f
 
     -- and where one is.
     pub finding-found : {w : Record} → firstWith (isRecord index number path) rs ≡ some w
         → finding catalog map index number path ≡ Finding.found w
     unfolding finding
-    finding-found f = rw (e, finding) (rw f)
+    finding-found f = ap (Finding.findingIn index number path) e ∙ ap by-record f
 
   module _ (raw : ℕ) where
     -- The answer by what finding comes to: a refusal,
@@ -123,10 +126,10 @@ module _ (catalog map : List ℕ) where
 
 -- A point that is not refused: it may be written, takes up to four registers, is implemented and can hold the raw value.
 pub record Writable (t : Target) (raw : ℕ) : Type 0 where
-  pub access : t .access ≡ readOnly → ⊥
-  pub small : t .size ≤ 4
-  pub implemented : isUnimplementedClass (classified (t .typeCode) (t .raw)) ≡ false
-  pub holds : canHold (t .typeCode) (t .size) raw ≡ true
+  pub access : t .definition .access ≡ readOnly → ⊥
+  pub small : t .definition .size ≤ 4
+  pub implemented : isUnimplementedClass (classified (t .definition .typeCode) (t .raw)) ≡ false
+  pub holds : canHold (t .definition) raw ≡ true
 
 module _ (t : Target) (raw : ℕ) where
   -- What is known by the refusal: its number is 32 to 35, or the point is writable.
@@ -138,12 +141,12 @@ module _ (t : Target) (raw : ℕ) where
   outcome : Outcome (refusal t raw)
   unfolding refusal
   outcome =
-      by-test Outcome (eqb (t .access) readOnly) (λ _. (omega arith, omega arith)) (λ a.
-      by-test Outcome (ltb 4 (t .size)) (λ _. (omega arith, omega arith)) (λ s.
-      by-test Outcome (isUnimplementedClass (classified (t .typeCode) (t .raw))) (λ _. (omega arith, omega arith)) (λ g.
-      by-test Outcome (canHold (t .typeCode) (t .size) raw) (λ h. record {
-        access = eqb-false (t .access) readOnly a;
-        small = ltb-false 4 (t .size) s;
+      by-test Outcome (eqb (t .definition .access) readOnly) (λ _. (omega arith, omega arith)) (λ a.
+      by-test Outcome (ltb 4 (t .definition .size)) (λ _. (omega arith, omega arith)) (λ s.
+      by-test Outcome (isUnimplementedClass (classified (t .definition .typeCode) (t .raw))) (λ _. (omega arith, omega arith)) (λ g.
+      by-test Outcome (canHold (t .definition) raw) (λ h. record {
+        access = eqb-false (t .definition .access) readOnly a;
+        small = ltb-false 4 (t .definition .size) s;
         implemented = g;
         holds = h;
       }) (λ _. (omega arith, omega arith)))))

@@ -7,25 +7,25 @@ use lib.Dec.{eqb, ltb}
 use lib.Seq.{sets}
 use Rattle.registers.specs.Registers.{split, tooWide}
 use Rattle.values.specs.Classes.{classified, isValue, isUnimplementedClass}
-use Rattle.catalog.specs.Frames.{readOnly}
+use Rattle.catalog.specs.Frames.{Point, readOnly}
 use Rattle.listing.specs.Finding as Finding
 use Rattle.listing.specs.Finding.{finding, Target, targetOf}
 
--- Can a point of a type and a size hold a raw value? It is a value of the type, and not too wide for the registers.
-abbrev pub canHold : ℕ → ℕ → ℕ → Bool
-canHold typeCode size raw = isValue (classified typeCode raw) && not (tooWide size raw)
+-- Can a point hold a raw value? It is a value of its type, and not too wide for its registers.
+abbrev pub canHold : Point → ℕ → Bool
+canHold p raw = isValue (classified (p .typeCode) raw) && not (tooWide (p .size) raw)
 
 -- The refusals of a point that is found, in order. 32: its access is R. 33: it takes over four registers. 34: its present
 -- registers, joined, are unimplemented. 35: the new value is unimplemented, out of range or too wide.
 unfoldable pub refusal : Target → ℕ → Option ℕ
 refusal t raw =
-    elim (eqb (t .access) readOnly) [
+    elim (eqb (t .definition .access) readOnly) [
       | true ↦ some 32
-      | false ↦ elim (ltb 4 (t .size)) [
+      | false ↦ elim (ltb 4 (t .definition .size)) [
         | true ↦ some 33
-        | false ↦ elim (isUnimplementedClass (classified (t .typeCode) (t .raw))) [
+        | false ↦ elim (isUnimplementedClass (classified (t .definition .typeCode) (t .raw))) [
           | true ↦ some 34
-          | false ↦ elim (canHold (t .typeCode) (t .size) raw) [ true ↦ none | false ↦ some 35 ]
+          | false ↦ elim (canHold (t .definition) raw) [ true ↦ none | false ↦ some 35 ]
         ]
       ]
     ]
@@ -33,7 +33,7 @@ refusal t raw =
 -- The map with a raw value in the registers of a point, the highest first. Only these change. (They lie in the map:
 -- `proofs/RawValues.antt`.)
 unfoldable pub rewritten : Target → ℕ → List ℕ → List ℕ
-rewritten t raw map = sets map (t .address) (split (t .size) raw)
+rewritten t raw map = sets map (t .address) (split (t .definition .size) raw)
 
 -- What writing comes to: a refusal with its place, or the new map.
 pub data Answer : Type 0 where

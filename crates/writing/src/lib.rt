@@ -1,4 +1,5 @@
 // Writes a raw value to a point of a register map (refusals 1 to 11, 20 to 29 and 31 to 35).
+use catalog::Point;
 use catalog::READ_ONLY;
 use listing::Finding;
 use listing::InstancePath;
@@ -15,6 +16,7 @@ ghost use lib.ListN.{length};
 ghost use lib.Seq.{sets};
 ghost use Rattle.registers.specs.Registers.{split};
 ghost use Rattle.values.specs.Classes.{classified, isUnimplementedClass};
+ghost use Rattle.catalog.specs.Answers.{pointForm};
 ghost use Rattle.listing.specs.Answers.{targetForm};
 ghost use Rattle.writing.specs.Writing as Writings;
 ghost use Rattle.writing.specs.Answers.{answer};
@@ -33,8 +35,8 @@ enum Verdict {
 }
 
 // Writes a raw value to the point with a number at a path, in the model with an index. All refusals are decided
-// before anything is written. The time is that of listing's survey, of a second walk over the headers, and of one over
-// the points of that model.
+// before anything is written. The time is that of listing's survey, and of a few reads of each header and of each frame of
+// that model's definition.
 pub fn write(
     catalog: &[u16],
     map: &mut [u16],
@@ -59,14 +61,14 @@ pub fn write(
 
 // Writes a raw value to a point that was found.
 fn write_to(map: &mut [u16], target: Target, raw: u64) -> Written
-    requires { ⌜ target .address + target .size ≤ length (now map) ⌝ }
+    requires { ⌜ target .address + target .point .size ≤ length (now map) ⌝ }
     ensures { λ r. ⌜ answer r ≡ Writings.told (Writings.writingTo (targetForm target) raw (now (map .entry))) ⌝ }
     ensures { λ _. ⌜ now (map .exit) ≡ Writings.mapBehind (Writings.writingTo (targetForm target) raw (now (map .entry))) (now (map .entry)) ⌝ }
 {
     let verdict = judge(target, raw);
     match verdict {
         Verdict::Takes => {
-            put_registers(map, target.address, target.size as usize, raw);
+            put_registers(map, target.address, target.point.size as usize, raw);
             Written::Done
         }
         Verdict::Refuses(number) => Written::Refused { number, place: 0 },
@@ -77,18 +79,19 @@ fn write_to(map: &mut [u16], target: Target, raw: u64) -> Written
 fn judge(target: Target, raw: u64) -> Verdict
     ensures { λ r. ⌜ refusalForm r ≡ Writings.refusal (targetForm target) raw ⌝ }
 {
-    let read_only = target.access == READ_ONLY;
-    let unimplemented = is_unimplemented(target.type_code, target.raw);
+    let point = target.point;
+    let read_only = point.access == READ_ONLY;
+    let unimplemented = is_unimplemented(point.type_code, target.raw);
     if read_only {
         return Verdict::Refuses(32);
     }
-    if 4 < target.size {
+    if 4 < point.size {
         return Verdict::Refuses(33);
     }
     if unimplemented {
         return Verdict::Refuses(34);
     }
-    if !can_hold(target, raw) {
+    if !can_hold(point, raw) {
         return Verdict::Refuses(35);
     }
     Verdict::Takes
@@ -111,10 +114,10 @@ fn is_unimplemented(type_code: u16, raw: u64) -> bool
 }
 
 // Can a point hold a raw value? A string is as wide as its registers, and not as its type at its longest.
-fn can_hold(target: Target, raw: u64) -> bool
-    ensures { λ r. ⌜ r ≡ Writings.canHold (target .«type_code») (target .size) raw ⌝ }
+fn can_hold(point: Point, raw: u64) -> bool
+    ensures { λ r. ⌜ r ≡ Writings.canHold (pointForm point) raw ⌝ }
 {
-    is_value(target.type_code, raw) && !too_wide(target.size, raw)
+    is_value(point.type_code, raw) && !too_wide(point.size, raw)
 }
 
 // Writes the registers of a raw value, the highest first.

@@ -1,34 +1,33 @@
--- `listing::put_known` meets its contract: a model's points by its survey, and none where it has none or is passed over.
-use mathlib.Core.Path.{sym, ap, subst, _∙_}
+-- `listing::put_known` meets its contract: a model's records by its survey, and none where it has none.
+use mathlib.Core.Path.{_≡_, sym, ap, subst, _∙_}
 use mathlib.Core.List.{List}
 use Prim.Native.Nat.{ℕ, _+_, _*_, _≤_}
 use native.Mathlib.Omega.{arith}
+use borrow.Author.Needs.{needs}
 use lib.ListN.{length, take, drop, length-drop}
 use lib.Seq.{length-take-le}
-use Rattle.catalog.specs.Definitions.{definitions}
 use Rattle.layout.specs.Points.{ModelPoint}
-use Rattle.layout.specs.Reading.{Reading, reading}
-use Rattle.layout.specs.Walks.{pointsOf}
+use Rattle.layout.specs.Reading.{Reading}
+use Rattle.layout.specs.Walks.{pointsOf, readIn}
 use Rattle.listing.specs.Listing.{recordWidth}
 use Rattle.listing.specs.Answers.{surveyForm}
-use Rattle.listing.specs.Promises.{ReadyBy, capacity, written, metBy}
+use Rattle.listing.specs.Promises.{ReadyBy, written}
 use Rattle.listing.proofs.MapSurvey.{no-points-unknown, no-points-refused, has-points}
-use Rattle.listing.proofs.MapRecords.{met-none, met-all, nothing-written}
+use Rattle.listing.proofs.MapRecords.{nothing-written}
 use Rattle.listing.proofs.put_known.Statement.{statement}
 use Rattle.listing.proofs.put_known.Tie as tie
-use borrow.Author.Needs.{needs}
 
-is-passed-over-requires : tie.Need-is-passed-over-requires
-is-passed-over-requires c κs = search needs
+-- The model by a body, and the body's length.
+abbrev read : tie.Start → List ℕ → Reading
+read s body = readIn (s .args .catalog .now) (s .args .visit .id) body
 
-returns : tie.Need-returns
-returns c =
-    let s = c .before .before .before .before .before .before in
-    let v = s .args in
-    let ps = pointsOf (reading (definitions (v .catalog .now)) (record { id = v .visit .id; body = take (v .length) (drop (v .visit .address + 2) (v .map .now)) })) in
-    let over = sym (c .before .is-passed-over .ensures) ∙ c .if1 .taken in
-    let w = nothing-written (v .visit) (v .records) (metBy (v .visit) ps) (v .out .now) (met-none (v .visit) ps over) in
-    (w .0, (w .1, s .pre .1 .0))
+abbrev registers : tie.Start → List ℕ
+registers s = drop (s .args .visit .address + 2) (s .args .map .now)
+
+long : (s : tie.Start) → length (take (s .args .length) (registers s)) ≡ s .args .length
+long s =
+    length-take-le (s .args .length) (registers s)
+    (omega (arith, s .pre .1 .1 .0 .0, length-drop (s .args .visit .address + 2) (s .args .map .now)))
 
 add-part : tie.Need-add-part
 add-part c = search needs
@@ -38,12 +37,8 @@ part-requires c κs = search needs
 
 survey-model-requires : tie.Need-survey-model-requires
 survey-model-requires c κs =
-    let s = c .before .before .before .before .before .before .before .before .before in
-    let v = s .args in
-    let n = v .length in
-    let ws = drop (v .visit .address + 2) (v .map .now) in
-    let long = length-take-le n ws (omega (arith, s .pre .1 .1 .0 .0, length-drop (v .visit .address + 2) (v .map .now))) in
-    (s .pre .0, (s .pre .1 .0, omega (arith, ap length (c .before .part .ensures), long)))
+    let s = c .before .before .before .before .before .before .before in
+    (s .pre .0, (s .pre .1 .0, omega (arith, ap length (c .before .part .ensures), long s, s .pre .1 .1 .0 .1)))
 
 enum-told : tie.Need-enum-told
 enum-told c = search needs
@@ -57,59 +52,43 @@ enum-known-survey c = search needs
 put-model-requires : tie.Need-put-model-requires
 put-model-requires c κs =
     let m = c .before .before .before .before .before .before .before in
-    let s = m .before .before .before .before .before .before .before .before .before .before in
-    let all = sym (m .before .before .before .before .before .is-passed-over .ensures) ∙ m .before .before .before .before .if1 .left in
+    let s = m .before .before .before .before .before .before .before .before in
     let v = s .args in
-    let n = v .length in
-    let ws = drop (v .visit .address + 2) (v .map .now) in
-    let read : List ℕ → Reading = λ body. reading (definitions (v .catalog .now)) (record { id = v .visit .id; body = body }) in
-    let same = m .before .before .part .ensures in
-    let long = length-take-le n ws (omega (arith, s .pre .1 .1 .0 .0, length-drop (v .visit .address + 2) (v .map .now))) in
-    let Ready = ReadyBy (v .catalog .now) (v .visit .id) (m .before .before .part .result .now) (m .survey-model .last .1 .0) in
+    let part = m .before .before .part in
+    let Ready = ReadyBy (v .catalog .now) (v .visit .id) (part .result .now) (m .survey-model .last .1 .0) in
     let ready = subst Ready (c .before .before .before .survey .given .1) (m .survey-model .ensures .1 .0) in
-    let Room : List ModelPoint → Type 0 = λ ps. recordWidth * (v .records + length ps) ≤ capacity (v .visit .task) (length (v .out .now)) in
-    let met = met-all (v .visit) (pointsOf (read (take n ws))) all in
-    let room = subst Room (met ∙ ap (λ b. pointsOf (read b)) (sym same)) (s .pre .1 .1 .1) in
-    let has = has-points (read (m .before .before .part .result .now))
+    let Room : List ModelPoint → Type 0 = λ ps. recordWidth * (v .records + length ps) ≤ length (v .out .now) in
+    let room = subst Room (ap (λ b. pointsOf (read s b)) (sym (part .ensures))) (s .pre .1 .1 .1) in
+    let has = has-points (read s (part .result .now))
     (sym (ap surveyForm (c .before .before .before .survey .given .1)) ∙ m .survey-model .ensures .0) in
-    (s .pre .0, (ready, (has, ((omega (arith, ap length same, long), omega arith), room))))
+    (s .pre .0, (ready, (has, ((omega (arith, ap length (part .ensures), long s, s .pre .1 .1 .0 .1), omega arith), room))))
 
 same-length : tie.Need-same-length
 same-length c = search needs
 
-returns-2 : tie.Need-returns-2
-returns-2 c =
+returns : tie.Need-returns
+returns c =
     let m = c .before .before .before .before in
-    let s = m .before .before .before .before .before .before .before .before .before .before in
-    let all = sym (m .before .before .before .before .before .is-passed-over .ensures) ∙ m .before .before .before .before .if1 .left in
+    let s = m .before .before .before .before .before .before .before .before in
     let v = s .args in
-    let n = v .length in
-    let ws = drop (v .visit .address + 2) (v .map .now) in
-    let read : List ℕ → Reading = λ body. reading (definitions (v .catalog .now)) (record { id = v .visit .id; body = body }) in
-    let same = m .before .before .part .ensures in
+    let part = m .before .before .part in
     let seen = sym (ap surveyForm (c .enum-told .given .1)) ∙ m .survey-model .ensures .0 in
-    let none = ap (λ b. pointsOf (read b)) (sym same) ∙ no-points-unknown (read (m .before .before .part .result .now)) seen in
-    let met = met-all (v .visit) (pointsOf (read (take n ws))) all in
-    let w = nothing-written (v .visit) (v .records) (metBy (v .visit) (pointsOf (read (take n ws)))) (v .out .now) (met ∙ none) in
+    let none = ap (λ b. pointsOf (read s b)) (sym (part .ensures)) ∙ no-points-unknown (read s (part .result .now)) seen in
+    let w = nothing-written (v .visit) (v .records) (pointsOf (read s (take (v .length) (registers s)))) (v .out .now) none in
     (w .0, (w .1, m .survey-model .ensures .1 .1))
 
 same-length-2 : tie.Need-same-length-2
 same-length-2 c = search needs
 
-returns-3 : tie.Need-returns-3
-returns-3 c =
+returns-2 : tie.Need-returns-2
+returns-2 c =
     let m = c .before .before .before .before in
-    let s = m .before .before .before .before .before .before .before .before .before .before in
-    let all = sym (m .before .before .before .before .before .is-passed-over .ensures) ∙ m .before .before .before .before .if1 .left in
+    let s = m .before .before .before .before .before .before .before .before in
     let v = s .args in
-    let n = v .length in
-    let ws = drop (v .visit .address + 2) (v .map .now) in
-    let read : List ℕ → Reading = λ body. reading (definitions (v .catalog .now)) (record { id = v .visit .id; body = body }) in
-    let same = m .before .before .part .ensures in
+    let part = m .before .before .part in
     let seen = sym (ap surveyForm (c .enum-told2 .given .1)) ∙ m .survey-model .ensures .0 in
-    let none = ap (λ b. pointsOf (read b)) (sym same) ∙ no-points-refused (read (m .before .before .part .result .now)) seen in
-    let met = met-all (v .visit) (pointsOf (read (take n ws))) all in
-    let w = nothing-written (v .visit) (v .records) (metBy (v .visit) (pointsOf (read (take n ws)))) (v .out .now) (met ∙ none) in
+    let none = ap (λ b. pointsOf (read s b)) (sym (part .ensures)) ∙ no-points-refused (read s (part .result .now)) seen in
+    let w = nothing-written (v .visit) (v .records) (pointsOf (read s (take (v .length) (registers s)))) (v .out .now) none in
     (w .0, (w .1, m .survey-model .ensures .1 .1))
 
 same-length-3 : tie.Need-same-length-3
@@ -118,26 +97,21 @@ same-length-3 c = search needs
 same-length-4 : tie.Need-same-length-4
 same-length-4 c = search needs
 
-returns-4 : tie.Need-returns-4
-returns-4 c =
+returns-3 : tie.Need-returns-3
+returns-3 c =
     let m = c .before .before .before .before .before .before .before .before .before .before .before .before in
-    let v = m .before .before .before .before .before .before .before .before .before .before .args in
-    let all = sym (m .before .before .before .before .before .is-passed-over .ensures) ∙ m .before .before .before .before .if1 .left in
-    let read : List ℕ → Reading = λ body. reading (definitions (v .catalog .now)) (record { id = v .visit .id; body = body }) in
-    let same = m .before .before .part .ensures in
-    let body = take (v .length) (drop (v .visit .address + 2) (v .map .now)) in
-    let met = ap (λ b. pointsOf (read b)) same ∙ sym (met-all (v .visit) (pointsOf (read body)) all) in
+    let s = m .before .before .before .before .before .before .before .before in
+    let v = s .args in
+    let same = ap (λ b. pointsOf (read s b)) (m .before .before .part .ensures) in
     let put = c .before .before .before .before .put-model .ensures in (
-      put .0 ∙ ap (λ ps. v .records + length ps) met,
-      (put .1 .0 ∙ ap (λ ps. written (v .visit) (v .records) ps (v .out .now)) met, put .1 .1),
+      put .0 ∙ ap (λ ps. v .records + length ps) same,
+      (put .1 .0 ∙ ap (λ ps. written (v .visit) (v .records) ps (v .out .now)) same, put .1 .1),
     )
 
 pub put-known-spec : {M : Type 1} → statement M
 put-known-spec =
     tie.close
     (tie.spec
-    is-passed-over-requires
-    returns
     add-part
     part-requires
     survey-model-requires
@@ -146,9 +120,9 @@ put-known-spec =
     enum-known-survey
     put-model-requires
     same-length
-    returns-2
+    returns
     same-length-2
-    returns-3
+    returns-2
     same-length-3
     same-length-4
-    returns-4)
+    returns-3)

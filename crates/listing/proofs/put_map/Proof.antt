@@ -1,5 +1,4 @@
--- `listing::put_map` meets its contract: at each header, what is left leads to the list behind the whole, with all records or with
--- the point sought.
+-- `listing::put_map` meets its contract: at each header, what is left leads to the list after the whole.
 use mathlib.Core.Path.{sym, ap, subst, _∙_}
 use mathlib.Core.List.{List}
 use Prim.Native.Nat.{ℕ, _+_, _-_}
@@ -12,24 +11,23 @@ use Rattle.register_map.proofs.HeaderLaws.{opening-none}
 use Rattle.register_map.proofs.HeaderCases.{model-ends}
 use Rattle.layout.specs.Reading.{reading}
 use Rattle.layout.specs.Walks.{IsTable}
-use Rattle.layout.proofs.PointsInside.{points-few}
 use Rattle.listing.proofs.MapRecords.{WalkingMap, walking-starts, walking-ends, walking-refused, walking-late, walking-goes-on, walking-at}
 use Rattle.listing.proofs.put_map.Statement.{statement}
 use Rattle.listing.proofs.put_map.Tie as tie
 use borrow.Author.Needs.{needs}
 
 abbrev Inv-loop : tie.InvT-loop
-Inv-loop catalog map table₀ out₀ task sought at₀ index₀ records₀ table out at index records =
-    WalkingMap (reading (definitions catalog)) map out₀ out task sought at index records × IsTable table
+Inv-loop catalog map table₀ out₀ at₀ index₀ records₀ table out at index records =
+    WalkingMap (reading (definitions catalog)) map out₀ out at index records × IsTable table
 
 abbrev μ-loop : tie.MeasureT-loop
-μ-loop catalog map table₀ out₀ task sought at₀ index₀ records₀ table out at index records = length map - at
+μ-loop catalog map table₀ out₀ at₀ index₀ records₀ table out at index records = length map - at
 
 loop-holds : tie.Need-loop-holds Inv-loop μ-loop
 loop-holds c =
     let s = c .before .before .before .before in
     let v = s .args in
-    (walking-starts (reading (definitions (v .catalog .now))) (v .map .now) (v .out .now) (v .task) (v .sought) (s .pre .1 .1 .1), s .pre .1 .1 .0)
+    (walking-starts (reading (definitions (v .catalog .now))) (v .map .now) (v .out .now) (s .pre .1 .1 .1), s .pre .1 .1 .0)
 
 header-at-requires : tie.Need-header-at-requires Inv-loop μ-loop
 header-at-requires c κs = search needs
@@ -48,7 +46,7 @@ put-known-requires c κs =
     let g = k .header .given in
     let h = sym (k .before .before .header-at .ensures) ∙ ap headerForm (g .1) in
     let short = opening-none (s .args .map .now) (s .pre .1 .0) .0 in
-    let next = walking-goes-on (l .inv .0) (points-few (s .args .catalog .now) (s .pre .0)) short h in
+    let next = walking-goes-on (l .inv .0) short h in
     let ends = model-ends (eqb (l .at) 2) (s .args .map .now) (l .at) h in
     (s .pre .0, (l .inv .1, ((omega (arith, ends), omega (arith, ends, short), short), next .0)))
 
@@ -69,11 +67,11 @@ loop-again c =
     let g = k .header .given in
     let h = sym (k .before .before .header-at .ensures) ∙ ap headerForm (g .1) in
     let short = opening-none (s .args .map .now) (s .pre .1 .0) .0 in
-    let next = walking-goes-on (l .inv .0) (points-few (s .args .catalog .now) (s .pre .0)) short h in
+    let next = walking-goes-on (l .inv .0) short h in
     let p = c .before .before .before .before .before .put-known in
     let read = reading (definitions (s .args .catalog .now)) in
     let Goes : List ℕ → ℕ → Type 0 =
-    λ out n. WalkingMap read (s .args .map .now) (s .args .out .now) out (s .args .task) (s .args .sought) (c .behind-model .result) (l .index + 1) n in
+    λ out n. WalkingMap read (s .args .map .now) (s .args .out .now) out (c .behind-model .result) (l .index + 1) n in
     let on = subst (Goes _) (sym (p .ensures .0)) (walking-at (c .behind-model .ensures) (next .1)) in
     (subst (λ out. Goes out (p .result)) (sym (p .ensures .1 .0)) on, p .ensures .1 .1)
 

@@ -16,12 +16,12 @@ returns : tie.Need-returns
 returns c =
     let t = c .before .before .before .args in
     ap not (c .too-wide .ensures)
-    ∙ sym (ap (λ b. b && not (tooWide (t .target .size) (t .raw))) (sym (c .before .before .is-value .ensures) ∙ c .before .if1 .taken))
+    ∙ sym (ap (λ b. b && not (tooWide (t .point .size) (t .raw))) (sym (c .before .before .is-value .ensures) ∙ c .before .if1 .taken))
 
 returns-2 : tie.Need-returns-2
 returns-2 c =
     let t = c .before .before .args in
-    c .if1 .left ∙ sym (ap (λ b. b && not (tooWide (t .target .size) (t .raw))) (sym (c .before .is-value .ensures) ∙ c .if1 .left))
+    c .if1 .left ∙ sym (ap (λ b. b && not (tooWide (t .point .size) (t .raw))) (sym (c .before .is-value .ensures) ∙ c .if1 .left))
 
 pub can-hold-spec : {M : Type 1} → statement M
 can-hold-spec = tie.close (tie.spec is-value-requires too-wide-requires returns returns-2)

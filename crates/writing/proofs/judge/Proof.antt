@@ -12,17 +12,17 @@ is-unimplemented-requires c κs = search needs
 
 returns : tie.Need-returns
 returns c =
-    let v = c .before .before .before .args in
+    let v = c .before .before .before .before .args in
     access-refuses (targetForm (v .target)) (v .raw) (c .if1 .taken)
 
 returns-2 : tie.Need-returns-2
 returns-2 c =
-    let v = c .before .before .before .before .before .args in
+    let v = c .before .before .before .before .before .before .args in
     size-refuses (targetForm (v .target)) (v .raw) (c .before .before .if1 .left) (lt-ltb _ _ (c .if2 .taken))
 
 returns-3 : tie.Need-returns-3
 returns-3 c =
-    let v = c .before .before .before .before .before .before .args in
+    let v = c .before .before .before .before .before .before .before .args in
     present-refuses (targetForm (v .target)) (v .raw) (c .before .before .before .if1 .left) (le-ltb _ _ (c .before .if2 .left))
     (sym (c .before .before .before .before .is-unimplemented .ensures) ∙ c .if3 .taken)
 
@@ -31,13 +31,13 @@ can-hold-requires c κs = search needs
 
 returns-4 : tie.Need-returns-4
 returns-4 c =
-    let v = c .before .before .before .before .before .before .before .before .args in
+    let v = c .before .before .before .before .before .before .before .before .before .args in
     value-decides (targetForm (v .target)) (v .raw) (c .before .before .before .before .before .if1 .left) (le-ltb _ _ (c .before .before .before .if2 .left))
     (sym (c .before .before .before .before .before .before .is-unimplemented .ensures) ∙ c .before .before .if3 .left) (sym (c .before .can-hold .ensures) ∙ not-true _ (c .if4 .taken))
 
 returns-5 : tie.Need-returns-5
 returns-5 c =
-    let v = c .before .before .before .before .before .before .before .before .args in
+    let v = c .before .before .before .before .before .before .before .before .before .args in
     value-decides (targetForm (v .target)) (v .raw) (c .before .before .before .before .before .if1 .left) (le-ltb _ _ (c .before .before .before .if2 .left))
     (sym (c .before .before .before .before .before .before .is-unimplemented .ensures) ∙ c .before .before .if3 .left) (sym (c .before .can-hold .ensures) ∙ not-false _ (c .if4 .left))
 

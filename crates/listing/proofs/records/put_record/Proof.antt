@@ -6,10 +6,12 @@ use native.Mathlib.Omega.{arith}
 use lib.ListN.{getD}
 use lib.Seq.{sets}
 use Rattle.catalog.specs.Answers.{pointForm}
-use Rattle.layout.specs.Walks.{scopeIn}
+use Rattle.layout.specs.Points.{pointAt}
+use Rattle.layout.specs.Walks.{scopeIn, instanceIn}
 use Rattle.layout.proofs.PointClasses.{shown-at}
 use Rattle.listing.specs.Listing.{recordWidth}
 use Rattle.listing.proofs.PointRuns.{shown-numbers}
+use Rattle.listing.proofs.WrittenRecords.{written-one}
 use Rattle.listing.proofs.records.put_record.Statement.{statement}
 use Rattle.listing.proofs.records.put_record.Tie as tie
 use mir.Syntax.{w16, w64}
@@ -101,6 +103,8 @@ returns c =
     c .before .before .put .ensures
     ∙ ap (λ (ns : List ℕ). sets (a .out .now) (recordWidth * a .at .records) ns)
     (shown-numbers (a .visit) (a .body .now) (a .table .now) (a .instance .path .instances) (a .at .offset) p shown is)
+    ∙ written-one (a .visit) (a .at .records)
+    (pointAt (a .body .now) (instanceIn (a .table .now) (a .instance .path .instances)) (a .at .offset) p) (a .out .now)
 
 pub put-record-spec : {M : Type 1} → statement M
 put-record-spec =

@@ -6,7 +6,6 @@ use borrow.Author.Needs.{needs}
 use lib.ListN.{length}
 use Rattle.catalog.specs.Answers.{pointForm}
 use Rattle.layout.specs.Answers.{pointOrForm}
-use Rattle.listing.proofs.WrittenRecords.{capacity-bound}
 use Rattle.listing.proofs.PointRuns.{StillWrites, still-all, still-within, still-past, still-other, first-fits, still-first}
 use Rattle.listing.proofs.records.put_run.Statement.{statement}
 use Rattle.listing.proofs.records.put_run.Tie as tie
@@ -31,8 +30,8 @@ point-at-requires c κs = search needs
 enum-known-next : tie.Need-enum-known-next Inv-loop μ-loop
 enum-known-next c = search needs
 
-put-point-requires : tie.Need-put-point-requires Inv-loop μ-loop
-put-point-requires c κs =
+put-record-requires : tie.Need-put-record-requires Inv-loop μ-loop
+put-record-requires c κs =
     let head = c .before .before .before .before .before .before .before in
     let i = head .loop .inv in
     let read = c .before .before in
@@ -49,8 +48,7 @@ add-t16 c =
     let start = test .before .before .before .before .before .before .before in
     let f = sym (read .before .before .point-at .ensures) ∙ ap pointOrForm (read .next .given .1) in
     let fits = first-fits (l .inv) (pointForm (read .next .given .0 .0)) (test .if1 .taken) f in
-    let bound = capacity-bound (start .args .visit .task) (length (l .out)) in
-    omega (arith, fits .1, bound, l .inv .same, start .good .1 .1 .0 .0)
+    omega (arith, fits .1, l .inv .same, start .good .1 .1 .0 .0)
 
 cast-t17 : tie.Need-cast-t17 Inv-loop μ-loop
 cast-t17 c = search needs
@@ -76,7 +74,7 @@ loop-again c =
     let test = read .before .before .before in
     let f = sym (read .before .before .point-at .ensures) ∙ ap pointOrForm (read .next .given .1) in
     still-first (test .before .before .loop .inv) (pointForm (read .next .given .0 .0)) (test .if1 .taken) f
-    (put .put-point .last .1 .0) (put .put-point .ensures)
+    (put .put-record .last .1 .0) (put .put-record .ensures)
 
 enum-told : tie.Need-enum-told Inv-loop μ-loop
 enum-told c = search needs
@@ -104,7 +102,7 @@ put-run-spec =
     loop-holds
     point-at-requires
     enum-known-next
-    put-point-requires
+    put-record-requires
     add-t16
     cast-t17
     add-t18

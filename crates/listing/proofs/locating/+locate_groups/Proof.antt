@@ -1,0 +1,272 @@
+-- `listing::locating::locate_groups` meets its contract: at each group, the instance or what is past the group decides as all do.
+use mathlib.Core.Path.{_≡_, refl, sym, ap, _∙_}
+use mathlib.Core.Logic.{⊎-elim}
+use mathlib.Core.Option.{some}
+use Prim.Native.Nat.{ℕ, _-_, _/_, _<_}
+use native.Mathlib.Omega.{arith}
+use borrow.Author.Needs.{needs}
+use borrow.Fn.Kinds.{In}
+use borrow.Fn.PlainCycle.{Measures, is, falls, and}
+use lib.ListN.{length}
+use Rattle.catalog.specs.Frames.{frameIn}
+use Rattle.catalog.specs.Answers.{headForm}
+use Rattle.layout.specs.Layout.{countOf}
+use Rattle.layout.specs.Walks.{heldAt, headOf, levelOf, scopeIn}
+use Rattle.layout.specs.Locating.{locatedIn}
+use Rattle.layout.proofs.Standing as standing
+use Rattle.layout.specs.Answers.{groupOrForm}
+use Rattle.listing.specs.Answers.{locatedForm}
+use Rattle.listing.specs.Promises.{LocateAsks}
+use Rattle.listing.proofs.LocatedGroups as steps
+use Rattle.listing.proofs.locating.locate_groups.Reads as reads
+use Rattle.listing.proofs.locating.locate_groups.Kinds as kinds
+use Rattle.listing.proofs.locating.+locate_groups.Lts-locate_groups as lts
+use Rattle.layout.proofs.group_at.Reads as group-at-reads
+use Rattle.listing.proofs.locating.locate_own.Reads as locate-own-reads
+use Rattle.listing.proofs.locating.number_at.Reads as number-at-reads
+use Rattle.listing.proofs.locating.shape_of.Reads as shape-of-reads
+use Rattle.listing.proofs.locating.+locate_groups.{statement}
+use Rattle.listing.proofs.locating.+locate_groups.Tie.{close}
+
+-- The levels fall.
+abbrev μ : Measures 2 kinds.ps ℕ
+μ κs a = a .1 .1 .1 .0
+
+abbrev asked : ℕ → In 2 kinds.ps
+asked t = and 2 kinds.ps (is 2 kinds.ps μ t) reads.Pre
+
+abbrev asked-below : ℕ → In 2 kinds.ps
+asked-below t = and 2 kinds.ps (falls 2 kinds.ps _<_ μ t) reads.Pre
+
+abbrev known : ℕ → lts.Claims
+known t = (
+  group-at-reads.Asked,
+  group-at-reads.Learnt,
+  shape-of-reads.Asked,
+  shape-of-reads.Learnt,
+  number-at-reads.Asked,
+  number-at-reads.Learnt,
+  locate-own-reads.Asked,
+  locate-own-reads.Learnt,
+  asked-below t,
+  reads.Post,
+)
+
+abbrev Inv-loop : lts.InvT-loop
+Inv-loop catalog table fill levels key frames at₀ at =
+    LocateAsks catalog table fill levels (at .frame) (at .offset)
+    × (locatedIn (countOf (scopeIn table) fill) (key .number) (key .path .instances) (levelOf levels) (at .offset)
+    (heldAt catalog (at .frame) .groups)
+    ≡ locatedIn (countOf (scopeIn table) fill) (key .number) (key .path .instances) (levelOf levels) (at₀ .offset)
+    (heldAt catalog (at₀ .frame) .groups))
+    × (frames ≡ length catalog / 8)
+
+abbrev μ-loop : lts.MeasureT-loop
+μ-loop catalog table fill levels key frames at₀ at = frames - at .frame
+
+module _ (t : ℕ) where
+  -- The places at which the group's shape and the path's number are known.
+  abbrev AtShape : Type 0
+  AtShape = lts.After-shape-of (known t) (asked t) reads.Post Inv-loop μ-loop
+
+  abbrev AtNumber : Type 0
+  AtNumber = lts.After-number-at (known t) (asked t) reads.Post Inv-loop μ-loop
+
+  -- The head of the group.
+  head-there : (c : AtShape)
+      → headOf (frameIn (c .before .before .before .before .before .before .before .before .before .before .args .catalog .now) (c .before .before .before .before .before .before .before .loop .at .frame)) ≡ some (headForm (c .before .before .next .given .0 .0))
+  head-there c = sym (c .before .before .before .before .group-at .ensures) ∙ ap groupOrForm (c .before .before .next .given .1)
+
+  loop-holds : lts.Need-loop-holds (known t) (asked t) reads.Post Inv-loop μ-loop
+  loop-holds c = (c .before .before .pre .1 .0, refl, refl)
+
+  group-at-requires : lts.Need-group-at-requires (known t) (asked t) reads.Post Inv-loop μ-loop
+  group-at-requires c κs = search needs
+
+  enum-known-next : lts.Need-enum-known-next (known t) (asked t) reads.Post Inv-loop μ-loop
+  enum-known-next c = search needs
+
+  shape-of-requires : lts.Need-shape-of-requires (known t) (asked t) reads.Post Inv-loop μ-loop
+  shape-of-requires c κs =
+      let asks = c .before .before .before .before .before .before .loop .inv .0 in (
+        asks .standing,
+        (
+          (asks .isTable, asks .atMost3, asks .filling),
+          sym (c .before .before .before .group-at .ensures) ∙ ap groupOrForm (c .before .next .given .1),
+        ),
+      )
+
+  number-at-requires : lts.Need-number-at-requires (known t) (asked t) reads.Post Inv-loop μ-loop
+  number-at-requires c κs =
+      let asks = c .before .before .before .before .before .before .before .loop .inv .0 in
+      (steps.level-left asks (head-there c) (c .shape-of .ensures), asks .atMost3, c .before .before .before .before .before .before .before .before .before .before .pre .1 .1)
+
+  add-locate-groups : lts.Need-add-locate-groups (known t) (asked t) reads.Post Inv-loop μ-loop
+  add-locate-groups c = search needs
+
+  mul-locate-own : lts.Need-mul-locate-own (known t) (asked t) reads.Post Inv-loop μ-loop
+  mul-locate-own c =
+      let a = c .before .before .before .before .before .before .before .before .before .before .before .before .before .before .before .args in
+      let l : c .before .before .before .before .number-at .result < c .before .before .before .before .before .shape-of .result .count = omega (arith, c .before .before .if2) in
+      omega (
+        arith,
+        steps.instance-within (c .before .before .before .before .before .before .before .before .before .before .before .before .loop .inv .0) (head-there (c .before .before .before .before .before)) (c .before .before .before .before .before .shape-of .ensures) (a .key .number) (a .key .path .instances)
+            (c .before .before .before .before .number-at .ensures) l,
+      )
+
+  add-locate-own : lts.Need-add-locate-own (known t) (asked t) reads.Post Inv-loop μ-loop
+  add-locate-own c =
+      let a = c .before .before .before .before .before .before .before .before .before .before .before .before .before .before .before .before .args in
+      let l : c .before .before .before .before .before .number-at .result < c .before .before .before .before .before .before .shape-of .result .count = omega (arith, c .before .before .before .if2) in
+      omega (
+        arith,
+        steps.instance-within (c .before .before .before .before .before .before .before .before .before .before .before .before .before .loop .inv .0) (head-there (c .before .before .before .before .before .before)) (c .before .before .before .before .before .before .shape-of .ensures) (a .key .number) (a .key .path .instances)
+            (c .before .before .before .before .before .number-at .ensures) l,
+      )
+
+  add-locate-groups-2 : lts.Need-add-locate-groups-2 (known t) (asked t) reads.Post Inv-loop μ-loop
+  add-locate-groups-2 c =
+      let a = c .before .before .before .before .before .before .before .before .before .before .before .before .before .before .before .before .before .before .args in
+      let l : c .before .before .before .before .before .before .before .number-at .result < c .before .before .before .before .before .before .before .before .shape-of .result .count = omega (arith, c .before .before .before .before .before .if2) in
+      omega (
+        arith,
+        steps.own-within (c .before .before .before .before .before .before .before .before .before .before .before .before .before .before .before .loop .inv .0) (head-there (c .before .before .before .before .before .before .before .before)) (c .before .before .before .before .before .before .before .before .shape-of .ensures) (a .key .number) (a .key .path .instances)
+            (c .before .before .before .before .before .before .before .number-at .ensures) l,
+      )
+
+  sub-locate-own : lts.Need-sub-locate-own (known t) (asked t) reads.Post Inv-loop μ-loop
+  sub-locate-own c =
+      steps.level-left (c .before .before .before .before .before .before .before .before .before .before .before .before .before .before .before .loop .inv .0) (head-there (c .before .before .before .before .before .before .before .before)) (c .before .before .before .before .before .before .before .before .shape-of .ensures)
+
+  locate-own-requires : lts.Need-locate-own-requires (known t) (asked t) reads.Post Inv-loop μ-loop
+  locate-own-requires c κs =
+      let a = c .before .before .before .before .before .before .before .before .before .before .before .before .before .before .before .before .before .before .args in
+      let l : c .before .before .before .before .before .before .before .number-at .result < c .before .before .before .before .before .before .before .before .shape-of .result .count = omega (arith, c .before .before .before .before .before .if2) in
+      let asks = c .before .before .before .before .before .before .before .before .before .before .before .before .before .before .before .loop .inv .0 in (
+        (steps.own-stands (c .before .before .before .before .before .before .before .before .before .before .before .before .before .before .before .loop .inv .0) (head-there (c .before .before .before .before .before .before .before .before)) (c .before .before .before .before .before .before .before .before .shape-of .ensures), asks .standing .few),
+        (
+          steps.own-within (c .before .before .before .before .before .before .before .before .before .before .before .before .before .before .before .loop .inv .0) (head-there (c .before .before .before .before .before .before .before .before)) (c .before .before .before .before .before .before .before .before .shape-of .ensures) (a .key .number) (a .key .path .instances)
+              (c .before .before .before .before .before .before .before .number-at .ensures) l,
+          omega (arith, asks .atMost3),
+          c .before .before .before .before .before .before .before .before .before .before .before .before .before .before .before .before .before .before .pre .1 .1,
+        ),
+      )
+
+  enum-known-found : lts.Need-enum-known-found (known t) (asked t) reads.Post Inv-loop μ-loop
+  enum-known-found c = search needs
+
+  returns : lts.Need-returns (known t) (asked t) reads.Post Inv-loop μ-loop
+  returns c =
+      let a = c .before .before .before .before .before .before .before .before .before .before .before .before .before .before .before .before .before .before .before .before .before .before .args in
+      let l : c .before .before .before .before .before .before .before .before .before .before .before .number-at .result < c .before .before .before .before .before .before .before .before .before .before .before .before .shape-of .result .count = omega (arith, c .before .before .before .before .before .before .before .before .before .if2) in
+      let e = sym (c .before .before .before .locate-own .ensures) ∙ ap locatedForm (c .before .found .given .1) in
+      steps.found-own (c .before .before .before .before .before .before .before .before .before .before .before .before .before .before .before .before .before .before .before .loop .inv .0) (head-there (c .before .before .before .before .before .before .before .before .before .before .before .before)) (c .before .before .before .before .before .before .before .before .before .before .before .before .shape-of .ensures) (a .key .number) (a .key .path .instances)
+      (c .before .before .before .before .before .before .before .before .before .before .before .number-at .ensures) l e ∙ c .before .before .before .before .before .before .before .before .before .before .before .before .before .before .before .before .before .before .before .loop .inv .1
+
+  enum-told : lts.Need-enum-told (known t) (asked t) reads.Post Inv-loop μ-loop
+  enum-told c = search needs
+
+  sub-locate-groups : lts.Need-sub-locate-groups (known t) (asked t) reads.Post Inv-loop μ-loop
+  sub-locate-groups c =
+      steps.level-left (c .before .before .before .before .before .before .before .before .before .before .before .before .before .before .before .before .before .before .loop .inv .0) (head-there (c .before .before .before .before .before .before .before .before .before .before .before)) (c .before .before .before .before .before .before .before .before .before .before .before .shape-of .ensures)
+
+  locate-groups-requires : lts.Need-locate-groups-requires (known t) (asked t) reads.Post Inv-loop μ-loop
+  locate-groups-requires c κs =
+      let a = c .before .before .before .before .before .before .before .before .before .before .before .before .before .before .before .before .before .before .before .before .before .args in
+      let l : c .before .before .before .before .before .before .before .before .before .before .number-at .result < c .before .before .before .before .before .before .before .before .before .before .before .shape-of .result .count = omega (arith, c .before .before .before .before .before .before .before .before .if2) in
+      let z = steps.level-left (c .before .before .before .before .before .before .before .before .before .before .before .before .before .before .before .before .before .before .loop .inv .0) (head-there (c .before .before .before .before .before .before .before .before .before .before .before)) (c .before .before .before .before .before .before .before .before .before .before .before .shape-of .ensures) in (
+        omega (arith, z, c .before .before .before .before .before .before .before .before .before .before .before .before .before .before .before .before .before .before .before .before .before .pre .0),
+        (
+          steps.lower-asks (c .before .before .before .before .before .before .before .before .before .before .before .before .before .before .before .before .before .before .loop .inv .0) (head-there (c .before .before .before .before .before .before .before .before .before .before .before)) (c .before .before .before .before .before .before .before .before .before .before .before .shape-of .ensures) (a .key .number) (a .key .path .instances)
+              (c .before .before .before .before .before .before .before .before .before .before .number-at .ensures) l,
+          c .before .before .before .before .before .before .before .before .before .before .before .before .before .before .before .before .before .before .before .before .before .pre .1 .1,
+        ),
+      )
+
+  enum-known-found-2 : lts.Need-enum-known-found-2 (known t) (asked t) reads.Post Inv-loop μ-loop
+  enum-known-found-2 c = search needs
+
+  returns-2 : lts.Need-returns-2 (known t) (asked t) reads.Post Inv-loop μ-loop
+  returns-2 c =
+      let a = c .before .before .before .before .before .before .before .before .before .before .before .before .before .before .before .before .before .before .before .before .before .before .before .before .before .args in
+      let l : c .before .before .before .before .before .before .before .before .before .before .before .before .before .before .number-at .result < c .before .before .before .before .before .before .before .before .before .before .before .before .before .before .before .shape-of .result .count = omega (arith, c .before .before .before .before .before .before .before .before .before .before .before .before .if2) in
+      let e = sym (c .before .before .before .before .before .before .locate-own .ensures) ∙ ap locatedForm (c .before .before .before .before .enum-told .given .1) in
+      let f = sym (c .before .before .before .locate-groups .ensures) ∙ ap locatedForm (c .before .found2 .given .1) in
+      steps.found-lower (c .before .before .before .before .before .before .before .before .before .before .before .before .before .before .before .before .before .before .before .before .before .before .loop .inv .0) (head-there (c .before .before .before .before .before .before .before .before .before .before .before .before .before .before .before)) (c .before .before .before .before .before .before .before .before .before .before .before .before .before .before .before .shape-of .ensures) (a .key .number) (a .key .path .instances)
+      (c .before .before .before .before .before .before .before .before .before .before .before .before .before .before .number-at .ensures) l e f ∙ c .before .before .before .before .before .before .before .before .before .before .before .before .before .before .before .before .before .before .before .before .before .before .loop .inv .1
+
+  enum-told-2 : lts.Need-enum-told-2 (known t) (asked t) reads.Post Inv-loop μ-loop
+  enum-told-2 c = search needs
+
+  mul-t25 : lts.Need-mul-t25 (known t) (asked t) reads.Post Inv-loop μ-loop
+  mul-t25 c =
+      omega (arith, steps.past-asks (c .before .before .before .before .before .before .before .before .before .before .before .loop .inv .0) (head-there (c .before .before .before .before)) (c .before .before .before .before .shape-of .ensures) .inside)
+
+  add-t26 : lts.Need-add-t26 (known t) (asked t) reads.Post Inv-loop μ-loop
+  add-t26 c =
+      omega (arith, steps.past-asks (c .before .before .before .before .before .before .before .before .before .before .before .before .loop .inv .0) (head-there (c .before .before .before .before .before)) (c .before .before .before .before .before .shape-of .ensures) .inside)
+
+  loop-less : lts.Need-loop-less (known t) (asked t) reads.Post Inv-loop μ-loop
+  loop-less c =
+      let n = c .before .before .before .before .before .shape-of .ensures .next in
+      omega (arith, n, c .before .before .before .before .before .before .before .before .before .before .if1)
+
+  loop-again : lts.Need-loop-again (known t) (asked t) reads.Post Inv-loop μ-loop
+  loop-again c =
+      let a = c .before .before .before .before .before .before .before .before .before .before .before .before .before .before .before .args in
+      let same = ⊎-elim
+      (λ w.
+      let l : c .before .before .before .before .number-at .result < c .before .before .before .before .before .shape-of .result .count = omega (arith, w .0) in
+      steps.found-neither (c .before .before .before .before .before .before .before .before .before .before .before .before .loop .inv .0) (head-there (c .before .before .before .before .before)) (c .before .before .before .before .before .shape-of .ensures) (a .key .number) (a .key .path .instances)
+      (c .before .before .before .before .number-at .ensures) l
+      (sym (w .6 .ensures) ∙ ap locatedForm (w .8 .given .1))
+      (sym (w .9 .ensures) ∙ ap locatedForm (w .11 .given .1)))
+      (λ w. steps.goes-past (c .before .before .before .before .before .before .before .before .before .before .before .before .loop .inv .0) (head-there (c .before .before .before .before .before)) (c .before .before .before .before .before .shape-of .ensures) (a .key .number) (a .key .path .instances)
+      (c .before .before .before .before .number-at .ensures) (omega (arith, w)))
+      (c .before .before .if2 .came) in
+      (steps.past-asks (c .before .before .before .before .before .before .before .before .before .before .before .before .loop .inv .0) (head-there (c .before .before .before .before .before)) (c .before .before .before .before .before .shape-of .ensures), sym same ∙ c .before .before .before .before .before .before .before .before .before .before .before .before .loop .inv .1, refl)
+
+  enum-told-3 : lts.Need-enum-told-3 (known t) (asked t) reads.Post Inv-loop μ-loop
+  enum-told-3 c = search needs
+
+  returns-3 : lts.Need-returns-3 (known t) (asked t) reads.Post Inv-loop μ-loop
+  returns-3 c =
+      let a = c .before .before .before .before .before .before .before .before .args in
+      let l = c .before .before .before .before .before .loop in
+      let e = sym (c .before .before .group-at .ensures) ∙ ap groupOrForm (c .enum-told3 .given .1) in
+      sym (steps.ends (l .inv .0) e (a .key .number) (a .key .path .instances)) ∙ l .inv .1
+
+  returns-4 : lts.Need-returns-4 (known t) (asked t) reads.Post Inv-loop μ-loop
+  returns-4 c =
+      let l = c .before .before .loop in
+      let s = standing.stands-within (c .before .before .before .before .before .args .catalog .now) (l .at .frame) (l .inv .0 .standing .stands) in
+      absurd (omega (arith, s, l .inv .2, c .if1))
+
+pub +locate-groups-spec : {M : Type 1} → statement M
++locate-groups-spec = close μ λ t. lts.spec (known t) (asked t) reads.Post Inv-loop μ-loop
+    (loop-holds t)
+    (group-at-requires t)
+    (enum-known-next t)
+    (shape-of-requires t)
+    (number-at-requires t)
+    (add-locate-groups t)
+    (mul-locate-own t)
+    (add-locate-own t)
+    (add-locate-groups-2 t)
+    (sub-locate-own t)
+    (locate-own-requires t)
+    (enum-known-found t)
+    (returns t)
+    (enum-told t)
+    (sub-locate-groups t)
+    (locate-groups-requires t)
+    (enum-known-found-2 t)
+    (returns-2 t)
+    (enum-told-2 t)
+    (mul-t25 t)
+    (add-t26 t)
+    (loop-less t)
+    (loop-again t)
+    (enum-told-3 t)
+    (returns-3 t)
+    (returns-4 t)

@@ -1,0 +1,84 @@
+-- `listing::locating::locate_model` meets its contract: the top points are searched, then the groups.
+use mathlib.Core.Path.{_≡_, sym, ap, subst, _∙_}
+use mathlib.Core.Option.{Option}
+use Prim.Native.Nat.{ℕ}
+use borrow.Author.Needs.{needs}
+use Rattle.catalog.specs.Definitions.{Groups, pointsSize}
+use Rattle.layout.specs.Layout.{countOf}
+use Rattle.layout.specs.Walks.{heldAt, scopeIn}
+use Rattle.layout.specs.Locating.{Located, orElse, locatedIn}
+use Rattle.layout.specs.Answers as Layout
+use Rattle.layout.proofs.Standing as standing
+use Rattle.layout.proofs.RunSteps.{run-whole}
+use Rattle.listing.specs.Answers.{locatedForm}
+use Rattle.listing.specs.Promises.{RunOf, LocateAsks}
+use Rattle.listing.proofs.locating.locate_model.Statement.{statement}
+use Rattle.listing.proofs.locating.locate_model.Tie as tie
+
+-- What locating in the groups results in, by the offset where they begin.
+abbrev lower : tie.Start → ℕ → Groups → Option Located
+lower s =
+    let a = s .args in
+    locatedIn (countOf (scopeIn (a .table .now)) (a .fill)) (a .key .number) (a .key .path .instances) 2
+
+locate-own-requires : tie.Need-locate-own-requires
+locate-own-requires c κs = search needs
+
+enum-known-found : tie.Need-enum-known-found
+enum-known-found c = search needs
+
+returns : tie.Need-returns
+returns c =
+    let s = c .before .before .before .before .before .before in
+    let top = heldAt (s .args .catalog .now) (s .args .first) in
+    let e = sym (c .before .before .before .locate-own .ensures) ∙ ap locatedForm (c .before .found .given .1) in
+    sym (ap (λ o. orElse o (lower s (pointsSize (top .points)) (top .groups))) e)
+
+enum-told : tie.Need-enum-told
+enum-told c = search needs
+
+run-extent-requires : tie.Need-run-extent-requires
+run-extent-requires c κs = search needs
+
+-- The run is the top points.
+top-run : (c : tie.After-run-extent) → RunOf (c .before .before .before .before .before .before .args .catalog .now) (c .before .before .before .before .before .before .args .first) (c .run-extent .result)
+top-run c =
+    let s = c .before .before .before .before .before .before in
+    let a = s .args in
+    subst (λ ps. Layout.RunOf ps (a .first) (c .run-extent .result))
+    (run-whole (a .catalog .now) (a .first) (s .pre .0 .stands) (s .pre .0 .groups .standing .few)) (c .run-extent .ensures)
+
+locate-groups-requires : tie.Need-locate-groups-requires
+locate-groups-requires c κs =
+    let s = c .before .before .before .before .before .before in
+    let a = s .args in
+    let run = top-run c in
+    let Asks : ℕ → ℕ → Type 0 = LocateAsks (a .catalog .now) (a .table .now) (a .fill) 3 in
+    (subst (λ n. Asks n (c .run-extent .result .size)) (sym (run .next)) (subst (Asks _) (sym (run .size)) (s .pre .0 .groups)), s .pre .1)
+
+returns-2 : tie.Need-returns-2
+returns-2 c =
+    let s = c .before .before .before .before .before .before .before in
+    let a = s .args in
+    let top = heldAt (a .catalog .now) (a .first) in
+    let run = top-run (c .before) in
+    let none = sym (c .before .before .before .before .locate-own .ensures) ∙ ap locatedForm (c .before .before .enum-told .given .1) in
+    let there : heldAt (a .catalog .now) (c .before .run-extent .result .next) .groups ≡ top .groups =
+    ap (λ n. heldAt (a .catalog .now) n .groups) (run .next)
+    ∙ standing.behind-run (a .catalog .now) (a .first) (s .pre .0 .stands) .1 in
+    c .locate-groups .ensures
+    ∙ ap (lower s (c .before .run-extent .result .size)) there
+    ∙ ap (λ n. lower s n (top .groups)) (run .size)
+    ∙ sym (ap (λ o. orElse o (lower s (pointsSize (top .points)) (top .groups))) none)
+
+pub locate-model-spec : {M : Type 1} → statement M
+locate-model-spec =
+    tie.close
+    (tie.spec
+    locate-own-requires
+    enum-known-found
+    returns
+    enum-told
+    run-extent-requires
+    locate-groups-requires
+    returns-2)

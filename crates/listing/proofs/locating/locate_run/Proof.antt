@@ -1,0 +1,115 @@
+-- `listing::locating::locate_run` meets its contract: looking among the points that are left gives what looking among all gives.
+use mathlib.Core.Path.{_≡_, refl, sym, ap, _∙_}
+use mathlib.Core.List.{List}
+use Prim.Native.Nat.{_+_, _-_, _/_}
+use native.Mathlib.Omega.{arith}
+use borrow.Author.Needs.{needs}
+use lib.ListN.{length}
+use Rattle.catalog.specs.Frames.{Point}
+use Rattle.catalog.specs.Answers.{pointForm}
+use Rattle.layout.specs.Walks.{heldAt, Stands, begun}
+use Rattle.layout.specs.Locating.{locatedAmong}
+use Rattle.layout.proofs.Standing as standing
+use Rattle.layout.proofs.LocatingSteps.{none-left, none-past, found-first, not-first}
+use Rattle.layout.specs.Answers.{pointOrForm}
+use Rattle.listing.proofs.locating.locate_run.Statement.{statement}
+use Rattle.listing.proofs.locating.locate_run.Tie as tie
+
+abbrev Inv-loop : tie.InvT-loop
+Inv-loop catalog limit number at₀ at =
+    (locatedAmong number (at .offset) (begun limit (at .offset) (heldAt catalog (at .frame) .points))
+    ≡ locatedAmong number (at₀ .offset) (begun limit (at₀ .offset) (heldAt catalog (at₀ .frame) .points)))
+    × Stands catalog (at .frame)
+
+abbrev μ-loop : tie.MeasureT-loop
+μ-loop catalog limit number at₀ at = length catalog / 8 - at .frame
+
+loop-holds : tie.Need-loop-holds Inv-loop μ-loop
+loop-holds c = (refl, c .before .pre .0 .0)
+
+point-at-requires : tie.Need-point-at-requires Inv-loop μ-loop
+point-at-requires c κs = search needs
+
+enum-known-next : tie.Need-enum-known-next Inv-loop μ-loop
+enum-known-next c = search needs
+
+returns : tie.Need-returns Inv-loop μ-loop
+returns c =
+    let a = c .before .before .before .before .before .before .before .before .before .before .args in
+    let l = c .before .before .before .before .before .before .before .before .loop in
+    let p = pointForm (c .before .before .before .next .given .0 .0) in
+    let f = sym (c .before .before .before .before .before .point-at .ensures) ∙ ap pointOrForm (c .before .before .before .next .given .1) in
+    let next = standing.point-next (a .catalog .now) (l .at .frame) (l .inv .1) p f in
+    sym (found-first (a .number) (a .limit) (l .at .offset) p (heldAt (a .catalog .now) (l .at .frame + 1) .points) (omega arith)
+    (omega (arith, c .if2)))
+    ∙ ap (λ (ps : List Point). locatedAmong (a .number) (l .at .offset) (begun (a .limit) (l .at .offset) ps)) (sym (next .0))
+    ∙ l .inv .0
+
+add-t11 : tie.Need-add-t11 Inv-loop μ-loop
+add-t11 c =
+    let l = c .before .before .before .before .before .before .before .before .before .loop in
+    omega (arith, standing.stands-within (c .before .before .before .before .before .before .before .before .before .before .before .args .catalog .now) (l .at .frame) (l .inv .1))
+
+cast-t12 : tie.Need-cast-t12 Inv-loop μ-loop
+cast-t12 c = search needs
+
+add-t13 : tie.Need-add-t13 Inv-loop μ-loop
+add-t13 c = search needs
+
+loop-less : tie.Need-loop-less Inv-loop μ-loop
+loop-less c =
+    let l = c .before .before .before .before .before .before .before .before .before .before .before .loop in
+    omega (arith, standing.stands-within (c .before .before .before .before .before .before .before .before .before .before .before .before .before .args .catalog .now) (l .at .frame) (l .inv .1))
+
+loop-again : tie.Need-loop-again Inv-loop μ-loop
+loop-again c =
+    let a = c .before .before .before .before .before .before .before .before .before .before .before .before .before .args in
+    let l = c .before .before .before .before .before .before .before .before .before .before .before .loop in
+    let p = pointForm (c .before .before .before .before .before .before .next .given .0 .0) in
+    let f = sym (c .before .before .before .before .before .before .before .before .point-at .ensures) ∙ ap pointOrForm (c .before .before .before .before .before .before .next .given .1) in
+    let next = standing.point-next (a .catalog .now) (l .at .frame) (l .inv .1) p f in (
+      sym (not-first (a .number) (a .limit) (l .at .offset) p (heldAt (a .catalog .now) (l .at .frame + 1) .points) (omega arith)
+          (c .before .before .before .if2 .left))
+          ∙ ap (λ (ps : List Point). locatedAmong (a .number) (l .at .offset) (begun (a .limit) (l .at .offset) ps)) (sym (next .0))
+          ∙ l .inv .0,
+      next .2,
+    )
+
+enum-told : tie.Need-enum-told Inv-loop μ-loop
+enum-told c = search needs
+
+returns-2 : tie.Need-returns-2 Inv-loop μ-loop
+returns-2 c =
+    let a = c .before .before .before .before .before .before .before .args in
+    let l = c .before .before .before .before .before .loop in
+    let f = sym (c .before .before .point-at .ensures) ∙ ap pointOrForm (c .enum-told .given .1) in
+    let none = standing.no-point (a .catalog .now) (l .at .frame) (l .inv .1) f in
+    sym (none-left (a .number) (a .limit) (l .at .offset))
+    ∙ ap (λ (ps : List Point). locatedAmong (a .number) (l .at .offset) (begun (a .limit) (l .at .offset) ps)) (sym none)
+    ∙ l .inv .0
+
+returns-3 : tie.Need-returns-3 Inv-loop μ-loop
+returns-3 c =
+    let a = c .before .before .before .before .args in
+    let l = c .before .before .loop in
+    sym (none-past (a .number) (a .limit) (l .at .offset) (heldAt (a .catalog .now) (l .at .frame) .points) (omega arith))
+    ∙ l .inv .0
+
+pub locate-run-spec : {M : Type 1} → statement M
+locate-run-spec =
+    tie.close
+    (tie.spec
+    Inv-loop
+    μ-loop
+    loop-holds
+    point-at-requires
+    enum-known-next
+    returns
+    add-t11
+    cast-t12
+    add-t13
+    loop-less
+    loop-again
+    enum-told
+    returns-2
+    returns-3)
