@@ -1,89 +1,92 @@
 -- One frame of the code's loop: what is left to check, with the state so far, decides as the whole does.
-use mathlib.Core.Path.{_≡_, sym, ap, _∙_}
+use mathlib.Core.Path.{_≡_, refl, sym, ap, _∙_}
 use mathlib.Core.Bool.{Bool, true, false}
 use mathlib.Core.List.{List, _∷_}
 use mathlib.Core.Option.{none, some}
-use Prim.Native.Nat.{ℕ, _+_, _/_, _≤_, _<_}
+use Prim.Native.Nat.{ℕ, _+_, _-_, _/_, _≤_, _<_}
 use native.Mathlib.Omega.{arith}
 use borrow.Author.Tests.{eq-eqb, ne-eqb}
 use lib.Dec.{eqb}
-use lib.ListN.{length}
+use lib.ListN.{length, getD}
 use Rattle.lists.specs.Tests.{firstBroken}
-use Rattle.catalog.specs.Frames.{Frame, frameAt}
+use Rattle.lists.proofs.TestLaws.{none-broken}
+use Rattle.number_sets.specs.NumberSets.{Marks}
+use Rattle.catalog.specs.Frames.{frameAt, word}
 use Rattle.catalog.specs.State as check
-use Rattle.catalog.specs.Rules.{run, noModel, fault}
+use Rattle.catalog.specs.Rules.{run, noModel, rules, fault}
 use Rattle.catalog.specs.Checking.{accepted, refused, checkFrom, framesChecked}
-use Rattle.catalog.specs.IdSets.{idsBehind, IdFits}
-use Rattle.catalog.specs.Scans.{framesOnward}
-use Rattle.catalog.specs.Tracking.{Tracks, Room, codeRules, stateBehind}
-use Rattle.catalog.specs.Marks.{Keeps, Indexed, NumbersBehind, ScalesBehind, CountsBehind, BlankAtModel}
+use Rattle.catalog.specs.Answers.{IdFits}
+use Rattle.catalog.specs.Scans.{framesOnward, hasNumber}
+use Rattle.catalog.specs.Tracking.{Tracks, Room, codeRules, stateOf}
+use Rattle.catalog.specs.Marks.{Begun, BlankAtModel, Indexed, ScalesAfter}
 use Rattle.catalog.specs.declared.state.State.{State}
 use Rattle.catalog.proofs.WordScans.{frames-more, frames-none}
 use Rattle.catalog.proofs.CheckSteps as steps
 use Rattle.catalog.proofs.FreshNumbers.{Fresh, fresh-next}
 use Rattle.catalog.proofs.MarkedFrames as marked
 use Rattle.catalog.proofs.TrackedRules.{same-fault, none-open}
-use Rattle.catalog.proofs.TrackedState.{tracks-next, has-room}
+use Rattle.catalog.proofs.TrackedState.{tracks-next, has-room, state-here}
 
--- Before frame i the code's state and set of ids stand for a state from which the rest decides.
+-- Before frame i the code's state and set of ids agree with a state from which the rest decides.
 pub record Decides (ws used : List ℕ) (i : ℕ) (c : State) : Type 0 where
   pub state : check.State
   pub tracks : Tracks ws used i c state
   pub rest : checkFrom state i (framesOnward ws i) ≡ framesChecked ws
 
-module _ (ws used : List ℕ) (i : ℕ) (c : State) (d : Decides ws used i c)
-    (f : Frame) (u : IdFits f) (h : i < length ws / 8) (e : f ≡ frameAt ws i) where
-  frames-here : framesOnward ws i ≡ f ∷ framesOnward ws (i + 1)
-  frames-here = frames-more ws i h ∙ ap (λ x. x ∷ framesOnward ws (i + 1)) (sym e)
-
-  fault-here : firstBroken (codeRules ws used i c f) ≡ fault (d .state) f (run (framesOnward ws i))
-  fault-here =
-      same-fault ws used i c (d .state) (d .tracks) f (framesOnward ws (i + 1)) u frames-here
-      ∙ ap (λ fs. fault (d .state) f (run fs)) (sym frames-here)
-
-  pub room-here : none ≡ firstBroken (codeRules ws used i c f) → Room c f
-  room-here n = has-room ws used i c (d .state) (d .tracks) f (run (framesOnward ws i)) (sym (n ∙ fault-here))
-
-  pub goes-on : none ≡ firstBroken (codeRules ws used i c f) → Decides ws (idsBehind used f) (i + 1) (stateBehind c i f)
-  goes-on n =
-      let unbroken = sym (n ∙ fault-here) in
-      record {
-        state = check.next (d .state) f;
-        tracks = tracks-next ws used i c (d .state) (d .tracks) f u (sym e) frames-here unbroken;
-        rest = sym (steps.goes-on (d .state) i f (framesOnward ws (i + 1)) (framesOnward ws i) frames-here unbroken) ∙ d .rest;
-      }
-
-  pub refused-here : (r : ℕ) → some r ≡ firstBroken (codeRules ws used i c f) → refused r i ≡ framesChecked ws
-  refused-here r n =
-      let broken = sym (n ∙ fault-here) in
-      sym (steps.is-refused (d .state) i f (framesOnward ws (i + 1)) (framesOnward ws i) frames-here r broken) ∙ d .rest
-
--- Before frame i, with all that the code keeps of the frames so far.
-pub record Stands (ws used numbers scales : List ℕ) (u i : ℕ) (c : State) : Type 0 where
+-- The same, with all that the code keeps of the frames so far.
+pub record Holds (ws used numbers scales : List ℕ) (u i : ℕ) (c : State) : Type 0 where
   pub decides : Decides ws used i c
   pub fresh : Fresh (decides .state)
   pub indexed : Indexed ws numbers scales u i c
 
-module _ (ws used numbers scales : List ℕ) (u i : ℕ) (c : State) (d : Stands ws used numbers scales u i c)
-    (f : Frame) (fits : IdFits f) (h : i < length ws / 8) (e : f ≡ frameAt ws i)
-    (n : none ≡ firstBroken (codeRules ws used i c f)) where
-  pub blank-here : BlankAtModel scales f
-  blank-here = marked.blank-here ws used numbers scales u i c (d .decides .state) (d .decides .tracks) (d .indexed) f (sym n)
+module _ (ws used numbers scales : List ℕ) (u i : ℕ) (c : State) (d : Holds ws used numbers scales u i c)
+    (fits : IdFits (frameAt ws i)) (h : i < length ws / 8) where
+  frames-here : framesOnward ws i ≡ frameAt ws i ∷ framesOnward ws (i + 1)
+  frames-here = frames-more ws i h
 
-  pub stands-on : (numbers' scales' scales'' : List ℕ) (u' : ℕ) → NumbersBehind ws i c numbers numbers' f → Keeps scales scales'
-      → CountsBehind ws i u u' f → ScalesBehind ws i c scales' scales'' f
-      → Stands ws (idsBehind used f) numbers' scales'' u' (i + 1) (stateBehind c i f)
-  unfolding goes-on
-  stands-on numbers' scales' scales'' u' m k q r =
-      let s = d .decides .state in
-      let here = frames-here ws used i c (d .decides) f fits h e in
-      let unbroken = sym (n ∙ fault-here ws used i c (d .decides) f fits h e) in
-      record {
-        decides = goes-on ws used i c (d .decides) f fits h e n;
-        fresh = fresh-next s f (run (framesOnward ws i)) unbroken (d .fresh);
-        indexed = marked.indexed-next ws used numbers scales numbers' scales' scales'' u u' i c s (d .decides .tracks) (d .fresh)
-            (d .indexed) f fits (sym e) here h (sym n) m k q r;
-      }
+  fault-here : firstBroken (codeRules ws used i c (frameAt ws i))
+      ≡ fault (d .decides .state) (frameAt ws i) (run (framesOnward ws i))
+  fault-here =
+      same-fault ws used i c (d .decides .state) (d .decides .tracks) (frameAt ws i) (framesOnward ws (i + 1)) fits frames-here
+      ∙ ap (λ fs. fault (d .decides .state) (frameAt ws i) (run fs)) (sym frames-here)
+
+  pub refused-here : (r : ℕ) → some r ≡ firstBroken (codeRules ws used i c (frameAt ws i)) → refused r i ≡ framesChecked ws
+  refused-here r n =
+      let broken = sym (n ∙ fault-here) in
+      sym (steps.is-refused (d .decides .state) i (frameAt ws i) (framesOnward ws (i + 1)) (framesOnward ws i) frames-here r broken)
+      ∙ d .decides .rest
+
+  module _ (n : none ≡ firstBroken (codeRules ws used i c (frameAt ws i))) where
+    unbroken : fault (d .decides .state) (frameAt ws i) (run (framesOnward ws i)) ≡ none
+    unbroken = sym (n ∙ fault-here)
+
+    pub room-here : Room (word ws i 0) c
+    room-here =
+        has-room ws used i c (d .decides .state) (d .decides .tracks) (frameAt ws i) (run (framesOnward ws i)) refl unbroken
+
+    pub blank-here : BlankAtModel ws i scales
+    blank-here =
+        marked.blank-here ws used numbers scales u i c (d .decides .state) (d .decides .tracks) (d .indexed) (frameAt ws i) refl (sym n)
+
+    pub holds-on : (used' numbers' numbers'' scales' scales'' : List ℕ) (u' inner : ℕ)
+        → inner ≡ getD (c .firsts) (c .depth - 1) 0 → Begun ws i inner u u' used used' numbers numbers' scales scales'
+        → Marks numbers' numbers'' (λ n. hasNumber ws n i) true → ScalesAfter ws i inner scales' scales''
+        → Holds ws used' numbers'' scales'' u' (i + 1) (stateOf (word ws i 0) (word ws i 3) i c)
+    holds-on used' numbers' numbers'' scales' scales'' u' inner top b m r =
+        let s = d .decides .state in
+        let t = d .decides .tracks in
+        let f = frameAt ws i in
+        let formed = none-broken (rules s f (run (framesOnward ws i))) .0 unbroken .0 in
+        rw (state-here ws i c f refl formed) record {
+          decides = record {
+            state = check.next s f;
+            tracks = tracks-next ws used i c s t used' (b .used) f refl frames-here unbroken;
+            rest = sym (steps.goes-on s i f (framesOnward ws (i + 1)) (framesOnward ws i) frames-here unbroken) ∙ d .decides .rest;
+          };
+          fresh = fresh-next s f (run (framesOnward ws i)) unbroken (d .fresh);
+          indexed = marked.indexed-next ws used numbers scales u i c s t (d .indexed) used' numbers' numbers'' scales' scales'' u' inner h
+              top b m r (d .fresh) f fits refl frames-here (sym n);
+        }
 
 -- At the end.
 module _ (ws used : List ℕ) (i : ℕ) (c : State) (d : Decides ws used i c) (h : length ws / 8 ≤ i) where

@@ -1,13 +1,14 @@
 -- The frame of words by its kind, one law for each way to read it.
-use mathlib.Core.Path.{_≡_, refl}
+use mathlib.Core.Path.{_≡_, refl, sym, ap, _∙_}
 use mathlib.Core.Bool.{Bool, true, false}
 use mathlib.Core.List.{List, [], _∷_}
-use Prim.Native.Nat.{ℕ}
+use Prim.Native.Nat.{ℕ, _-_}
 use borrow.Author.Tests.{ne-eqb, eqb-true, eqb-false}
 use lib.Dec.{eqb}
+use Rattle.lists.proofs.TestOutcomes.{by-test, clash}
 use Rattle.catalog.specs.Frames.{Frame, modelFrame, groupFrame, pointFrame, endFrame, malformed, word, frameOf, frameAt}
 use Rattle.catalog.specs.Rules.{run}
-use Rattle.catalog.specs.Scans.{zeroWords, headWords, pointWords}
+use Rattle.catalog.specs.Scans.{zeroWords, namedWords, headWords, pointWords}
 
 -- `f` if the words that a kind does not name are 0.
 abbrev pub formed : Bool → Frame → Frame
@@ -18,38 +19,68 @@ formed-run true f fs h = h
 formed-run false f fs h = refl
 
 module _ (ws : List ℕ) (i k : ℕ) (q : k ≡ word ws i 0) where
-  pub kind-1 : k ≡ 1 → frameAt ws i ≡ formed (zeroWords ws i 2 6) (modelFrame (word ws i 1))
+  -- What holds of the frame of each kind holds of the frame.
+  by-kind : (P : Frame → Type 0) → (k ≡ 1 → P (formed (zeroWords ws i 2 6) (modelFrame (word ws i 1))))
+      → (k ≡ 2 → P (formed (zeroWords ws i 5 3) (groupFrame (headWords ws i)))) → (k ≡ 3 → P (pointFrame (pointWords ws i)))
+      → (k ≡ 4 → P (formed (zeroWords ws i 1 7) endFrame))
+      → ((k ≡ 1 → ⊥) → (k ≡ 2 → ⊥) → (k ≡ 3 → ⊥) → (k ≡ 4 → ⊥) → P malformed) → P (frameAt ws i)
   unfolding frameOf zeroWords
-  kind-1 h = rw (← q, h)
+  by-kind P a b c d e =
+      rw (← q)
+      (by-test P (eqb k 1) (λ t. a (eqb-true k 1 t)) λ x.
+      by-test P (eqb k 2) (λ t. b (eqb-true k 2 t)) λ y.
+      by-test P (eqb k 3) (λ t. c (eqb-true k 3 t)) λ z.
+      by-test P (eqb k 4) (λ t. d (eqb-true k 4 t)) λ w.
+      e (eqb-false k 1 x) (eqb-false k 2 y) (eqb-false k 3 z) (eqb-false k 4 w))
 
-  pub kind-2 : k ≡ 2 → frameAt ws i ≡ formed (zeroWords ws i 5 3) (groupFrame (headWords ws i))
-  unfolding frameOf zeroWords
-  kind-2 h = rw (← q, h)
+  pub no-kind : (k ≡ 1 → ⊥) → (k ≡ 2 → ⊥) → (k ≡ 3 → ⊥) → (k ≡ 4 → ⊥) → frameAt ws i ≡ malformed
+  no-kind a b c d =
+      by-kind (λ f. f ≡ malformed) (λ e. absurd (a e)) (λ e. absurd (b e)) (λ e. absurd (c e)) (λ e. absurd (d e)) (λ x y z w. refl)
 
+  -- A point frame is never malformed.
   pub kind-3 : k ≡ 3 → frameAt ws i ≡ pointFrame (pointWords ws i)
   unfolding frameOf
   kind-3 h = rw (← q, h)
 
-  pub kind-4 : k ≡ 4 → frameAt ws i ≡ formed (zeroWords ws i 1 7) endFrame
-  unfolding frameOf zeroWords
-  kind-4 h = rw (← q, h)
-
-  pub no-kind : (k ≡ 1 → ⊥) → (k ≡ 2 → ⊥) → (k ≡ 3 → ⊥) → (k ≡ 4 → ⊥) → frameAt ws i ≡ malformed
-  unfolding frameOf
-  no-kind a b c d = simp (frameOf, ← q, ne-eqb k 1 a, ne-eqb k 2 b, ne-eqb k 3 c, ne-eqb k 4 d)
-
-  -- A frame of another kind than a point's begins no run of points.
+  -- A frame of another kind begins no run of points.
   pub no-point-here : (k ≡ 3 → ⊥) → (fs : List Frame) → run (frameAt ws i ∷ fs) ≡ []
-  no-point-here n fs = go-1 (eqb k 1) refl
-    where
-      go-4 : (k ≡ 1 → ⊥) → (k ≡ 2 → ⊥) → (b : Bool) → eqb k 4 ≡ b → run (frameAt ws i ∷ fs) ≡ []
-      go-4 x y true e = rw (kind-4 (eqb-true k 4 e)) (formed-run (zeroWords ws i 1 7) endFrame fs refl)
-      go-4 x y false e = rw (no-kind x y n (eqb-false k 4 e))
+  no-point-here n fs =
+      by-kind (λ f. run (f ∷ fs) ≡ [])
+      (λ e. formed-run (zeroWords ws i 2 6) (modelFrame (word ws i 1)) fs refl)
+      (λ e. formed-run (zeroWords ws i 5 3) (groupFrame (headWords ws i)) fs refl)
+      (λ e. absurd (n e))
+      (λ e. formed-run (zeroWords ws i 1 7) endFrame fs refl)
+      (λ x y z w. refl)
 
-      go-2 : (k ≡ 1 → ⊥) → (b : Bool) → eqb k 2 ≡ b → run (frameAt ws i ∷ fs) ≡ []
-      go-2 x true e = rw (kind-2 (eqb-true k 2 e)) (formed-run (zeroWords ws i 5 3) (groupFrame (headWords ws i)) fs refl)
-      go-2 x false e = go-4 x (eqb-false k 2 e) (eqb k 4) refl
+  -- By whether the words that the kind does not name are 0.
+  module _ (from : ℕ) (named : from ≡ namedWords k) where
+    pub malformed-here : zeroWords ws i from (8 - from) ≡ false → frameAt ws i ≡ malformed
+    unfolding zeroWords
+    malformed-here z =
+        let g = rw named at z in
+        by-kind (λ f. f ≡ malformed) (λ e. rw (rw e at g)) (λ e. rw (rw e at g)) (λ e. clash (rw e at g)) (λ e. rw (rw e at g))
+        (λ x y z w. refl)
 
-      go-1 : (b : Bool) → eqb k 1 ≡ b → run (frameAt ws i ∷ fs) ≡ []
-      go-1 true e = rw (kind-1 (eqb-true k 1 e)) (formed-run (zeroWords ws i 2 6) (modelFrame (word ws i 1)) fs refl)
-      go-1 false e = go-2 (eqb-false k 1 e) (eqb k 2) refl
+    module _ (z : zeroWords ws i from (8 - from) ≡ true) where
+      pub model-here : k ≡ 1 → frameAt ws i ≡ modelFrame (word ws i 1)
+      unfolding frameOf zeroWords
+      model-here h =
+          let f = modelFrame (word ws i 1) in
+          let e : frameAt ws i ≡ formed (zeroWords ws i 2 6) f = rw (← q, h) in
+          e ∙ ap (λ b. formed b f) (rw (named, h) at z)
+
+      pub group-here : k ≡ 2 → frameAt ws i ≡ groupFrame (headWords ws i)
+      unfolding frameOf zeroWords
+      group-here h =
+          let f = groupFrame (headWords ws i) in
+          let e : frameAt ws i ≡ formed (zeroWords ws i 5 3) f = rw (← q, h) in
+          e ∙ ap (λ b. formed b f) (rw (named, h) at z)
+
+      pub point-here : k ≡ 3 → frameAt ws i ≡ pointFrame (pointWords ws i)
+      point-here = kind-3
+
+      pub end-here : k ≡ 4 → frameAt ws i ≡ endFrame
+      unfolding frameOf zeroWords
+      end-here h =
+          let e : frameAt ws i ≡ formed (zeroWords ws i 1 7) endFrame = rw (← q, h) in
+          e ∙ ap (λ b. formed b endFrame) (rw (named, h) at z)

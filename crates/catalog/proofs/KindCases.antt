@@ -1,7 +1,6 @@
 -- Rules 8 and 9 by the scale kind of a point and the count kind of a group.
 use mathlib.Core.Path.{_≡_, refl}
 use mathlib.Core.Bool.{Bool, true, false, not, _||_, or-true}
-use mathlib.Core.List.{List}
 use Prim.Native.Nat.{ℕ}
 use native.Mathlib.Omega.{arith}
 use borrow.Author.Tests.{ne-eqb, lt-ltb}
@@ -10,7 +9,7 @@ use Rattle.lists.specs.Tests.{oneHolds}
 use Rattle.point_types.specs.Rows.{mayScale}
 use Rattle.values.specs.Classes.{twosComplement, isScaleFactor}
 use Rattle.catalog.specs.Frames.{Point, Head, noScale, fixedScale, scaleByPoint, constantCount, countByPoint, fill}
-use Rattle.catalog.specs.Rules.{scaleFaults, countFaults, hasScaleFactor, hasCountPoint}
+use Rattle.catalog.specs.Tracking.{scaleTests, countTests}
 
 -- A test or nothing.
 or-nothing : (b : Bool) → b || false ≡ b
@@ -22,39 +21,39 @@ over-2 : (k : ℕ) → (k ≡ 0 → ⊥) → (k ≡ 1 → ⊥) → (k ≡ 2 → 
 over-2 k a b c = lt-ltb 2 k (omega (arith, a, b, c))
 
 -- Is rule 8 broken? By the scale kind: none, a type that may carry no scale factor, fixed, by a point, any other.
-module _ (reach : List Point) (p : Point) where
-  pub no-scale : p .scaleKind ≡ noScale → oneHolds (scaleFaults reach p) ≡ not (eqb (p .scale) 0)
+module _ (known : Bool) (p : Point) where
+  pub no-scale : p .scaleKind ≡ noScale → oneHolds (scaleTests known p) ≡ not (eqb (p .scale) 0)
   no-scale e = rw e (or-nothing (not (eqb (p .scale) 0)))
 
-  pub not-scalable : (p .scaleKind ≡ noScale → ⊥) → mayScale (p .typeCode) ≡ false → oneHolds (scaleFaults reach p) ≡ true
+  pub not-scalable : (p .scaleKind ≡ noScale → ⊥) → mayScale (p .typeCode) ≡ false → oneHolds (scaleTests known p) ≡ true
   not-scalable n m = rw (ne-eqb (p .scaleKind) noScale n, m) (or-true (ltb 2 (p .scaleKind)))
 
   pub fixed-scale : p .scaleKind ≡ fixedScale → mayScale (p .typeCode) ≡ true
-      → oneHolds (scaleFaults reach p) ≡ not (isScaleFactor (twosComplement 16 (p .scale)))
+      → oneHolds (scaleTests known p) ≡ not (isScaleFactor (twosComplement 16 (p .scale)))
   fixed-scale e m = rw (e, m) (or-nothing (not (isScaleFactor (twosComplement 16 (p .scale)))))
 
   pub scale-by-point : p .scaleKind ≡ scaleByPoint → mayScale (p .typeCode) ≡ true
-      → oneHolds (scaleFaults reach p) ≡ not (hasScaleFactor (p .scale) reach)
-  scale-by-point e m = rw (e, m) (or-nothing (not (hasScaleFactor (p .scale) reach)))
+      → oneHolds (scaleTests known p) ≡ not known
+  scale-by-point e m = rw (e, m) (or-nothing (not known))
 
   pub scale-kind-over : (p .scaleKind ≡ 0 → ⊥) → (p .scaleKind ≡ 1 → ⊥) → (p .scaleKind ≡ 2 → ⊥)
-      → oneHolds (scaleFaults reach p) ≡ true
+      → oneHolds (scaleTests known p) ≡ true
   scale-kind-over a b c = rw (over-2 (p .scaleKind) a b c)
 
 -- Is rule 9 broken? By the count kind: a constant, by a point, fill outside the top group and in it, any other.
-module _ (top : List Point) (direct : Bool) (h : Head) where
-  pub constant-count : h .countKind ≡ constantCount → oneHolds (countFaults top direct h) ≡ eqb (h .count) 0
+module _ (counted direct : Bool) (h : Head) where
+  pub constant-count : h .countKind ≡ constantCount → oneHolds (countTests counted direct h) ≡ eqb (h .count) 0
   constant-count e = rw e (or-nothing (eqb (h .count) 0))
 
-  pub count-by-point : h .countKind ≡ countByPoint → oneHolds (countFaults top direct h) ≡ not (hasCountPoint (h .count) top)
-  count-by-point e = rw e (or-nothing (not (hasCountPoint (h .count) top)))
+  pub count-by-point : h .countKind ≡ countByPoint → oneHolds (countTests counted direct h) ≡ not counted
+  count-by-point e = rw e (or-nothing (not counted))
 
-  pub fill-outside : h .countKind ≡ fill → direct ≡ false → oneHolds (countFaults top direct h) ≡ true
+  pub fill-outside : h .countKind ≡ fill → direct ≡ false → oneHolds (countTests counted direct h) ≡ true
   fill-outside e d = rw (e, d)
 
-  pub fill-direct : h .countKind ≡ fill → direct ≡ true → oneHolds (countFaults top direct h) ≡ not (eqb (h .count) 0)
+  pub fill-direct : h .countKind ≡ fill → direct ≡ true → oneHolds (countTests counted direct h) ≡ not (eqb (h .count) 0)
   fill-direct e d = rw (e, d) (or-nothing (not (eqb (h .count) 0)))
 
   pub count-kind-over : (h .countKind ≡ 0 → ⊥) → (h .countKind ≡ 1 → ⊥) → (h .countKind ≡ 2 → ⊥)
-      → oneHolds (countFaults top direct h) ≡ true
+      → oneHolds (countTests counted direct h) ≡ true
   count-kind-over a b c = rw (over-2 (h .countKind) a b c)

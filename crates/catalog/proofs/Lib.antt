@@ -24,7 +24,6 @@ pub mod FrameKinds
 pub mod FramesByIndex
 pub mod WordScans
 pub mod KindCases
-pub mod IdSetLaws
 pub mod MarkLaws
 pub mod MarkedRules
 pub mod FreshNumbers

@@ -14,9 +14,9 @@ use Rattle.catalog.specs.Frames.{Point, Head, Frame, modelFrame, groupFr
 use Rattle.catalog.specs.State as check
 use Rattle.catalog.specs.State.{OpenGroup}
 use Rattle.catalog.specs.Rules.{run, inReach, noModel, isMisplaced, isMisnumbered, isMisscaled, isMistyped, scaleFaults, fault}
-use Rattle.catalog.specs.IdSets.{IdFits}
+use Rattle.catalog.specs.Answers.{IdFits}
 use Rattle.catalog.specs.Scans.{framesOnward, runsOf}
-use Rattle.catalog.specs.Tracking.{Tracks, Opens, aheadOf, codeRules, wrongNumber}
+use Rattle.catalog.specs.Tracking.{Tracks, Opens, aheadOf, codeRules, numbersSoFar}
 use Rattle.catalog.specs.declared.state.State.{State}
 use Rattle.catalog.proofs.OpenGroups.{runs-in-reach, run-of-top}
 
@@ -92,7 +92,7 @@ module _ (ws used : List ℕ) (i : ℕ) (c : State) (s : check.State) (t : Track
           ap (runsOf ws (c .firsts)) d ∙ runs-in-reach ws (c .firsts) false (run (framesOnward ws i)) l ls o in
           let placed : eqb (c .depth) 0 || c .«has_group» ≡ isMisplaced s (pointFrame p) =
           rw (none-open (c .depth) (l ∷ ls) d, g, q, o .1) in
-          let numbered : wrongNumber ws i c (p .number) ≡ isMisnumbered s (pointFrame p) =
+          let numbered : eqb (p .number) 0 || among (p .number) (numbersSoFar ws i c) ≡ isMisnumbered s (pointFrame p) =
           ap (λ ns. eqb (p .number) 0 || among (p .number) ns) (sym (t .numbers (omega (arith, d)))) in
           let scaled : oneHolds (scaleFaults (runsOf ws (c .firsts) (c .depth)) p)
           ≡ isMisscaled s (run (framesOnward ws i)) (pointFrame p) =

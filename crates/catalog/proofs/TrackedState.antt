@@ -1,4 +1,4 @@
--- The code's state goes on standing for that of the check, from the start and from frame to frame.
+-- The code's state simulates that of the check, from the start and from frame to frame.
 use mathlib.Core.Path.{_≡_, refl, sym, ap, subst, _∙_}
 use mathlib.Core.Bool.{true, false, _&&_, _||_}
 use mathlib.Core.List.{List, [], _∷_, _++_, append-assoc}
@@ -6,24 +6,26 @@ use mathlib.Core.Option.{none}
 use Prim.Native.Nat.{ℕ, zero, suc, _+_, _-_, _≤_, _<_}
 use native.Mathlib.Numerals.{add-one}
 use native.Mathlib.Omega.{arith}
-use borrow.Author.Tests.{leb-false}
+use borrow.Author.Tests.{eqb-true, leb-false, not-false}
 use lib.Dec.{eqb, leb}
 use lib.ListN.{length, getD, set, length-set, replicate, length-replicate}
 use lib.Seq.{getD-set-same, getD-set-other}
 use Rattle.lists.proofs.TestOutcomes.{impossible, clash}
 use Rattle.lists.proofs.TestLaws.{none-broken, neither}
+use Rattle.number_sets.specs.NumberSets.{Marks}
+use Rattle.number_sets.proofs.SetLaws.{none-in}
+use Rattle.number_sets.proofs.MarkLaws.{now-in}
 use Rattle.catalog.specs.Frames.{Point, Head, Frame, modelFrame, groupFrame, pointFrame, endFrame, malformed, word, frameAt, wordsOf, fill}
 use Rattle.catalog.specs.State as check
 use Rattle.catalog.specs.State.{OpenGroup, start, next}
 use Rattle.catalog.specs.Rules.{run, noModel, inTop, afterGroup, isMalformed, rules, fault}
-use Rattle.catalog.specs.IdSets.{withId, idsBehind, IdFits}
-use Rattle.catalog.specs.Scans.{framesOnward, isNumbered, numbersBefore}
-use Rattle.catalog.specs.Tracking.{Within, Tracks, Opens, Room, aheadOf, stateBehind}
+use Rattle.catalog.specs.Answers.{IdFits}
+use Rattle.catalog.specs.Scans.{framesOnward, isModel, isNumbered, numbersBefore}
+use Rattle.catalog.specs.Tracking.{Within, Tracks, Opens, Room, aheadOf, numbersSoFar, withOpened, withEnded, stateOf}
 use Rattle.catalog.specs.declared.state.State.{State}
 use Rattle.catalog.proofs.FrameWords.{eight-back}
-use Rattle.catalog.proofs.IdSetLaws.{none-in, in-with, length-with}
 use Rattle.catalog.proofs.OpenGroups.{one-deeper}
-use Rattle.catalog.proofs.TrackedRules.{no-point-ahead}
+use Rattle.catalog.proofs.TrackedRules.{no-point-ahead, none-open}
 
 -- Of four numbers, all but the first 0, none is over a bound on the first.
 first-alone : (n b : ℕ) → n ≤ b → (k : ℕ) → getD (n ∷ 0 ∷ 0 ∷ 0 ∷ []) k 0 ≤ b
@@ -73,10 +75,33 @@ words-here ws i f e =
     let back = eight-back (w 0) (w 1) (w 2) (w 3) (w 4) (w 5) (w 6) (w 7) in
     subst (λ x. isMalformed x ≡ false → wordsOf x ≡ eightWords ws i) e back
 
--- The numbers so far, behind a frame of this kind and with this number.
+pub word-here : (ws : List ℕ) (i : ℕ) (f : Frame) → frameAt ws i ≡ f → isMalformed f ≡ false → (k : ℕ)
+    → getD (eightWords ws i) k 0 ≡ getD (wordsOf f) k 0
+word-here ws i f e m k = sym (ap (λ l. getD l k 0) (words-here ws i f e m))
+
+-- The code's state after a frame, by its kind.
+abbrev pub stateBy : State → ℕ → Frame → State
+stateBy c i (modelFrame id) = withOpened c i (c .models + 1) false
+stateBy c i (groupFrame h) = withOpened c i (c .models) (c .«has_fill» || eqb (h .countKind) fill)
+stateBy c i (pointFrame p) = c
+stateBy c i endFrame = withEnded c
+stateBy c i malformed = c
+
+pub state-here : (ws : List ℕ) (i : ℕ) (c : State) (f : Frame) → frameAt ws i ≡ f → isMalformed f ≡ false
+    → stateOf (word ws i 0) (word ws i 3) i c ≡ stateBy c i f
+state-here ws i c (modelFrame id) e m = let w : word ws i 0 ≡ 1 = word-here ws i (modelFrame id) e m 0 in rw w
+state-here ws i c (groupFrame h) e m =
+    let kind : word ws i 0 ≡ 2 = word-here ws i (groupFrame h) e m 0 in
+    let count : word ws i 3 ≡ h .countKind = word-here ws i (groupFrame h) e m 3 in
+    rw (kind, count)
+state-here ws i c (pointFrame p) e m = let w : word ws i 0 ≡ 3 = word-here ws i (pointFrame p) e m 0 in rw w
+state-here ws i c endFrame e m = let w : word ws i 0 ≡ 4 = word-here ws i endFrame e m 0 in rw w
+state-here ws i c malformed e m = clash m
+
+-- The numbers so far, after a frame of this kind and with this number.
 module _ (ws used : List ℕ) (i : ℕ) (c : State) (s : check.State) (t : Tracks ws used i c s) where
   pub numbers-kept : 1 ≤ c .depth → (k : ℕ) → word ws i 0 ≡ k → leb 2 k && leb k 3 ≡ false
-      → s .numbers ≡ numbersBefore ws (getD (c .firsts) 0 0) (i + 1 - getD (c .firsts) 0 0)
+      → s .numbers ≡ numbersSoFar ws (i + 1) c
   numbers-kept d k e h =
       let p = t .within .passed 0 in
       let f = getD (c .firsts) 0 0 in
@@ -84,7 +109,7 @@ module _ (ws used : List ℕ) (i : ℕ) (c : State) (s : check.State) (t : Track
       rw (m, nothing-added ws f (i - f) i (omega arith) (rw e h)) (t .numbers d)
 
   pub number-more : 1 ≤ c .depth → (k n : ℕ) → word ws i 0 ≡ k → leb 2 k && leb k 3 ≡ true → word ws i 1 ≡ n
-      → n ∷ s .numbers ≡ numbersBefore ws (getD (c .firsts) 0 0) (i + 1 - getD (c .firsts) 0 0)
+      → n ∷ s .numbers ≡ numbersSoFar ws (i + 1) c
   number-more d k n e h q =
       let p = t .within .passed 0 in
       let f = getD (c .firsts) 0 0 in
@@ -106,34 +131,64 @@ still-bounded (x ∷ xs) zero v b h g (suc k) = h (suc k)
 still-bounded (x ∷ xs) (suc d) v b h g zero = h 0
 still-bounded (x ∷ xs) (suc d) v b h g (suc k) = still-bounded xs d v b (λ j. h (suc j)) g k
 
--- ---- Behind each kind of frame
+-- ---- After each kind of frame
 
-module _ (ws used : List ℕ) (i : ℕ) (c : State) (s : check.State) (t : Tracks ws used i c s) where
-  behind-model : (id : ℕ) → id < 65536
-      → Tracks ws (withId used id) (i + 1) (stateBehind c i (modelFrame id)) (next s (modelFrame id))
-  unfolding numbersBefore
-  behind-model id u =
-      let few = t .within .few in
-      let none-yet : i + 1 - (i + 1) ≡ 0 = omega arith in
+module _ (ws used : List ℕ) (i : ℕ) (c : State) (s : check.State) (t : Tracks ws used i c s) (used' : List ℕ)
+    (m : Marks used used' (λ n. isModel ws i && eqb n (word ws i 1)) true) where
+  -- A frame that is no model frame uses no id.
+  same-ids : isModel ws i ≡ false → Tracks ws used' i c s
+  same-ids e =
       record {
-        within = record { few = omega arith; deep = omega arith; four = refl; passed = first-alone (i + 1) (i + 1) (omega arith) };
-        models = ap (λ n. n + 1) (t .models) ∙ add-one (length (s .ids));
-        words = length-with used id ∙ t .words;
-        ids = λ n h. in-with used id n (t .words) u ∙ ap (λ b. eqb n id || b) (t .ids n h);
-        depth = refl;
-        numbers = λ h. rw none-yet;
-        hasFill = refl;
-        openGroups = (refl, refl, tt);
+        within = t .within;
+        models = t .models;
+        words = m .words ∙ t .words;
+        ids = λ n h. (rw e at (m .has (t .words) n h)) ∙ t .ids n h;
+        depth = t .depth;
+        numbers = t .numbers;
+        hasFill = t .hasFill;
+        openGroups = t .openGroups;
       }
 
+  after-model : (id : ℕ) → frameAt ws i ≡ modelFrame id → noModel (s .openGroups) ≡ true
+      → Tracks ws used' (i + 1) (stateBy c i (modelFrame id)) (next s (modelFrame id))
+  unfolding numbersBefore
+  after-model id e n =
+      let few = t .within .few in
+      let four = t .within .four in
+      let closed : c .depth ≡ 0 = eqb-true (c .depth) 0 (none-open (c .depth) (s .openGroups) (t .depth) ∙ n) in
+      let kind : word ws i 0 ≡ 1 = word-here ws i (modelFrame id) e refl 0 in
+      let here : word ws i 1 ≡ id = word-here ws i (modelFrame id) e refl 1 in
+      let stored : getD (set (c .firsts) (c .depth) (i + 1)) 0 0 ≡ i + 1 =
+      rw closed (getD-set-same (c .firsts) 0 (i + 1) 0 (omega arith)) in
+      let passed : (k : ℕ) → getD (c .firsts) k 0 ≤ i + 1 = λ k. let p = t .within .passed k in omega arith in
+      let none-yet : i + 1 - (i + 1) ≡ 0 = omega arith in
+      record {
+        within = record {
+          few = omega arith;
+          deep = omega arith;
+          four = length-set (c .firsts) (c .depth) (i + 1) ∙ four;
+          passed = still-bounded (c .firsts) (c .depth) (i + 1) (i + 1) passed (omega arith);
+        };
+        models = ap (λ n. n + 1) (t .models) ∙ add-one (length (s .ids));
+        words = m .words ∙ t .words;
+        ids = λ n h.
+            (rw (kind, here) at (now-in used used' _ (t .words) n h m)) ∙ ap (λ b. eqb n id || b) (t .ids n h);
+        depth = omega arith;
+        numbers = λ h. rw (stored, none-yet);
+        hasFill = refl;
+        openGroups = (rw stored, refl, tt);
+      }
+
+module _ (ws used : List ℕ) (i : ℕ) (c : State) (s : check.State) (t : Tracks ws used i c s) where
   module _ (l : OpenGroup) (ls : List OpenGroup) (q : s .openGroups ≡ l ∷ ls) where
     depth-here : c .depth ≡ suc (length ls)
     depth-here = t .depth ∙ ap length q
 
-    behind-group : (h : Head) → frameAt ws i ≡ groupFrame h → run (framesOnward ws i) ≡ [] → c .depth < 4
-        → Tracks ws used (i + 1) (stateBehind c i (groupFrame h)) (next s (groupFrame h))
-    behind-group h e r deep =
-        let w = words-here ws i (groupFrame h) e refl in
+    after-group : (h : Head) → frameAt ws i ≡ groupFrame h → run (framesOnward ws i) ≡ [] → c .depth < 4
+        → Tracks ws used (i + 1) (stateBy c i (groupFrame h)) (next s (groupFrame h))
+    after-group h e r deep =
+        let kind : word ws i 0 ≡ 2 = word-here ws i (groupFrame h) e refl 0 in
+        let number : word ws i 1 ≡ h .number = word-here ws i (groupFrame h) e refl 1 in
         let few = t .within .few in
         let d = depth-here in
         let o = subst (Opens ws (c .firsts) (c .«has_group») []) q (no-point-ahead ws used i c s t r) in
@@ -143,8 +198,6 @@ module _ (ws used : List ℕ) (i : ℕ) (c : State) (s : check.State) (t : Track
         let around : List OpenGroup = record { points = l .points; hasGroup = true } ∷ ls in
         let kept = one-deeper ws (c .firsts) true [] around (c .depth) (i + 1) (omega arith) (o .0, refl, o .2) in
         let passed : (k : ℕ) → getD (c .firsts) k 0 ≤ i + 1 = λ k. let p = t .within .passed k in omega arith in
-        let kind = sym (ap (λ l. getD l 0 0) w) in
-        let number = sym (ap (λ l. getD l 1 0) w) in
         record {
           within = record {
             few = omega arith;
@@ -161,10 +214,11 @@ module _ (ws used : List ℕ) (i : ℕ) (c : State) (s : check.State) (t : Track
           openGroups = rw q (rw (← d, stored), refl, kept);
         }
 
-    behind-point : (p : Point) → frameAt ws i ≡ pointFrame p → run (framesOnward ws i) ≡ p ∷ run (framesOnward ws (i + 1))
-        → l .hasGroup ≡ false → Tracks ws used (i + 1) (stateBehind c i (pointFrame p)) (next s (pointFrame p))
-    behind-point p e r g =
-        let w = words-here ws i (pointFrame p) e refl in
+    after-point : (p : Point) → frameAt ws i ≡ pointFrame p → run (framesOnward ws i) ≡ p ∷ run (framesOnward ws (i + 1))
+        → l .hasGroup ≡ false → Tracks ws used (i + 1) (stateBy c i (pointFrame p)) (next s (pointFrame p))
+    after-point p e r g =
+        let kind : word ws i 0 ≡ 3 = word-here ws i (pointFrame p) e refl 0 in
+        let number : word ws i 1 ≡ p .number = word-here ws i (pointFrame p) e refl 1 in
         let d = depth-here in
         let o = subst (Opens ws (c .firsts) (c .«has_group») (aheadOf ws i (c .«has_group»))) q (t .openGroups) in
         let b : c .«has_group» ≡ false = sym (o .1) ∙ g in
@@ -178,19 +232,18 @@ module _ (ws used : List ℕ) (i : ℕ) (c : State) (s : check.State) (t : Track
           words = t .words;
           ids = t .ids;
           depth = rw q d;
-          numbers = λ h. number-more ws used i c s t h 3 _ (sym (ap (λ l. getD l 0 0) w)) refl (sym (ap (λ l. getD l 1 0) w));
+          numbers = λ h. number-more ws used i c s t h 3 _ kind refl number;
           hasFill = t .hasFill;
           openGroups = rw q (o .0 ∙ ap (λ ps. l .points ++ ps) same ∙ sym moved, o .1, o .2);
         }
 
-    behind-end : frameAt ws i ≡ endFrame → run (framesOnward ws i) ≡ []
-        → Tracks ws used (i + 1) (stateBehind c i endFrame) (next s endFrame)
-    behind-end e r =
-        let w = words-here ws i endFrame e refl in
+    after-end : frameAt ws i ≡ endFrame → run (framesOnward ws i) ≡ []
+        → Tracks ws used (i + 1) (stateBy c i endFrame) (next s endFrame)
+    after-end e r =
         let few = t .within .few in
         let deep = t .within .deep in
         let d = depth-here in
-        let kind = sym (ap (λ l. getD l 0 0) w) in
+        let kind : word ws i 0 ≡ 4 = word-here ws i endFrame e refl 0 in
         let o = subst (Opens ws (c .firsts) (c .«has_group») []) q (no-point-ahead ws used i c s t r) in
         record {
           within = record {
@@ -219,37 +272,57 @@ module _ (ws used : List ℕ) (i : ℕ) (c : State) (s : check.State) (t : Track
       go [] q g = clash g
       go (l ∷ ls) q g = k l ls q
 
-  -- A frame that breaks no rule finds room for the group that it opens, and a group to end.
-  pub has-room : (f : Frame) (ahead : List Point) → fault s f ahead ≡ none → Room c f
-  has-room (modelFrame id) ahead n = tt
-  has-room (groupFrame h) ahead n =
+  -- A frame that breaks no rule opens at most the fourth group, and ends one that is open.
+  pub has-room : (f : Frame) (ahead : List Point) → frameAt ws i ≡ f → fault s f ahead ≡ none → Room (word ws i 0) c
+  has-room (modelFrame id) ahead e n =
+      let x = not-false _ (none-broken (rules s (modelFrame id) ahead) .0 n .1 .0) in
+      let closed = eqb-true (c .depth) 0 (none-open (c .depth) (s .openGroups) (t .depth) ∙ x) in
+      let kind : word ws i 0 ≡ 1 = word-here ws i (modelFrame id) e refl 0 in
+      record { opens = λ k. omega arith; ends = λ k. omega arith }
+  has-room (groupFrame h) ahead e n =
       let x = none-broken (rules s (groupFrame h) ahead) .0 n .1 .1 .0 in
       let d = t .depth in
       let y = leb-false 4 (length (s .openGroups)) x in
-      omega arith
-  has-room (pointFrame p) ahead n = tt
-  has-room endFrame ahead n =
+      let kind : word ws i 0 ≡ 2 = word-here ws i (groupFrame h) e refl 0 in
+      record { opens = λ k. omega arith; ends = λ k. omega arith }
+  has-room (pointFrame p) ahead e n =
+      let kind : word ws i 0 ≡ 3 = word-here ws i (pointFrame p) e refl 0 in
+      record { opens = λ k. omega arith; ends = λ k. omega arith }
+  has-room endFrame ahead e n =
       let x = none-broken (rules s endFrame ahead) .0 n .1 .0 in
-      inside (1 ≤ c .depth) x (λ l ls q. let d = t .depth ∙ ap length q in omega arith)
-  has-room malformed ahead n = tt
+      let kind : word ws i 0 ≡ 4 = word-here ws i endFrame e refl 0 in
+      record {
+        opens = λ k. omega arith;
+        ends = λ k. inside (1 ≤ c .depth) x (λ l ls q. let d = t .depth ∙ ap length q in omega arith);
+      }
+  has-room malformed ahead e n = impossible (cc)
 
-  -- Behind a frame that breaks no rule.
-  pub tracks-next : (f : Frame) → IdFits f → frameAt ws i ≡ f → framesOnward ws i ≡ f ∷ framesOnward ws (i + 1)
-      → fault s f (run (framesOnward ws i)) ≡ none → Tracks ws (idsBehind used f) (i + 1) (stateBehind c i f) (next s f)
-  tracks-next (modelFrame id) u e a n = behind-model ws used i c s t id u
-  tracks-next (groupFrame h) u e a n =
+-- After a frame that breaks no rule.
+module _ (ws used : List ℕ) (i : ℕ) (c : State) (s : check.State) (t : Tracks ws used i c s) (used' : List ℕ)
+    (m : Marks used used' (λ n. isModel ws i && eqb n (word ws i 1)) true) where
+  pub tracks-next : (f : Frame) → frameAt ws i ≡ f → framesOnward ws i ≡ f ∷ framesOnward ws (i + 1)
+      → fault s f (run (framesOnward ws i)) ≡ none → Tracks ws used' (i + 1) (stateBy c i f) (next s f)
+  tracks-next (modelFrame id) e a n =
+      let x = none-broken (rules s (modelFrame id) (run (framesOnward ws i))) .0 n .1 .0 in
+      after-model ws used i c s t used' m id e (not-false (noModel (s .openGroups)) x)
+  tracks-next (groupFrame h) e a n =
       let b = none-broken (rules s (groupFrame h) (run (framesOnward ws i))) .0 n in
       let x = neither (noModel (s .openGroups)) (inTop (s .openGroups) && s .hasFill) .0 (b .1 .0) .0 in
-      let room = has-room (groupFrame h) (run (framesOnward ws i)) n in
-      inside (Tracks ws used (i + 1) (stateBehind c i (groupFrame h)) (next s (groupFrame h))) x
-      (λ l ls q. behind-group ws used i c s t l ls q h e (ap run a) room)
-  tracks-next (pointFrame p) u e a n =
+      let y = leb-false 4 (length (s .openGroups)) (b .1 .1 .0) in
+      let d = t .depth in
+      let kind : word ws i 0 ≡ 2 = word-here ws i (groupFrame h) e refl 0 in
+      inside ws used i c s t (Tracks ws used' (i + 1) (stateBy c i (groupFrame h)) (next s (groupFrame h))) x
+      (λ l ls q. after-group ws used' i c s (same-ids ws used i c s t used' m (rw kind)) l ls q h e (ap run a) (omega arith))
+  tracks-next (pointFrame p) e a n =
       let b = none-broken (rules s (pointFrame p) (run (framesOnward ws i))) .0 n in
       let x = neither (noModel (s .openGroups)) (afterGroup (s .openGroups)) .0 (b .1 .0) in
-      inside (Tracks ws used (i + 1) (stateBehind c i (pointFrame p)) (next s (pointFrame p))) (x .0)
-      (λ l ls q. behind-point ws used i c s t l ls q p e (ap run a) (sym (ap afterGroup q) ∙ x .1))
-  tracks-next endFrame u e a n =
+      let kind : word ws i 0 ≡ 3 = word-here ws i (pointFrame p) e refl 0 in
+      inside ws used i c s t (Tracks ws used' (i + 1) (stateBy c i (pointFrame p)) (next s (pointFrame p))) (x .0)
+      (λ l ls q. after-point ws used' i c s (same-ids ws used i c s t used' m (rw kind)) l ls q p e (ap run a)
+      (sym (ap afterGroup q) ∙ x .1))
+  tracks-next endFrame e a n =
       let b = none-broken (rules s endFrame (run (framesOnward ws i))) .0 n in
-      inside (Tracks ws used (i + 1) (stateBehind c i endFrame) (next s endFrame)) (b .1 .0)
-      (λ l ls q. behind-end ws used i c s t l ls q e (ap run a))
-  tracks-next malformed u e a n = impossible (cc)
+      let kind : word ws i 0 ≡ 4 = word-here ws i endFrame e refl 0 in
+      inside ws used i c s t (Tracks ws used' (i + 1) (stateBy c i endFrame) (next s endFrame)) (b .1 .0)
+      (λ l ls q. after-end ws used' i c s (same-ids ws used i c s t used' m (rw kind)) l ls q e (ap run a))
+  tracks-next malformed e a n = impossible (cc)

@@ -45,6 +45,10 @@ module _ (ws : List ℕ) (first number : ℕ) where
       go w ns true = refl
       go w ns false = refl
 
+  pub number-here : (m j : ℕ) → j ≡ first + m
+      → hasNumber ws number j || among number (numbersBefore ws first m) ≡ among number (numbersBefore ws first (suc m))
+  number-here m j q = rw (number-more m, ← q)
+
   pub number-next : (n m j : ℕ) → n ≡ m + 1 → j ≡ first + m
       → among number (numbersBefore ws first n) ≡ among number (numbersBefore ws first m) || hasNumber ws number j
   number-next n m j e q =
@@ -62,7 +66,7 @@ module _ (ws : List ℕ) (first number : ℕ) where
 
 -- ---- Runs of points
 
--- The frames from frame j on: that one and those behind it, or none.
+-- The frames from frame j on: that one and those after it, or none.
 pub frames-more : (ws : List ℕ) (j : ℕ) → j < length ws / 8 → framesOnward ws j ≡ frameAt ws j ∷ framesOnward ws (j + 1)
 unfolding framesFrom
 frames-more ws j h =
@@ -95,7 +99,7 @@ has-either such (p ∷ ps) qs = go (such p) (has-either such ps qs)
 
 module _ (ws firsts : List ℕ) (n k m : ℕ) (e : k ≡ m + 1) where
   -- One group more.
-  pub reach-more : hasScaleFactor n (runsOf ws firsts k)
+  pub scope-more : hasScaleFactor n (runsOf ws firsts k)
       ≡ hasScaleFactor n (run (framesOnward ws (getD firsts m 0))) || hasScaleFactor n (runsOf ws firsts m)
   unfolding runsOf
-  reach-more = rw (e, add-one m) (has-either (isScaleFactorPoint n) (run (framesOnward ws (getD firsts m 0))) (runsOf ws firsts m))
+  scope-more = rw (e, add-one m) (has-either (isScaleFactorPoint n) (run (framesOnward ws (getD firsts m 0))) (runsOf ws firsts m))

@@ -1,13 +1,14 @@
--- What the code's types stand for.
+-- What the code's types mean.
+use mathlib.Core.Bool.{true, false}
 use mathlib.Core.Option.{Option, none, some}
-use Prim.Native.Nat.{ℕ}
+use Prim.Native.Nat.{ℕ, _<_}
+use lib.Dec.{eqb}
 use Rattle.catalog.specs.Frames as Frames
 use Rattle.catalog.specs.Checking as Checking
 use Rattle.catalog.specs.declared.Checked.{Checked}
 use Rattle.catalog.specs.declared.frames.Frame.{Frame}
 use Rattle.catalog.specs.declared.frames.Point.{Point}
 use Rattle.catalog.specs.declared.frames.Head.{Head}
-use Rattle.catalog.specs.declared.rules.Fault.{Fault}
 
 -- The answer of `check`.
 abbrev pub answer : Checked → Checking.Verdict
@@ -40,7 +41,14 @@ frameForm (Frame.Point p) = Frames.pointFrame (pointForm p)
 frameForm Frame.End = Frames.endFrame
 frameForm Frame.Malformed = Frames.malformed
 
--- The number of the rule that a frame breaks, if it breaks one.
-abbrev pub faultForm : Fault → Option ℕ
-faultForm Fault.Nothing = none
-faultForm (Fault.Rule n) = some n
+-- The number of the rule that a frame breaks, if it breaks one: the code writes 0 for none.
+abbrev pub faultForm : ℕ → Option ℕ
+faultForm n = elim (eqb n 0) [ true ↦ none | false ↦ some n ]
+
+-- The ids and numbers of a frame that the code looks for in sets are words of 16 bits.
+abbrev pub IdFits : Frames.Frame → Type 0
+IdFits (Frames.modelFrame id) = id < 65536
+IdFits (Frames.groupFrame h) = (h .number < 65536) × (h .count < 65536)
+IdFits (Frames.pointFrame p) = (p .number < 65536) × (p .scale < 65536)
+IdFits Frames.endFrame = Unit {0}
+IdFits Frames.malformed = Unit {0}

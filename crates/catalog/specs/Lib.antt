@@ -6,7 +6,6 @@ pub mod Definitions
 pub mod Soundness
 pub mod Removal
 pub mod Answers
-pub mod IdSets
 pub mod Scans
 pub mod Tracking
 pub mod Marks

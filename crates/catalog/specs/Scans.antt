@@ -6,18 +6,30 @@ use lib.Dec.{eqb, leb}
 use lib.ListN.{length, getD}
 use Rattle.catalog.specs.Frames.{Point, Head, Frame, word, framesFrom, uint16, sunssf, readOnly}
 use Rattle.catalog.specs.Rules.{run, isScaleFactorPoint, isCountPoint}
-use Rattle.catalog.specs.declared.scans.Sought.{Sought}
+use Rattle.catalog.specs.declared.scans.Target.{Target}
 
 -- Are n words of frame i from word k on all 0?
 unfoldable pub zeroWords : List ℕ → ℕ → ℕ → ℕ → Bool
 zeroWords ws i k zero = true
 zeroWords ws i k (suc n) = eqb (word ws i k) 0 && zeroWords ws i (suc k) n
 
+-- The number of words that a kind of frame names, word 0 included.
+abbrev pub namedWords : ℕ → ℕ
+namedWords kind =
+    elim (eqb kind 1) [
+      | true ↦ 2
+      | false ↦ elim (eqb kind 2) [ true ↦ 5 | false ↦ elim (eqb kind 4) [ true ↦ 1 | false ↦ 8 ] ]
+    ]
+
 -- All frames from frame i on.
 abbrev pub framesOnward : List ℕ → ℕ → List Frame
 framesOnward ws i = framesFrom ws i (length ws / 8 - i)
 
--- Is frame j a group's or a point's (kind 2 or 3)?
+-- Is frame j a model frame?
+abbrev pub isModel : List ℕ → ℕ → Bool
+isModel ws j = eqb (word ws j 0) 1
+
+-- Is frame j the frame of a group or a point (kind 2 or 3)?
 abbrev pub isNumbered : List ℕ → ℕ → Bool
 isNumbered ws j = leb 2 (word ws j 0) && leb (word ws j 0) 3
 
@@ -52,15 +64,15 @@ pointWords ws j =
       access = word ws j 7;
     }
 
--- Is a point of the sort that is looked for?
-abbrev pub isOfSort : Sought → Point → Bool
-isOfSort Sought.ScaleFactor p = eqb (p .typeCode) sunssf
-isOfSort Sought.CountPoint p = eqb (p .typeCode) uint16 && eqb (p .access) readOnly
+-- Is the point of the kind that the reference names?
+abbrev pub isOfKind : Target → Point → Bool
+isOfKind Target.ScaleFactor p = eqb (p .typeCode) sunssf
+isOfKind Target.CountPoint p = eqb (p .typeCode) uint16 && eqb (p .access) readOnly
 
 -- Is it, with this number?
-abbrev pub isSought : Sought → ℕ → Point → Bool
-isSought Sought.ScaleFactor n p = isScaleFactorPoint n p
-isSought Sought.CountPoint n p = isCountPoint n p
+abbrev pub isTarget : Target → ℕ → Point → Bool
+isTarget Target.ScaleFactor n p = isScaleFactorPoint n p
+isTarget Target.CountPoint n p = isCountPoint n p
 
 -- The runs of points that begin at the first k of these frames, the last first.
 unfoldable pub runsOf : List ℕ → List ℕ → ℕ → List Point

@@ -1,5 +1,5 @@
--- The code's state between two frames, and the rules as the code asks them of it. `proofs/TrackedState.antt` and
--- `TrackedRules.antt` say that they stand for the state and the rules of the check.
+-- The code's state between two frames, and the rules as the code tests them. `proofs/TrackedState.antt` and
+-- `TrackedRules.antt` show that they agree with the state and the rules of the check.
 use mathlib.Core.Path.{_≡_}
 use mathlib.Core.Bool.{Bool, true, false, not, _&&_, _||_}
 use mathlib.Core.List.{List, [], _∷_, _++_}
@@ -8,51 +8,86 @@ use lib.Dec.{eqb, leb, ltb}
 use lib.ListN.{length, getD, set}
 use Rattle.lists.specs.Members.{among}
 use Rattle.lists.specs.Tests.{oneHolds}
-use Rattle.catalog.specs.Frames.{Point, Head, Frame, modelFrame, groupFrame, pointFrame, endFrame, malformed, fill}
+use Rattle.point_types.specs.Rows.{mayScale}
+use Rattle.values.specs.Classes.{twosComplement, isScaleFactor}
+use Rattle.number_sets.specs.NumberSets.{inSet}
+use Rattle.catalog.specs.Frames.{Point, Head, Frame, modelFrame, groupFrame, pointFrame, endFrame, malformed, noScale, fixedScale, scaleByPoint, constantCount, countByPoint, fill}
 use Rattle.catalog.specs.State as check
 use Rattle.catalog.specs.State.{OpenGroup}
 use Rattle.catalog.specs.Rules.{run, noPoint, isMistyped, scaleFaults, countFaults}
-use Rattle.catalog.specs.IdSets.{inSet}
 use Rattle.catalog.specs.Scans.{framesOnward, numbersBefore, runsOf}
 use Rattle.catalog.specs.declared.state.State.{State}
 
--- ---- The rules as the code asks them, before frame i of a catalog
+-- ---- The tests of each kind of frame that can hold, with the numbers of their rules, by what the code finds in its sets
+
+-- A model frame: `used` is whether its id is.
+abbrev pub modelTests : ℕ → Bool → ℕ → List (Bool × ℕ)
+modelTests depth used id = (not (eqb depth 0), 4) ∷ (eqb id 0 || eqb id 65535 || used, 6) ∷ []
+
+-- A group frame: `used` is whether its number is, `miscounted` whether rule 9 is broken.
+abbrev pub groupTests : ℕ → Bool → Bool → Bool → Head → List (Bool × ℕ)
+groupTests depth hasFill used miscounted h =
+    (eqb depth 0 || eqb depth 1 && hasFill, 4)
+    ∷ (leb 4 depth, 5)
+    ∷ (eqb (h .number) 0 || used, 6)
+    ∷ (ltb 1 (h .groupType), 7)
+    ∷ (miscounted, 9)
+    ∷ []
+
+-- A point frame: `used` is whether its number is, `misscaled` whether rule 8 is broken.
+abbrev pub pointTests : ℕ → Bool → Bool → Bool → Point → List (Bool × ℕ)
+pointTests depth hasGroup used misscaled p =
+    (eqb depth 0 || hasGroup, 4) ∷ (eqb (p .number) 0 || used, 6) ∷ (isMistyped (pointFrame p), 7) ∷ (misscaled, 8) ∷ []
+
+-- An end frame: `empty` is whether the group that ends has no point of its own.
+abbrev pub endTests : ℕ → Bool → Bool → List (Bool × ℕ)
+endTests depth hasGroup empty = (eqb depth 0, 4) ∷ (empty && not (eqb depth 1 && hasGroup), 10) ∷ []
+
+-- The clauses of rule 8: `known` is whether the point that is to give the scale factor is in scope.
+abbrev pub scaleTests : Bool → Point → List Bool
+scaleTests known p =
+    ltb 2 (p .scaleKind)
+    ∷ (eqb (p .scaleKind) noScale && not (eqb (p .scale) 0))
+    ∷ (not (eqb (p .scaleKind) noScale) && not (mayScale (p .typeCode)))
+    ∷ (eqb (p .scaleKind) fixedScale && not (isScaleFactor (twosComplement 16 (p .scale))))
+    ∷ (eqb (p .scaleKind) scaleByPoint && not known)
+    ∷ []
+
+-- The clauses of rule 9: `counted` is whether the point that is to give the count is in the top group.
+abbrev pub countTests : Bool → Bool → Head → List Bool
+countTests counted direct h =
+    ltb 2 (h .countKind)
+    ∷ (eqb (h .countKind) constantCount && eqb (h .count) 0)
+    ∷ (eqb (h .countKind) countByPoint && not counted)
+    ∷ (eqb (h .countKind) fill && not direct)
+    ∷ (eqb (h .countKind) fill && not (eqb (h .count) 0))
+    ∷ []
+
+-- ---- The same tests by a search of the catalog, before frame i
 
 -- The run of points that begins at the first frame inside the open group at level k + 1.
 abbrev pub runIn : List ℕ → State → ℕ → List Point
 runIn ws c k = run (framesOnward ws (getD (c .firsts) k 0))
 
--- Is a point's or group's number wrong?
-abbrev pub wrongNumber : List ℕ → ℕ → State → ℕ → Bool
-wrongNumber ws i c n =
-    eqb n 0 || among n (numbersBefore ws (getD (c .firsts) 0 0) (i - getD (c .firsts) 0 0))
+-- The numbers of the groups and points of the open model.
+abbrev pub numbersSoFar : List ℕ → ℕ → State → List ℕ
+numbersSoFar ws i c = numbersBefore ws (getD (c .firsts) 0 0) (i - getD (c .firsts) 0 0)
 
--- The rules of a model frame, a group frame, a point frame and an end frame that can be broken, in order.
 abbrev pub modelRules : List ℕ → State → ℕ → List (Bool × ℕ)
-modelRules used c id = (not (eqb (c .depth) 0), 4) ∷ (eqb id 0 || eqb id 65535 || inSet used id, 6) ∷ []
+modelRules used c id = modelTests (c .depth) (inSet used id) id
 
 abbrev pub groupRules : List ℕ → ℕ → State → Head → List (Bool × ℕ)
 groupRules ws i c h =
-    (eqb (c .depth) 0 || eqb (c .depth) 1 && c .«has_fill», 4)
-    ∷ (leb 4 (c .depth), 5)
-    ∷ (wrongNumber ws i c (h .number), 6)
-    ∷ (ltb 1 (h .groupType), 7)
-    ∷ (oneHolds (countFaults (runIn ws c 0) (eqb (c .depth) 1) h), 9)
-    ∷ []
+    groupTests (c .depth) (c .«has_fill») (among (h .number) (numbersSoFar ws i c))
+    (oneHolds (countFaults (runIn ws c 0) (eqb (c .depth) 1) h)) h
 
 abbrev pub pointRules : List ℕ → ℕ → State → Point → List (Bool × ℕ)
 pointRules ws i c p =
-    (eqb (c .depth) 0 || c .«has_group», 4)
-    ∷ (wrongNumber ws i c (p .number), 6)
-    ∷ (isMistyped (pointFrame p), 7)
-    ∷ (oneHolds (scaleFaults (runsOf ws (c .firsts) (c .depth)) p), 8)
-    ∷ []
+    pointTests (c .depth) (c .«has_group») (among (p .number) (numbersSoFar ws i c))
+    (oneHolds (scaleFaults (runsOf ws (c .firsts) (c .depth)) p)) p
 
 abbrev pub endRules : List ℕ → State → List (Bool × ℕ)
-endRules ws c =
-    (eqb (c .depth) 0, 4)
-    ∷ (noPoint (runIn ws c (c .depth - 1)) && not (eqb (c .depth) 1 && c .«has_group»), 10)
-    ∷ []
+endRules ws c = endTests (c .depth) (c .«has_group») (noPoint (runIn ws c (c .depth - 1)))
 
 -- The rules of a frame, where `used` is the set of the ids so far.
 abbrev pub codeRules : List ℕ → List ℕ → ℕ → State → Frame → List (Bool × ℕ)
@@ -62,25 +97,22 @@ codeRules ws used i c (pointFrame p) = pointRules ws i c p
 codeRules ws used i c endFrame = endRules ws c
 codeRules ws used i c malformed = (true, 3) ∷ []
 
--- ---- The code's state behind frame i
+-- ---- The code's state after frame i
 
--- Behind a model frame, a group frame and an end frame.
-abbrev pub behindModel : State → ℕ → State
-behindModel c i =
-    record { models = c .models + 1; depth = 1; firsts = (i + 1) ∷ 0 ∷ 0 ∷ 0 ∷ []; «has_group» = false; «has_fill» = false }
-
-abbrev pub behindGroup : State → ℕ → Head → State
-behindGroup c i h =
+-- With a group opened, which may be the top group of a model.
+abbrev pub withOpened : State → ℕ → ℕ → Bool → State
+withOpened c i models hasFill =
     record {
-      models = c .models;
+      models = models;
       depth = c .depth + 1;
       firsts = set (c .firsts) (c .depth) (i + 1);
       «has_group» = false;
-      «has_fill» = c .«has_fill» || eqb (h .countKind) fill;
+      «has_fill» = hasFill;
     }
 
-abbrev pub behindEnd : State → State
-behindEnd c =
+-- With the innermost group ended.
+abbrev pub withEnded : State → State
+withEnded c =
     record {
       models = c .models;
       depth = c .depth - 1;
@@ -89,13 +121,16 @@ behindEnd c =
       «has_fill» = c .«has_fill»;
     }
 
--- Behind any frame.
-abbrev pub stateBehind : State → ℕ → Frame → State
-stateBehind c i (modelFrame id) = behindModel c i
-stateBehind c i (groupFrame h) = behindGroup c i h
-stateBehind c i (pointFrame p) = c
-stateBehind c i endFrame = behindEnd c
-stateBehind c i malformed = c
+-- By the kind of the frame and, if it is a group frame, its count kind.
+abbrev pub stateOf : ℕ → ℕ → ℕ → State → State
+stateOf kind countKind i c =
+    elim (eqb kind 1) [
+      | true ↦ withOpened c i (c .models + 1) false
+      | false ↦ elim (eqb kind 2) [
+        | true ↦ withOpened c i (c .models) (c .«has_fill» || eqb countKind fill)
+        | false ↦ elim (eqb kind 4) [ true ↦ withEnded c | false ↦ c ]
+      ]
+    ]
 
 -- ---- What the code's state is
 
@@ -106,32 +141,29 @@ pub record Within (i : ℕ) (c : State) : Type 0 where
   pub four : length (c .firsts) ≡ 4
   pub passed : (k : ℕ) → getD (c .firsts) k 0 ≤ i
 
--- There is room for the group that a frame opens, and a group to end.
-abbrev pub Room : State → Frame → Type 0
-Room c (modelFrame id) = Unit {0}
-Room c (groupFrame h) = c .depth < 4
-Room c (pointFrame p) = Unit {0}
-Room c endFrame = 1 ≤ c .depth
-Room c malformed = Unit {0}
+-- A frame of this kind, if it opens a group, opens at most the fourth; if it ends one, one is open.
+pub record Room (kind : ℕ) (c : State) : Type 0 where
+  pub opens : kind ≤ 2 → c .depth < 4
+  pub ends : kind ≡ 4 → 1 ≤ c .depth
 
--- What is left, from frame i on, of the run of the innermost open group: nothing once a group stands in it.
+-- What is left, from frame i on, of the run of the innermost open group: nothing once a group is in it.
 abbrev pub aheadOf : List ℕ → ℕ → Bool → List Point
 aheadOf ws i hasGroup = elim hasGroup [ true ↦ [] | false ↦ run (framesOnward ws i) ]
 
--- Each open group's run of points is its points so far, and for the innermost then what is ahead. A group stands in each of
--- the others, and in the innermost where hasGroup says so.
+-- Each open group's run of points is its points so far, followed, for the innermost, by what is ahead. A group is in each of the
+-- others, and in the innermost if `hasGroup` holds.
 abbrev pub Opens : List ℕ → List ℕ → Bool → List Point → List OpenGroup → Type 0
 Opens ws firsts hasGroup ahead [] = Unit {0}
 Opens ws firsts hasGroup ahead (l ∷ ls) =
     (run (framesOnward ws (getD firsts (length ls) 0)) ≡ l .points ++ ahead) × (l .hasGroup ≡ hasGroup) × Opens ws firsts true [] ls
 
--- The code's state and its set of ids stand for a state of the check before frame i.
+-- The code's state and its set of ids agree with a state of the check before frame i.
 pub record Tracks (ws used : List ℕ) (i : ℕ) (c : State) (s : check.State) : Type 0 where
   pub within : Within i c
   pub models : c .models ≡ length (s .ids)
   pub words : length used ≡ 1024
   pub ids : (n : ℕ) → n < 65536 → inSet used n ≡ among n (s .ids)
   pub depth : c .depth ≡ length (s .openGroups)
-  pub numbers : 1 ≤ c .depth → s .numbers ≡ numbersBefore ws (getD (c .firsts) 0 0) (i - getD (c .firsts) 0 0)
+  pub numbers : 1 ≤ c .depth → s .numbers ≡ numbersSoFar ws i c
   pub hasFill : c .«has_fill» ≡ s .hasFill
   pub openGroups : Opens ws (c .firsts) (c .«has_group») (aheadOf ws i (c .«has_group»)) (s .openGroups)

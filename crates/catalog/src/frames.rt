@@ -3,9 +3,8 @@ ghost use mathlib.Core.Path.{_≡_};
 ghost use Prim.Native.Nat.{_/_, _-_, _<_, _≤_};
 ghost use lib.ListN.{length};
 ghost use Rattle.catalog.specs.Frames.{word, frameAt, frameIn};
-ghost use Rattle.catalog.specs.Answers.{frameForm, headForm, pointForm};
-ghost use Rattle.catalog.specs.IdSets.{IdFits};
-ghost use Rattle.catalog.specs.Scans.{headWords, pointWords, zeroWords};
+ghost use Rattle.catalog.specs.Answers.{IdFits, frameForm, headForm, pointForm};
+ghost use Rattle.catalog.specs.Scans.{headWords, namedWords, pointWords, zeroWords};
 
 // The words of a frame.
 pub(crate) const WORDS: usize = 8;
@@ -86,27 +85,28 @@ pub(crate) fn frame_at(catalog: &[u16], i: usize) -> Frame
     ensures { λ r. ⌜ IdFits (frameForm r) ⌝ }
 {
     let kind = word_of(catalog, i, 0);
+    if !zero_from(catalog, i, named_words(kind)) {
+        return Frame::Malformed;
+    }
     match kind {
-        MODEL => {
-            if !zero_from(catalog, i, 2) {
-                return Frame::Malformed;
-            }
-            Frame::Model(word_of(catalog, i, 1))
-        }
-        GROUP => {
-            if !zero_from(catalog, i, 5) {
-                return Frame::Malformed;
-            }
-            Frame::Group(head_at(catalog, i))
-        }
+        MODEL => Frame::Model(word_of(catalog, i, 1)),
+        GROUP => Frame::Group(head_at(catalog, i)),
         POINT => Frame::Point(point_at(catalog, i)),
-        END => {
-            if !zero_from(catalog, i, 1) {
-                return Frame::Malformed;
-            }
-            Frame::End
-        }
+        END => Frame::End,
         _ => Frame::Malformed,
+    }
+}
+
+// The number of words that a kind names, word 0 included.
+fn named_words(kind: u16) -> usize
+    ensures { λ r. ⌜ r ≡ namedWords kind ⌝ }
+    ensures { λ r. ⌜ r ≤ 8 ⌝ }
+{
+    match kind {
+        MODEL => 2,
+        GROUP => 5,
+        END => 1,
+        _ => WORDS,
     }
 }
 

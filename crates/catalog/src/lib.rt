@@ -1,6 +1,5 @@
 // Checks a catalog of model definitions (refusals 1 to 11). `check` takes any words and writes nothing.
 mod frames;
-mod idset;
 mod rules;
 mod scans;
 mod state;
@@ -17,17 +16,15 @@ pub use frames::READ_ONLY;
 pub use frames::SCALE_BY_POINT;
 pub use frames::SUNSSF;
 use frames::WORDS;
-use frames::frame_at;
 pub use frames::read_frame;
-use idset::SET_WORDS;
-use idset::put_frame_in;
-use rules::Fault;
+use number_sets::SET_WORDS;
 use rules::fault_at;
+use scans::begin_model;
 use scans::mark_number;
 use scans::mark_scales;
-use scans::uncounted_behind;
 use state::State;
-use state::behind;
+use state::after;
+use state::innermost;
 ghost use mathlib.Core.Path.{_≡_};
 ghost use Prim.Native.Nat.{_/_, _≤_};
 ghost use lib.ListN.{length};
@@ -37,8 +34,8 @@ ghost use Rattle.catalog.specs.Answers.{answer};
 // The most frames of a catalog.
 const FRAMES: usize = 4096;
 
-// What `check` answers: the number of models, or the number of a refusal (1 to 11) and its place: the index of
-// the frame, the number of frames for 11, and 0 for 1 and 2.
+// What `check` returns: the number of models, or the number of a refusal (1 to 11) and its place: the index of the
+// frame, the number of frames for 11, and 0 for 1 and 2.
 pub enum Checked {
     Models(usize),
     Refused { number: u16, place: usize },
@@ -83,20 +80,26 @@ fn check_frames(catalog: &[u16]) -> Checked
     let mut uncounted = 0;
     let mut i = 0;
     while i < frames {
-        let frame = frame_at(catalog, i);
-        let fault = fault_at(catalog, &ids, &numbers, &scales, i, uncounted, state, frame);
-        match fault {
-            Fault::Nothing => {
-                put_frame_in(&mut ids, frame);
-                mark_number(catalog, &mut numbers, i, state, frame);
-                uncounted = uncounted_behind(catalog, &mut scales, i, uncounted, frame);
-                mark_scales(catalog, &mut scales, i, state, frame);
-                state = behind(state, i, frame);
-            }
-            Fault::Rule(number) => {
-                return Checked::Refused { number, place: i };
-            }
+        let fault = fault_at(catalog, &ids, &numbers, &scales, i, uncounted, state);
+        if fault != 0 {
+            return Checked::Refused {
+                number: fault,
+                place: i,
+            };
         }
+        let inner = innermost(state);
+        uncounted = begin_model(
+            catalog,
+            &mut ids,
+            &mut numbers,
+            &mut scales,
+            i,
+            inner,
+            uncounted,
+        );
+        mark_number(catalog, &mut numbers, i, true);
+        mark_scales(catalog, &mut scales, i, inner);
+        state = after(catalog, i, state);
         i += 1;
     }
     if state.depth != 0 {

@@ -9,160 +9,175 @@ use crate::frames::NO_SCALE;
 use crate::frames::POINT;
 use crate::frames::Point;
 use crate::frames::SCALE_BY_POINT;
+use crate::frames::frame_at;
 use crate::frames::word_of;
-use crate::idset::is_in;
 use crate::state::LEVELS;
 use crate::state::State;
+use crate::state::innermost;
+use number_sets::SET_WORDS;
+use number_sets::is_in;
 use point_types::RegisterCount;
 ghost use mathlib.Core.Path.{_≡_};
 ghost use mathlib.Core.Bool.{_&&_, _||_};
 ghost use Prim.Native.Nat.{_/_, _<_};
 ghost use lib.Dec.{eqb};
 ghost use lib.ListN.{length};
-ghost use Rattle.lists.specs.Tests.{firstBroken};
+ghost use Rattle.lists.specs.Tests.{firstBroken, oneHolds};
+ghost use Rattle.number_sets.specs.NumberSets.{inSet};
 ghost use Rattle.catalog.specs.Frames.{pointFrame, frameAt};
 ghost use Rattle.catalog.specs.Rules.{isSizeOf, isMistyped};
-ghost use Rattle.catalog.specs.IdSets.{inSet};
-ghost use Rattle.catalog.specs.Marks.{Indexed, IsGroupFault, IsPointFault, IsMisscaled, IsMiscounted};
-ghost use Rattle.catalog.specs.Answers.{frameForm, headForm, pointForm, faultForm};
-ghost use Rattle.catalog.specs.Tracking.{Within, codeRules, modelRules, endRules};
+ghost use Rattle.catalog.specs.Answers.{IdFits, faultForm, headForm, pointForm};
+ghost use Rattle.catalog.specs.Tracking.{Within, codeRules, countTests, endTests, groupTests, modelTests, pointTests, scaleTests};
+ghost use Rattle.catalog.specs.Marks.{Indexed};
 
-// The number of the first rule that a frame breaks, if it breaks one.
-pub(crate) enum Fault {
-    Nothing,
-    Rule(u16),
-}
-
-// The fault of frame i, which is `frame`, behind models with these ids. `numbers` are those used in the open model,
-// `scales` the scale factors in reach, `uncounted` the first group whose count no point gives.
+// The number of the first rule that frame i breaks, or 0 if it breaks none. `ids` are the model ids so far, `numbers`
+// the numbers used in the open model, `scales` the scale factors in scope, `uncounted` the first group whose count no
+// point gives.
 pub(crate) fn fault_at(
     catalog: &[u16],
-    ids: &[u64],
-    numbers: &[u64],
-    scales: &[u64],
+    ids: &[u64; SET_WORDS],
+    numbers: &[u64; SET_WORDS],
+    scales: &[u64; SET_WORDS],
     i: usize,
     uncounted: usize,
     state: State,
-    frame: Frame,
-) -> Fault
-    requires { ⌜ (i < length (now catalog) / 8) × (length (now ids) ≡ 1024) ⌝ }
+) -> u16
+    requires { ⌜ i < length (now catalog) / 8 ⌝ }
     requires { ⌜ Within i state ⌝ }
     requires { ⌜ Indexed (now catalog) (now numbers) (now scales) uncounted i state ⌝ }
-    requires { ⌜ frameForm frame ≡ frameAt (now catalog) i ⌝ }
-    ensures { λ r. ⌜ faultForm r ≡ firstBroken (codeRules (now (catalog .entry)) (now (ids .entry)) i state (frameForm frame)) ⌝ }
+    ensures { λ r. ⌜ faultForm r ≡ firstBroken (codeRules (now (catalog .entry)) (now (ids .entry)) i state (frameAt (now (catalog .entry)) i)) ⌝ }
+    ensures { λ _. ⌜ IdFits (frameAt (now (catalog .entry)) i) ⌝ }
 {
+    let frame = frame_at(catalog, i);
     match frame {
-        Frame::Model(id) => model_fault(ids, state, id),
-        Frame::Group(head) => group_fault(numbers, i, uncounted, state, head),
-        Frame::Point(point) => point_fault(numbers, scales, state, point),
-        Frame::End => end_fault(catalog, i, state),
-        Frame::Malformed => Fault::Rule(3),
+        Frame::Model(id) => model_fault(ids, state.depth, id),
+        Frame::Group(head) => group_fault(
+            numbers,
+            state.depth,
+            state.has_fill,
+            head,
+            i != uncounted,
+        ),
+        Frame::Point(point) => point_fault(numbers, scales, state.depth, state.has_group, point),
+        Frame::End => end_fault(
+            state.depth,
+            state.has_group,
+            word_of(catalog, innermost(state), 0) != POINT,
+        ),
+        Frame::Malformed => 3,
     }
 }
 
 // The rules of a model frame.
-fn model_fault(ids: &[u64], state: State, id: u16) -> Fault
-    requires { ⌜ length (now ids) ≡ 1024 ⌝ }
-    ensures { λ r. ⌜ faultForm r ≡ firstBroken (modelRules (now (ids .entry)) state id) ⌝ }
+fn model_fault(ids: &[u64; SET_WORDS], depth: usize, id: u16) -> u16
+    ensures { λ r. ⌜ faultForm r ≡ firstBroken (modelTests depth (inSet (now (ids .entry)) id) id) ⌝ }
 {
-    if state.depth != 0 {
-        return Fault::Rule(4);
+    if depth != 0 {
+        return 4;
     }
     if id == 0 {
-        return Fault::Rule(6);
+        return 6;
     }
     if id == 65535 {
-        return Fault::Rule(6);
+        return 6;
     }
     if is_in(ids, id) {
-        return Fault::Rule(6);
+        return 6;
     }
-    Fault::Nothing
+    0
 }
 
-// The rules of a group frame.
-fn group_fault(numbers: &[u64], i: usize, uncounted: usize, state: State, head: Head) -> Fault
-    requires { ⌜ length (now numbers) ≡ 1024 ⌝ }
-    ensures { λ r. ⌜ IsGroupFault (now (numbers .entry)) uncounted i state (headForm head) (faultForm r) ⌝ }
+// The rules of a group frame. `counted` is whether a point of the top group gives its count, if one is to.
+fn group_fault(
+    numbers: &[u64; SET_WORDS],
+    depth: usize,
+    has_fill: bool,
+    head: Head,
+    counted: bool,
+) -> u16
+    ensures { λ r. ⌜ faultForm r ≡ firstBroken (groupTests depth «has_fill» (inSet (now (numbers .entry)) (head .number)) (oneHolds (countTests counted (eqb depth 1) (headForm head))) (headForm head)) ⌝ }
 {
-    if state.depth == 0 {
-        return Fault::Rule(4);
+    if depth == 0 {
+        return 4;
     }
-    if is_after_fill(state) {
-        return Fault::Rule(4);
+    if is_after_fill(depth, has_fill) {
+        return 4;
     }
-    if LEVELS <= state.depth {
-        return Fault::Rule(5);
+    if LEVELS <= depth {
+        return 5;
     }
     if is_misnumbered(numbers, head.number) {
-        return Fault::Rule(6);
+        return 6;
     }
     if 1 < head.group_type {
-        return Fault::Rule(7);
+        return 7;
     }
-    if is_miscounted(state, head, i != uncounted) {
-        return Fault::Rule(9);
+    if is_miscounted(depth, head, counted) {
+        return 9;
     }
-    Fault::Nothing
+    0
 }
 
 // The rules of a point frame.
-fn point_fault(numbers: &[u64], scales: &[u64], state: State, point: Point) -> Fault
-    requires { ⌜ (length (now numbers) ≡ 1024) × (length (now scales) ≡ 1024) ⌝ }
-    ensures { λ r. ⌜ IsPointFault (now (numbers .entry)) (now (scales .entry)) state (pointForm point) (faultForm r) ⌝ }
+fn point_fault(
+    numbers: &[u64; SET_WORDS],
+    scales: &[u64; SET_WORDS],
+    depth: usize,
+    has_group: bool,
+    point: Point,
+) -> u16
+    ensures { λ r. ⌜ faultForm r ≡ firstBroken (pointTests depth «has_group» (inSet (now (numbers .entry)) (point .number)) (oneHolds (scaleTests (inSet (now (scales .entry)) (point .scale)) (pointForm point))) (pointForm point)) ⌝ }
 {
-    if state.depth == 0 {
-        return Fault::Rule(4);
+    if depth == 0 {
+        return 4;
     }
-    if state.has_group {
-        return Fault::Rule(4);
+    if has_group {
+        return 4;
     }
     if is_misnumbered(numbers, point.number) {
-        return Fault::Rule(6);
+        return 6;
     }
     if is_mistyped(point) {
-        return Fault::Rule(7);
+        return 7;
     }
     if is_misscaled(scales, point) {
-        return Fault::Rule(8);
+        return 8;
     }
-    Fault::Nothing
+    0
 }
 
-// The rules of an end frame. Points come first in a group, so its first frame tells whether it has one.
-fn end_fault(catalog: &[u16], i: usize, state: State) -> Fault
-    requires { ⌜ i < length (now catalog) / 8 ⌝ }
-    requires { ⌜ Within i state ⌝ }
-    ensures { λ r. ⌜ faultForm r ≡ firstBroken (endRules (now (catalog .entry)) state) ⌝ }
+// The rules of an end frame. `empty` is whether the group that ends has no point: points come first in a group, so its
+// first frame shows that.
+fn end_fault(depth: usize, has_group: bool, empty: bool) -> u16
+    ensures { λ r. ⌜ faultForm r ≡ firstBroken (endTests depth «has_group» empty) ⌝ }
 {
-    if state.depth == 0 {
-        return Fault::Rule(4);
+    if depth == 0 {
+        return 4;
     }
-    if word_of(catalog, state.firsts[state.depth - 1], 0) == POINT {
-        return Fault::Nothing;
+    if !empty {
+        return 0;
     }
-    if 1 < state.depth {
-        return Fault::Rule(10);
+    if 1 < depth {
+        return 10;
     }
-    if !state.has_group {
-        return Fault::Rule(10);
+    if !has_group {
+        return 10;
     }
-    Fault::Nothing
+    0
 }
 
 // Is the top group the innermost open one, with a fill group in it?
-fn is_after_fill(state: State) -> bool
-    ensures { λ r. ⌜ r ≡ eqb (state .depth) 1 && state .«has_fill» ⌝ }
+fn is_after_fill(depth: usize, has_fill: bool) -> bool
+    ensures { λ r. ⌜ r ≡ eqb depth 1 && «has_fill» ⌝ }
 {
-    if state.depth != 1 {
+    if depth != 1 {
         return false;
     }
-    state.has_fill
+    has_fill
 }
 
 // Is the number of a point or group 0, or used in this model?
-fn is_misnumbered(numbers: &[u64], number: u16) -> bool
-    requires { ⌜ length (now numbers) ≡ 1024 ⌝ }
+fn is_misnumbered(numbers: &[u64; SET_WORDS], number: u16) -> bool
     ensures { λ r. ⌜ r ≡ eqb number 0 || inSet (now (numbers .entry)) number ⌝ }
 {
     if number == 0 {
@@ -200,10 +215,9 @@ fn is_size_of(type_code: u16, size: u16) -> bool
     }
 }
 
-// Is the scale factor of a point wrong? One given by a point must be in reach.
-fn is_misscaled(scales: &[u64], point: Point) -> bool
-    requires { ⌜ length (now scales) ≡ 1024 ⌝ }
-    ensures { λ r. ⌜ IsMisscaled (now (scales .entry)) (pointForm point) r ⌝ }
+// Is the scale factor of a point wrong? One given by a point must be in scope.
+fn is_misscaled(scales: &[u64; SET_WORDS], point: Point) -> bool
+    ensures { λ r. ⌜ r ≡ oneHolds (scaleTests (inSet (now (scales .entry)) (point .scale)) (pointForm point)) ⌝ }
 {
     let kind = point.scale_kind;
     if kind == NO_SCALE {
@@ -220,15 +234,15 @@ fn is_misscaled(scales: &[u64], point: Point) -> bool
 }
 
 // Is the count of a group wrong? `counted` is whether a point of the top group gives it, if one is to.
-fn is_miscounted(state: State, head: Head, counted: bool) -> bool
-    ensures { λ r. ⌜ IsMiscounted (eqb (state .depth) 1) counted (headForm head) r ⌝ }
+fn is_miscounted(depth: usize, head: Head, counted: bool) -> bool
+    ensures { λ r. ⌜ r ≡ oneHolds (countTests counted (eqb depth 1) (headForm head)) ⌝ }
 {
     let kind = head.count_kind;
     match kind {
         CONSTANT_COUNT => head.count == 0,
         COUNT_BY_POINT => !counted,
         FILL => {
-            if state.depth != 1 {
+            if depth != 1 {
                 return true;
             }
             head.count != 0

@@ -1,18 +1,22 @@
 // What the check knows between two frames.
+use crate::frames::END;
 use crate::frames::FILL;
-use crate::frames::Frame;
-use crate::frames::Head;
+use crate::frames::GROUP;
+use crate::frames::MODEL;
+use crate::frames::word_of;
 ghost use mathlib.Core.Path.{_≡_};
-ghost use Prim.Native.Nat.{_<_, _≤_};
-ghost use Rattle.catalog.specs.Answers.{frameForm, headForm};
-ghost use Rattle.catalog.specs.Tracking.{Room, stateBehind, behindModel, behindGroup, behindEnd};
+ghost use mathlib.Core.Bool.{_||_};
+ghost use Prim.Native.Nat.{_-_, _/_, _<_, _≤_};
+ghost use lib.Dec.{eqb};
+ghost use lib.ListN.{length, getD};
+ghost use Rattle.catalog.specs.Frames.{word, fill};
+ghost use Rattle.catalog.specs.Tracking.{Room, withOpened, withEnded, stateOf};
 
 // The levels of groups: the top group is level 1.
 pub(crate) const LEVELS: usize = 4;
 
-// The models so far, an open one too; how many groups are open, and the first frame inside each, that of
-// the top group first; whether a group stands directly in the innermost; whether a fill group stands in
-// the top group.
+// The number of models so far, an open one included; the number of open groups, and the first frame inside each, that of
+// the top group first; whether a group is directly in the innermost; whether a fill group is in the top group.
 pub(crate) struct State {
     pub(crate) models: usize,
     pub(crate) depth: usize,
@@ -21,55 +25,68 @@ pub(crate) struct State {
     pub(crate) has_fill: bool,
 }
 
-// The state behind frame i, which breaks no rule.
-pub(crate) fn behind(state: State, i: usize, frame: Frame) -> State
-    requires { ⌜ (state .models ≤ i) × (i < 4096) ⌝ }
-    requires { ⌜ Room state (frameForm frame) ⌝ }
-    ensures { λ r. ⌜ r ≡ stateBehind state i (frameForm frame) ⌝ }
+// The first frame inside the innermost open group. With none open, that of the last top group.
+pub(crate) fn innermost(state: State) -> usize
+    requires { ⌜ state .depth ≤ 4 ⌝ }
+    ensures { λ r. ⌜ r ≡ getD (state .firsts) (state .depth - 1) 0 ⌝ }
 {
-    match frame {
-        Frame::Model(_) => behind_model(state, i),
-        Frame::Group(head) => behind_group(state, i, head),
-        Frame::Point(_) => state,
-        Frame::End => behind_end(state),
-        Frame::Malformed => state,
+    if state.depth == 0 {
+        return state.firsts[0];
+    }
+    state.firsts[state.depth - 1]
+}
+
+// The state after frame i, which breaks no rule.
+pub(crate) fn after(catalog: &[u16], i: usize, state: State) -> State
+    requires { ⌜ (i < length (now catalog) / 8) × (i < 4096) × (state .models ≤ i) ⌝ }
+    requires { ⌜ Room (word (now catalog) i 0) state ⌝ }
+    ensures { λ r. ⌜ r ≡ stateOf (word (now (catalog .entry)) i 0) (word (now (catalog .entry)) i 3) i state ⌝ }
+{
+    let kind = word_of(catalog, i, 0);
+    match kind {
+        MODEL => opened(state, i, state.models + 1, false),
+        GROUP => opened(
+            state,
+            i,
+            state.models,
+            is_fill_in(state.has_fill, word_of(catalog, i, 3)),
+        ),
+        END => ended(state),
+        _ => state,
     }
 }
 
-// A model begins: its top group is open.
-fn behind_model(state: State, i: usize) -> State
-    requires { ⌜ (state .models ≤ i) × (i < 4096) ⌝ }
-    ensures { λ r. ⌜ r ≡ behindModel state i ⌝ }
+// Is a fill group in the top group, once a group of this count kind is opened?
+fn is_fill_in(has_fill: bool, count_kind: u16) -> bool
+    ensures { λ r. ⌜ r ≡ «has_fill» || eqb «count_kind» fill ⌝ }
 {
-    State {
-        models: state.models + 1,
-        depth: 1,
-        firsts: [i + 1, 0, 0, 0],
-        has_group: false,
-        has_fill: false,
+    if has_fill {
+        return true;
     }
+    count_kind == FILL
 }
 
-// A group is opened in the innermost open one.
-fn behind_group(state: State, i: usize, head: Head) -> State
+// A group is opened in the innermost open one, or the top group of a model.
+fn opened(state: State, i: usize, models: usize, has_fill: bool) -> State
     requires { ⌜ (i < 4096) × (state .depth < 4) ⌝ }
-    ensures { λ r. ⌜ r ≡ behindGroup state i (headForm head) ⌝ }
+    ensures { λ r. ⌜ r ≡ withOpened state i models «has_fill» ⌝ }
 {
+    let depth = state.depth;
     let mut firsts = state.firsts;
-    firsts[state.depth] = i + 1;
+    firsts[depth] = i + 1;
     State {
-        models: state.models,
-        depth: state.depth + 1,
+        models,
+        depth: depth + 1,
         firsts,
         has_group: false,
-        has_fill: state.has_fill || head.count_kind == FILL,
+        has_fill,
     }
 }
 
-// The innermost open group ends, so that a group stands in the one around it.
-fn behind_end(state: State) -> State
+// The innermost open group ends, so that a group is in the one around it.
+fn ended(state: State) -> State
     requires { ⌜ 1 ≤ state .depth ⌝ }
-    ensures { λ r. ⌜ r ≡ behindEnd state ⌝ }
+    ensures { λ r. ⌜ r ≡ withEnded state ⌝ }
 {
     let firsts = state.firsts;
     State {

@@ -1,62 +1,107 @@
 -- `catalog::rules::fault_at` meets its contract: each kind of frame has its rules.
-use mathlib.Core.Path.{sym, ap, _∙_}
-use Rattle.catalog.specs.Answers.{frameForm}
+use mathlib.Core.Path.{refl, sym, ap, _∙_}
+use mathlib.Core.Bool.{not}
+use native.Mathlib.Omega.{arith}
+use Prim.Native.Nat.{_-_}
+use lib.Dec.{eqb}
+use Rattle.lists.specs.Tests.{firstBroken}
+use Rattle.catalog.specs.Rules.{noPoint, run}
+use Rattle.catalog.specs.Answers.{frameForm, headForm, pointForm}
+use Rattle.catalog.specs.Scans.{framesOnward}
+use Rattle.catalog.specs.Tracking.{endTests}
+use Rattle.catalog.proofs.MarkedRules as marked
 use borrow.Author.Needs.{needs}
 use Rattle.catalog.proofs.rules.fault_at.Statement.{statement}
 use Rattle.catalog.proofs.rules.fault_at.Tie as tie
+
+frame-at-requires : tie.Need-frame-at-requires
+frame-at-requires c κs = search needs
 
 enum-known-frame : tie.Need-enum-known-frame
 enum-known-frame c = search needs
 
 model-fault-requires : tie.Need-model-fault-requires
-model-fault-requires c κs = c .before .before .before .before .before .before .before .pre .0 .1
+model-fault-requires c κs = search needs
 
 enum-known-frame-2 : tie.Need-enum-known-frame-2
 enum-known-frame-2 c = search needs
 
 group-fault-requires : tie.Need-group-fault-requires
-group-fault-requires c κs = c .before .before .before .before .before .before .before .pre .1 .1 .0 .numberWords
+group-fault-requires c κs = search needs
 
 enum-known-frame-3 : tie.Need-enum-known-frame-3
 enum-known-frame-3 c = search needs
 
 point-fault-requires : tie.Need-point-fault-requires
-point-fault-requires c κs =
-    (c .before .before .before .before .before .before .before .pre .1 .1 .0 .numberWords, c .before .before .before .before .before .before .before .pre .1 .1 .0 .scaleWords)
+point-fault-requires c κs = search needs
 
 enum-told : tie.Need-enum-told
 enum-told c = search needs
 
+innermost-requires : tie.Need-innermost-requires
+innermost-requires c κs = search needs
+
+word-of-requires : tie.Need-word-of-requires
+word-of-requires c κs =
+    let s = c .before .before .before .before .before in
+    let inside = s .pre .1 .0 .passed (s .args .state .depth - 1) in
+    (omega (arith, inside, c .innermost .ensures, s .pre .0), search needs)
+
 end-fault-requires : tie.Need-end-fault-requires
-end-fault-requires c κs =
-    (c .before .before .before .before .before .before .pre .0 .0, c .before .before .before .before .before .before .pre .1 .0)
+end-fault-requires c κs = search needs
 
 enum-told-2 : tie.Need-enum-told-2
 enum-told-2 c = search needs
 
 returns : tie.Need-returns
-returns c = rw (c .before .before .frame .given .1) (c .model-fault .ensures)
+returns c =
+    let f = c .before .before .before .before .frame-at .ensures in
+    let is = c .before .before .frame .given .1 in
+    rw (← f .0, is) (c .model-fault .ensures, rw is at (f .1))
 
 returns-2 : tie.Need-returns-2
 returns-2 c =
-    let p = c .before .before .before .before .before .before .before .before .pre in
-    let here = sym (ap frameForm (c .before .before .frame2 .given .1)) ∙ p .1 .1 .1 in
-    rw (c .before .before .frame2 .given .1) (c .group-fault .ensures _ _ (p .1 .1 .0) (p .0 .0) here)
+    let s = c .before .before .before .before .before .before in
+    let x = s .pre .1 .1 in
+    let f = c .before .before .before .before .frame-at .ensures in
+    let is = c .before .before .frame2 .given .1 in
+    let fits = rw is at (f .1) in
+    let here = sym (ap frameForm is) ∙ f .0 in
+    let same = marked.group-tested _ _ _ _ _ _ x (s .pre .0) _ here (fits .1) (fits .0) in
+    rw (← f .0, is) (c .group-fault .ensures ∙ same, fits)
 
 returns-3 : tie.Need-returns-3
 returns-3 c =
-    rw (c .before .before .frame3 .given .1) (c .point-fault .ensures _ _ _ (c .before .before .before .before .before .before .before .before .pre .1 .1 .0))
+    let s = c .before .before .before .before .before .before in
+    let x = s .pre .1 .1 in
+    let f = c .before .before .before .before .frame-at .ensures in
+    let is = c .before .before .frame3 .given .1 in
+    let fits = rw is at (f .1) in
+    let same = ap firstBroken (marked.point-tested _ _ _ _ _ _ x (pointForm (c .before .before .frame3 .given .0 .0)) (fits .0) (fits .1)) in
+    rw (← f .0, is) (c .point-fault .ensures ∙ same, fits)
 
 returns-4 : tie.Need-returns-4
-returns-4 c = rw (c .before .enum-told .given .1) (c .end-fault .ensures)
+returns-4 c =
+    let s = c .before .before .before .before .before .before .before in
+    let ws = s .args .catalog .now in
+    let state = s .args .state in
+    let f = c .before .before .before .before .before .frame-at .ensures in
+    let is = c .before .before .before .enum-told .given .1 in
+    let first = c .before .before .innermost in
+    let inside = s .pre .1 .0 .passed (state .depth - 1) in
+    let read = ap (λ k. not (eqb k 3)) (c .before .word-of .ensures) in
+    let empty = read ∙ marked.empty-by-first ws (first .result) (omega (arith, inside, first .ensures, s .pre .0)) in
+    let same = empty ∙ ap (λ j. noPoint (run (framesOnward ws j))) (first .ensures) in
+    rw (← f .0, is) (c .end-fault .ensures ∙ ap (λ b. firstBroken (endTests (state .depth) (state .«has_group») b)) same, tt)
 
 returns-5 : tie.Need-returns-5
-returns-5 c = rw (c .enum-told2 .given .1)
+returns-5 c = rw (← c .before .before .frame-at .ensures .0, c .enum-told2 .given .1) (refl, tt)
 
 pub fault-at-spec : {M : Type 1} → statement M
 fault-at-spec =
     tie.close
     (tie.spec
+    frame-at-requires
     enum-known-frame
     model-fault-requires
     enum-known-frame-2
@@ -64,6 +109,8 @@ fault-at-spec =
     enum-known-frame-3
     point-fault-requires
     enum-told
+    innermost-requires
+    word-of-requires
     end-fault-requires
     enum-told-2
     returns

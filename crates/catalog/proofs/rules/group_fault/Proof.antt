@@ -1,31 +1,25 @@
 -- `catalog::rules::group_fault` meets its contract: the tests in the order of their rules.
-use native.Mathlib.Omega.{arith}
 use borrow.Author.Tests.{eq-eqb, ne-eqb, lt-ltb, le-ltb, le-leb, lt-leb}
-use Rattle.catalog.specs.Answers.{headForm}
-use Rattle.catalog.proofs.MarkedRules as marked
 use borrow.Author.Needs.{needs}
 use Rattle.catalog.proofs.rules.group_fault.Statement.{statement}
 use Rattle.catalog.proofs.rules.group_fault.Tie as tie
 
 returns : tie.Need-returns
-returns c = λ ws scales x h e. rw (eq-eqb _ _ (c .if1 .taken))
+returns c = rw (eq-eqb _ _ (c .if1 .taken))
 
 is-after-fill-requires : tie.Need-is-after-fill-requires
 is-after-fill-requires c κs = search needs
 
 returns-2 : tie.Need-returns-2
-returns-2 c =
-    λ ws scales x h e. rw (ne-eqb _ _ (c .before .before .if1 .left), ← c .before .is-after-fill .ensures, c .if2 .taken)
+returns-2 c = rw (ne-eqb _ _ (c .before .before .if1 .left), ← c .before .is-after-fill .ensures, c .if2 .taken)
 
 returns-3 : tie.Need-returns-3
 returns-3 c =
-    λ ws scales x h e.
-    let a = c .before .before .before .before .before .before .before .args in
     rw (
-      ne-eqb _ _ (c .before .before .before .before .if1 .left),
-      ← c .before .before .before .is-after-fill .ensures,
-      c .before .before .if2 .left,
-      le-leb 4 (a .state .depth) (omega (arith, c .if3 .taken)),
+      ne-eqb _ _ (c .before .before .before .if1 .left),
+      ← c .before .before .is-after-fill .ensures,
+      c .before .if2 .left,
+      le-leb _ _ (c .if3 .taken),
     )
 
 is-misnumbered-requires : tie.Need-is-misnumbered-requires
@@ -33,29 +27,23 @@ is-misnumbered-requires c κs = search needs
 
 returns-4 : tie.Need-returns-4
 returns-4 c =
-    λ ws scales x h e.
-    let a = c .before .before .before .before .before .before .before .before .before .args in
-    let number = marked.number-tested ws _ _ _ _ _ x (a .head .number) (omega arith) (c .before .is-misnumbered .ensures) in
     rw (
-      ne-eqb _ _ (c .before .before .before .before .before .before .if1 .left),
-      ← c .before .before .before .before .before .is-after-fill .ensures,
-      c .before .before .before .before .if2 .left,
-      lt-leb 4 (a .state .depth) (omega (arith, c .before .before .if3 .left)),
-      ← number,
+      ne-eqb _ _ (c .before .before .before .before .before .if1 .left),
+      ← c .before .before .before .before .is-after-fill .ensures,
+      c .before .before .before .if2 .left,
+      lt-leb _ _ (c .before .before .if3 .left),
+      ← c .before .is-misnumbered .ensures,
       c .if4 .taken,
     )
 
 returns-5 : tie.Need-returns-5
 returns-5 c =
-    λ ws scales x h e.
-    let a = c .before .before .before .before .before .before .before .before .before .before .before .args in
-    let number = marked.number-tested ws _ _ _ _ _ x (a .head .number) (omega arith) (c .before .before .before .is-misnumbered .ensures) in
     rw (
-      ne-eqb _ _ (c .before .before .before .before .before .before .before .before .if1 .left),
-      ← c .before .before .before .before .before .before .before .is-after-fill .ensures,
-      c .before .before .before .before .before .before .if2 .left,
-      lt-leb 4 (a .state .depth) (omega (arith, c .before .before .before .before .if3 .left)),
-      ← number,
+      ne-eqb _ _ (c .before .before .before .before .before .before .before .if1 .left),
+      ← c .before .before .before .before .before .before .is-after-fill .ensures,
+      c .before .before .before .before .before .if2 .left,
+      lt-leb _ _ (c .before .before .before .before .if3 .left),
+      ← c .before .before .before .is-misnumbered .ensures,
       c .before .before .if4 .left,
       lt-ltb _ _ (c .if5 .taken),
     )
@@ -65,39 +53,29 @@ is-miscounted-requires c κs = search needs
 
 returns-6 : tie.Need-returns-6
 returns-6 c =
-    λ ws scales x h e.
-    let a = c .before .before .before .before .before .before .before .before .before .before .before .before .before .args in
-    let number = marked.number-tested ws _ _ _ _ _ x (a .head .number) (omega arith) (c .before .before .before .before .before .is-misnumbered .ensures) in
-    let count =
-    marked.count-tested ws _ _ _ _ _ x h (headForm (a .head)) e (omega arith) (c .before .before .before .before .before .before .before .before .before .before .if1 .left) (c .before .is-miscounted .ensures) in
     rw (
-      ne-eqb _ _ (c .before .before .before .before .before .before .before .before .before .before .if1 .left),
-      ← c .before .before .before .before .before .before .before .before .before .is-after-fill .ensures,
-      c .before .before .before .before .before .before .before .before .if2 .left,
-      lt-leb 4 (a .state .depth) (omega (arith, c .before .before .before .before .before .before .if3 .left)),
-      ← number,
+      ne-eqb _ _ (c .before .before .before .before .before .before .before .before .before .if1 .left),
+      ← c .before .before .before .before .before .before .before .before .is-after-fill .ensures,
+      c .before .before .before .before .before .before .before .if2 .left,
+      lt-leb _ _ (c .before .before .before .before .before .before .if3 .left),
+      ← c .before .before .before .before .before .is-misnumbered .ensures,
       c .before .before .before .before .if4 .left,
       le-ltb _ _ (c .before .before .if5 .left),
-      ← count,
+      ← c .before .is-miscounted .ensures,
       c .if6 .taken,
     )
 
 returns-7 : tie.Need-returns-7
 returns-7 c =
-    λ ws scales x h e.
-    let a = c .before .before .before .before .before .before .before .before .before .before .before .before .before .args in
-    let number = marked.number-tested ws _ _ _ _ _ x (a .head .number) (omega arith) (c .before .before .before .before .before .is-misnumbered .ensures) in
-    let count =
-    marked.count-tested ws _ _ _ _ _ x h (headForm (a .head)) e (omega arith) (c .before .before .before .before .before .before .before .before .before .before .if1 .left) (c .before .is-miscounted .ensures) in
     rw (
-      ne-eqb _ _ (c .before .before .before .before .before .before .before .before .before .before .if1 .left),
-      ← c .before .before .before .before .before .before .before .before .before .is-after-fill .ensures,
-      c .before .before .before .before .before .before .before .before .if2 .left,
-      lt-leb 4 (a .state .depth) (omega (arith, c .before .before .before .before .before .before .if3 .left)),
-      ← number,
+      ne-eqb _ _ (c .before .before .before .before .before .before .before .before .before .if1 .left),
+      ← c .before .before .before .before .before .before .before .before .is-after-fill .ensures,
+      c .before .before .before .before .before .before .before .if2 .left,
+      lt-leb _ _ (c .before .before .before .before .before .before .if3 .left),
+      ← c .before .before .before .before .before .is-misnumbered .ensures,
       c .before .before .before .before .if4 .left,
       le-ltb _ _ (c .before .before .if5 .left),
-      ← count,
+      ← c .before .is-miscounted .ensures,
       c .if6 .left,
     )
 

@@ -1,6 +1,5 @@
 -- `catalog::rules::is_miscounted` meets its contract: each count kind has its clause of rule 9.
-use mathlib.Core.Path.{sym, ap, _∙_}
-use mathlib.Core.Bool.{not}
+use mathlib.Core.Path.{sym}
 use borrow.Author.Tests.{eq-eqb, ne-eqb}
 use lib.Dec.{eqb}
 use Rattle.catalog.specs.Answers.{headForm}
@@ -10,35 +9,29 @@ use Rattle.catalog.proofs.rules.is_miscounted.Tie as tie
 
 returns : tie.Need-returns
 returns c =
-    λ top e.
-    let a = c .before .before .before .args in
-    sym (kinds.fill-outside top (eqb (a .state .depth) 1) (headForm (a .head)) (c .before .before .match .keys3) (ne-eqb _ _ (c .if1 .taken)))
+    let a = c .before .before .args in
+    sym (kinds.fill-outside (a .counted) (eqb (a .depth) 1) (headForm (a .head)) (c .before .match .keys3) (ne-eqb _ _ (c .if1 .taken)))
 
 returns-2 : tie.Need-returns-2
 returns-2 c =
-    λ top e.
     let a = c .before .before .args in
-    sym (kinds.constant-count top (eqb (a .state .depth) 1) (headForm (a .head)) (c .before .match .keys1))
+    sym (kinds.constant-count (a .counted) (eqb (a .depth) 1) (headForm (a .head)) (c .before .match .keys1))
 
 returns-3 : tie.Need-returns-3
 returns-3 c =
-    λ top e.
     let a = c .before .args in
-    ap not (e (c .match .keys2))
-    ∙ sym (kinds.count-by-point top (eqb (a .state .depth) 1) (headForm (a .head)) (c .match .keys2))
+    sym (kinds.count-by-point (a .counted) (eqb (a .depth) 1) (headForm (a .head)) (c .match .keys2))
 
 returns-4 : tie.Need-returns-4
 returns-4 c =
-    λ top e.
-    let a = c .before .before .before .before .args in
-    sym (kinds.fill-direct top (eqb (a .state .depth) 1) (headForm (a .head)) (c .before .before .before .match .keys3) (eq-eqb _ _ (c .before .if1 .left)))
+    let a = c .before .before .before .args in
+    sym (kinds.fill-direct (a .counted) (eqb (a .depth) 1) (headForm (a .head)) (c .before .before .match .keys3) (eq-eqb _ _ (c .before .if1 .left)))
 
 returns-5 : tie.Need-returns-5
 returns-5 c =
-    λ top e.
-    let a = c .before .args in
     let n = c .match .rest in
-    sym (kinds.count-kind-over top (eqb (a .state .depth) 1) (headForm (a .head)) (n .0 .0 .1) (n .0 .1) (n .1))
+    let a = c .before .args in
+    sym (kinds.count-kind-over (a .counted) (eqb (a .depth) 1) (headForm (a .head)) (n .0 .0 .1) (n .0 .1) (n .1))
 
 pub is-miscounted-spec : {M : Type 1} → statement M
 is-miscounted-spec = tie.close (tie.spec returns returns-2 returns-3 returns-4 returns-5)

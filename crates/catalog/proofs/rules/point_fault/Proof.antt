@@ -1,40 +1,36 @@
 -- `catalog::rules::point_fault` meets its contract: the tests in the order of their rules.
-use native.Mathlib.Omega.{arith}
 use borrow.Author.Tests.{eq-eqb, ne-eqb}
-use Rattle.catalog.specs.Answers.{pointForm}
-use Rattle.catalog.proofs.MarkedRules as marked
 use borrow.Author.Needs.{needs}
 use Rattle.catalog.proofs.rules.point_fault.Statement.{statement}
 use Rattle.catalog.proofs.rules.point_fault.Tie as tie
 
 returns : tie.Need-returns
-returns c = λ ws u i x. rw (eq-eqb _ _ (c .if1 .taken))
+returns c = rw (eq-eqb _ _ (c .if1 .taken))
 
 returns-2 : tie.Need-returns-2
-returns-2 c = λ ws u i x. rw (ne-eqb _ _ (c .before .if1 .left), c .if2 .taken)
+returns-2 c = rw (ne-eqb _ _ (c .before .if1 .left), c .if2 .taken)
 
 is-misnumbered-requires : tie.Need-is-misnumbered-requires
 is-misnumbered-requires c κs = search needs
 
 returns-3 : tie.Need-returns-3
 returns-3 c =
-    λ ws u i x.
-    let a = c .before .before .before .before .before .before .before .args in
-    let number = marked.number-tested ws _ _ _ _ _ x (a .point .number) (omega arith) (c .before .is-misnumbered .ensures) in
-    rw (ne-eqb _ _ (c .before .before .before .if1 .left), c .before .before .if2 .left, ← number, c .if3 .taken)
+    rw (
+      ne-eqb _ _ (c .before .before .before .if1 .left),
+      c .before .before .if2 .left,
+      ← c .before .is-misnumbered .ensures,
+      c .if3 .taken,
+    )
 
 is-mistyped-requires : tie.Need-is-mistyped-requires
 is-mistyped-requires c κs = search needs
 
 returns-4 : tie.Need-returns-4
 returns-4 c =
-    λ ws u i x.
-    let a = c .before .before .before .before .before .before .before .before .before .args in
-    let number = marked.number-tested ws _ _ _ _ _ x (a .point .number) (omega arith) (c .before .before .before .is-misnumbered .ensures) in
     rw (
       ne-eqb _ _ (c .before .before .before .before .before .if1 .left),
       c .before .before .before .before .if2 .left,
-      ← number,
+      ← c .before .before .before .is-misnumbered .ensures,
       c .before .before .if3 .left,
       ← c .before .is-mistyped .ensures,
       c .if4 .taken,
@@ -45,35 +41,27 @@ is-misscaled-requires c κs = search needs
 
 returns-5 : tie.Need-returns-5
 returns-5 c =
-    λ ws u i x.
-    let a = c .before .before .before .before .before .before .before .before .before .before .before .args in
-    let number = marked.number-tested ws _ _ _ _ _ x (a .point .number) (omega arith) (c .before .before .before .before .before .is-misnumbered .ensures) in
-    let scale = marked.scale-tested ws _ _ _ _ _ x (pointForm (a .point)) (omega arith) (c .before .is-misscaled .ensures) in
     rw (
       ne-eqb _ _ (c .before .before .before .before .before .before .before .if1 .left),
       c .before .before .before .before .before .before .if2 .left,
-      ← number,
+      ← c .before .before .before .before .before .is-misnumbered .ensures,
       c .before .before .before .before .if3 .left,
       ← c .before .before .before .is-mistyped .ensures,
       c .before .before .if4 .left,
-      ← scale,
+      ← c .before .is-misscaled .ensures,
       c .if5 .taken,
     )
 
 returns-6 : tie.Need-returns-6
 returns-6 c =
-    λ ws u i x.
-    let a = c .before .before .before .before .before .before .before .before .before .before .before .args in
-    let number = marked.number-tested ws _ _ _ _ _ x (a .point .number) (omega arith) (c .before .before .before .before .before .is-misnumbered .ensures) in
-    let scale = marked.scale-tested ws _ _ _ _ _ x (pointForm (a .point)) (omega arith) (c .before .is-misscaled .ensures) in
     rw (
       ne-eqb _ _ (c .before .before .before .before .before .before .before .if1 .left),
       c .before .before .before .before .before .before .if2 .left,
-      ← number,
+      ← c .before .before .before .before .before .is-misnumbered .ensures,
       c .before .before .before .before .if3 .left,
       ← c .before .before .before .is-mistyped .ensures,
       c .before .before .if4 .left,
-      ← scale,
+      ← c .before .is-misscaled .ensures,
       c .if5 .left,
     )
 

@@ -26,8 +26,9 @@ is-stop-requires c κs = search needs
 returns : tie.Need-returns Inv-loop μ-loop
 returns c =
     let l = c .before .before .before .loop in
-    let a = c .before .before .before .before .before .before .args in
-    sym (laws.stop-here (a .catalog .now) (a .counts .now) (l .j) (omega arith) (sym (c .before .is-stop .ensures) ∙ c .if1 .taken)) ∙ l .inv .1
+    let a = c .before .before .before .before .before .args in
+    let stop = sym (c .before .is-stop .ensures) ∙ c .if1 .taken in
+    sym (laws.stop-here (a .catalog .now) (a .counts .now) (l .j) (omega arith) stop) ∙ l .inv .1
 
 add-j : tie.Need-add-j Inv-loop μ-loop
 add-j c = search needs
@@ -38,14 +39,14 @@ loop-less c = search needs
 loop-again : tie.Need-loop-again Inv-loop μ-loop
 loop-again c =
     let l = c .before .before .before .loop in
-    let a = c .before .before .before .before .before .before .args in
-    let on = laws.stop-later (a .catalog .now) (a .counts .now) (l .j) (omega arith) (sym (c .before .is-stop .ensures) ∙ c .if1 .left) in
-    (omega arith, sym on ∙ l .inv .1)
+    let a = c .before .before .before .before .before .args in
+    let go = sym (c .before .is-stop .ensures) ∙ c .if1 .left in
+    (omega arith, sym (laws.stop-later (a .catalog .now) (a .counts .now) (l .j) (omega arith) go) ∙ l .inv .1)
 
 returns-2 : tie.Need-returns-2 Inv-loop μ-loop
 returns-2 c =
     let l = c .before .loop in
-    let a = c .before .before .before .before .args in
+    let a = c .before .before .before .args in
     sym (laws.stop-none (a .catalog .now) (a .counts .now) (l .j) (omega arith)) ∙ l .inv .1
 
 pub first-stop-spec : {M : Type 1} → statement M

@@ -1,0 +1,61 @@
+-- `catalog::state::after` meets its contract: each kind of frame has its line of `stateOf`.
+use native.Mathlib.Omega.{arith}
+use borrow.Author.Tests.{ne-eqb}
+use Rattle.catalog.specs.Tracking.{stateOf}
+use borrow.Author.Needs.{needs}
+use Rattle.catalog.proofs.state.after.Statement.{statement}
+use Rattle.catalog.proofs.state.after.Tie as tie
+
+word-of-requires : tie.Need-word-of-requires
+word-of-requires c κs = search needs
+
+add-opened : tie.Need-add-opened
+add-opened c = search needs
+
+opened-requires : tie.Need-opened-requires
+opened-requires c κs =
+    (search needs, c .before .before .before .before .pre .1 .opens (omega (arith, c .before .before .word-of .ensures, c .before .match .keys1)))
+
+word-of-requires-2 : tie.Need-word-of-requires-2
+word-of-requires-2 c κs = search needs
+
+is-fill-in-requires : tie.Need-is-fill-in-requires
+is-fill-in-requires c κs = search needs
+
+opened-requires-2 : tie.Need-opened-requires-2
+opened-requires-2 c κs =
+    (search needs, c .before .before .before .before .before .pre .1 .opens (omega (arith, c .before .before .before .word-of .ensures, c .before .before .match .keys2)))
+
+ended-requires : tie.Need-ended-requires
+ended-requires c κs = c .before .before .before .pre .1 .ends (omega (arith, c .before .word-of .ensures, c .match .keys3))
+
+returns : tie.Need-returns
+returns c = rw (← c .before .before .before .word-of .ensures, c .before .before .match .keys1) (c .opened .ensures)
+
+returns-2 : tie.Need-returns-2
+returns-2 c =
+    rw (← c .before .before .before .before .word-of .ensures, c .before .before .before .match .keys2, ← c .before .before .word-of2 .ensures, ← c .before .is-fill-in .ensures) (c .opened2 .ensures)
+
+returns-3 : tie.Need-returns-3
+returns-3 c = rw (← c .before .before .word-of .ensures, c .before .match .keys3) (c .ended .ensures)
+
+returns-4 : tie.Need-returns-4
+returns-4 c =
+    let n = c .match .rest in
+    simp (stateOf, ← c .before .word-of .ensures, ne-eqb _ _ (n .0 .0 .1), ne-eqb _ _ (n .0 .1), ne-eqb _ _ (n .1))
+
+pub after-spec : {M : Type 1} → statement M
+after-spec =
+    tie.close
+    (tie.spec
+    word-of-requires
+    add-opened
+    opened-requires
+    word-of-requires-2
+    is-fill-in-requires
+    opened-requires-2
+    ended-requires
+    returns
+    returns-2
+    returns-3
+    returns-4)
