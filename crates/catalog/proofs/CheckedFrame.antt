@@ -53,7 +53,8 @@ module _ (ws used numbers scales : List ℕ) (u i : ℕ) (c : State) (d : Holds 
   pub refused-here : (r : ℕ) → some r ≡ firstBroken (codeRules ws used i c (frameAt ws i)) → refused r i ≡ framesChecked ws
   refused-here r n =
       let broken = sym (n ∙ fault-here) in
-      sym (steps.is-refused (d .decides .state) i (frameAt ws i) (framesOnward ws (i + 1)) (framesOnward ws i) frames-here r broken)
+      let s = d .decides .state in
+      sym (steps.is-refused s i (frameAt ws i) (framesOnward ws (i + 1)) (framesOnward ws i) frames-here r broken)
       ∙ d .decides .rest
 
   module _ (n : none ≡ firstBroken (codeRules ws used i c (frameAt ws i))) where
@@ -66,7 +67,8 @@ module _ (ws used numbers scales : List ℕ) (u i : ℕ) (c : State) (d : Holds 
 
     pub blank-here : BlankAtModel ws i scales
     blank-here =
-        marked.blank-here ws used numbers scales u i c (d .decides .state) (d .decides .tracks) (d .indexed) (frameAt ws i) refl (sym n)
+        let e = d .decides in
+        marked.blank-here ws used numbers scales u i c (e .state) (e .tracks) (d .indexed) (frameAt ws i) refl (sym n)
 
     pub holds-on : (used' numbers' numbers'' scales' scales'' : List ℕ) (u' inner : ℕ)
         → inner ≡ getD (c .firsts) (c .depth - 1) 0 → Begun ws i inner u u' used used' numbers numbers' scales scales'
@@ -81,11 +83,12 @@ module _ (ws used numbers scales : List ℕ) (u i : ℕ) (c : State) (d : Holds 
           decides = record {
             state = check.next s f;
             tracks = tracks-next ws used i c s t used' (b .used) f refl frames-here unbroken;
-            rest = sym (steps.goes-on s i f (framesOnward ws (i + 1)) (framesOnward ws i) frames-here unbroken) ∙ d .decides .rest;
+            rest =
+                sym (steps.goes-on s i f (framesOnward ws (i + 1)) (framesOnward ws i) frames-here unbroken) ∙ d .decides .rest;
           };
           fresh = fresh-next s f (run (framesOnward ws i)) unbroken (d .fresh);
-          indexed = marked.indexed-next ws used numbers scales u i c s t (d .indexed) used' numbers' numbers'' scales' scales'' u' inner h
-              top b m r (d .fresh) f fits refl frames-here (sym n);
+          indexed = marked.indexed-next ws used numbers scales u i c s t (d .indexed) used' numbers' numbers'' scales' scales''
+              u' inner h top b m r (d .fresh) f fits refl frames-here (sym n);
         }
 
 -- At the end.

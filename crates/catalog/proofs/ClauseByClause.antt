@@ -91,7 +91,7 @@ cases =
     ∷ (model 1 ∷ scaled 1 2 9 ∷ point 9 1 1 ∷ [], refused 8 1)  -- no sunssf
     ∷ (model 1 ∷ point 9 8 1 ∷ groupBy 2 0 1 ∷ scaled 1 2 9 ∷ end ∷ end ∷ [], accepted 1)  -- of an enclosing group
     ∷ (model 1 ∷ groupBy 2 0 1 ∷ point 9 8 1 ∷ end ∷ groupBy 3 0 1 ∷ scaled 1 2 9 ∷ [], refused 8 5)  -- of another group
-    ∷ (model 1 ∷ scaled 1 2 9 ∷ (5 ∷ 0 ∷ 0 ∷ 0 ∷ 0 ∷ 0 ∷ 0 ∷ 0 ∷ []) ∷ point 9 8 1 ∷ [], refused 8 1)  -- behind the end of the run
+    ∷ (model 1 ∷ scaled 1 2 9 ∷ (5 ∷ 0 ∷ 0 ∷ 0 ∷ 0 ∷ 0 ∷ 0 ∷ 0 ∷ []) ∷ point 9 8 1 ∷ [], refused 8 1)  -- past the end of the run
     ∷ (model 1 ∷ (3 ∷ 1 ∷ 4 ∷ 1 ∷ 2 ∷ 9 ∷ 0 ∷ 0 ∷ []) ∷ point 9 8 1 ∷ [], refused 8 1)  -- an enum16 carries none
     ∷ (model 1 ∷ groupBy 2 0 1 ∷ scaled 1 2 9 ∷ end ∷ point 9 8 1 ∷ [], refused 8 2)  -- and not 4 at frame 4
     -- 9

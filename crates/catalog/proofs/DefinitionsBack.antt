@@ -2,7 +2,8 @@
 use mathlib.Core.Path.{_≡_, refl, ap, _∙_}
 use mathlib.Core.List.{List, [], _∷_, _++_}
 use Rattle.catalog.specs.Frames.{Point, Frame, pointFrame, endFrame, wordsOfAll}
-use Rattle.catalog.specs.Definitions.{Groups, noGroup, group, Definition, pointFrames, groupFrames, definitionFrames, catalogFrames, Parsed, inFront, parsed, definitions}
+use Rattle.catalog.specs.Definitions.{Groups, noGroup, group, Definition, pointFrames, groupFrames, definitionFrames}
+use Rattle.catalog.specs.Definitions.{catalogFrames, Parsed, inFront, parsed, definitions}
 use Rattle.catalog.proofs.FrameWords.{frames-words}
 use Rattle.catalog.proofs.TreeFrames.{group-frames, definition-frames}
 

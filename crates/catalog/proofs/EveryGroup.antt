@@ -14,7 +14,8 @@ module _ (P : List Point → ℕ → Head → List Point → Groups → Type 0) 
     (f : (enclosing : List Point) (level : ℕ) (h : Head) (ps : List Point) (behind : Groups)
     → SoundHead top level h behind → 1 ≤ length ps → Each (SoundPoint (ps ++ enclosing)) ps → P enclosing level h ps behind) where
   -- What holds of a sound group holds of each of sound groups.
-  of-groups : (enclosing : List Point) (level : ℕ) (g : Groups) → SoundGroups top enclosing level g → EachGroup P enclosing level g
+  of-groups : (enclosing : List Point) (level : ℕ) (g : Groups) → SoundGroups top enclosing level g
+      → EachGroup P enclosing level g
   of-groups enclosing level noGroup s = tt
   of-groups enclosing level (group h ps inside behind) s = (
     f enclosing level h ps behind (s .0) (s .1) (s .2),

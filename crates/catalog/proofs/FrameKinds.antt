@@ -35,7 +35,8 @@ module _ (ws : List ℕ) (i k : ℕ) (q : k ≡ word ws i 0) where
 
   pub no-kind : (k ≡ 1 → ⊥) → (k ≡ 2 → ⊥) → (k ≡ 3 → ⊥) → (k ≡ 4 → ⊥) → frameAt ws i ≡ malformed
   no-kind a b c d =
-      by-kind (λ f. f ≡ malformed) (λ e. absurd (a e)) (λ e. absurd (b e)) (λ e. absurd (c e)) (λ e. absurd (d e)) (λ x y z w. refl)
+      by-kind (λ f. f ≡ malformed) (λ e. absurd (a e)) (λ e. absurd (b e)) (λ e. absurd (c e)) (λ e. absurd (d e))
+      (λ x y z w. refl)
 
   -- A point frame is never malformed.
   pub kind-3 : k ≡ 3 → frameAt ws i ≡ pointFrame (pointWords ws i)

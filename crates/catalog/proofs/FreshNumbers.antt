@@ -66,7 +66,8 @@ module _ (numbers : List ℕ) (p : Point) (l : OpenGroup) (ls : List OpenGroup)
   point-in-use n e =
       let such = isScaleFactorPoint n in
       let X : Type 0 = among n (p .number ∷ numbers) ≡ true in
-      let kept : hasScaleFactor n (pointsOf (l ∷ ls)) ≡ true → X = λ r. right-of (eqb n (p .number)) (among n numbers) (use-of n r) in
+      let kept : hasScaleFactor n (pointsOf (l ∷ ls)) ≡ true → X = λ r.
+      right-of (eqb n (p .number)) (among n numbers) (use-of n r) in
       let split = has-either such (l .points) (pointsOf ls) in
       either-of (hasScaleFactor n (l .points ++ (p ∷ []))) (hasScaleFactor n (pointsOf ls))
       (sym (has-either such (l .points ++ (p ∷ [])) (pointsOf ls)) ∙ e) X
@@ -88,7 +89,9 @@ fresh-next s (groupFrame h) ahead e x = go (s .openGroups) (x .inUse) (x .apart)
 fresh-next s (pointFrame p) ahead e x = go (s .openGroups) (x .inUse) (x .apart)
   where
     new : among (p .number) (s .numbers) ≡ false
-    new = neither (eqb (p .number) 0) (among (p .number) (s .numbers)) .0 (none-broken (rules s (pointFrame p) ahead) .0 e .1 .1 .1 .0) .1
+    new =
+        let numbered = none-broken (rules s (pointFrame p) ahead) .0 e .1 .1 .1 .0 in
+        neither (eqb (p .number) 0) (among (p .number) (s .numbers)) .0 numbered .1
 
     go : (ls : List OpenGroup) → ((n : ℕ) → hasScaleFactor n (pointsOf ls) ≡ true → among n (s .numbers) ≡ true) → Apart ls
         → Fresh (next (record { ids = s .ids; numbers = s .numbers; hasFill = s .hasFill; openGroups = ls }) (pointFrame p))

@@ -78,7 +78,8 @@ module _ (ws counts : List ℕ) (j : ℕ) where
       rw (e, firstStop, s, add-one j)
 
 -- Count points marked in an empty set, and the first that is not among them.
-pub counted-by : (ws before counts : List ℕ) (from u : ℕ) → Blank before → Marks before counts (inRun ws from Target.CountPoint) true
+pub counted-by : (ws before counts : List ℕ) (from u : ℕ) → Blank before
+    → Marks before counts (inRun ws from Target.CountPoint) true
     → u ≡ firstStop ws counts from (length ws / 8 - from) → Counted ws u from from
 counted-by ws before counts from u z m e =
     record {

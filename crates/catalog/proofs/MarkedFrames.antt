@@ -23,7 +23,8 @@ use Rattle.catalog.specs.State.{OpenGroup}
 use Rattle.catalog.specs.Rules.{run, hasScaleFactor, isScaleFactorPoint, pointsOf, countFaults}
 use Rattle.catalog.specs.Answers.{IdFits}
 use Rattle.catalog.specs.Scans.{framesOnward, hasNumber, isModel, numbersBefore, runsOf}
-use Rattle.catalog.specs.Tracking.{Tracks, Opens, modelRules, groupRules, pointRules, endRules, codeRules, runIn, numbersSoFar}
+use Rattle.catalog.specs.Tracking.{Tracks, Opens, modelRules, groupRules, pointRules, endRules, codeRules, runIn}
+use Rattle.catalog.specs.Tracking.{numbersSoFar}
 use Rattle.catalog.specs.Marks.{Begun, BlankAtModel, Counted, CountsAfter, Indexed, ScalesAfter, inRun, stops}
 use Rattle.catalog.specs.declared.scans.Target.{Target}
 use Rattle.catalog.specs.declared.state.State.{State}
@@ -130,7 +131,8 @@ module _ (ws used numbers scales : List ℕ) (u i : ℕ) (c : State) (s : check.
         rw closed (getD-set-same (c .firsts) 0 (i + 1) 0 (omega arith)) in
         let none-yet : i + 1 - (i + 1) ≡ 0 = omega arith in
         let first : inner ≡ getD (c .firsts) 0 0 = top ∙ ap (λ d. getD (c .firsts) (d - 1) 0) closed in
-        let freed = subst (λ f. Marks numbers numbers' (λ n. among n (numbersBefore ws f (i - f))) false) first (rw kind at (b .freed)) in
+        let freed =
+        subst (λ f. Marks numbers numbers' (λ n. among n (numbersBefore ws f (i - f))) false) first (rw kind at (b .freed)) in
         let added : Marks numbers' numbers'' (λ n. false) true = rw kind at m in
         record {
           numberWords = number-words;

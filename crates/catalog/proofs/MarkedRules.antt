@@ -80,4 +80,5 @@ module _ (ws numbers scales : List ℕ) (u i : ℕ) (c : State) (x : Indexed ws 
         go false q =
             let n = eqb-false (c .depth) 0 q in
             let some-open : 1 ≤ c .depth = omega (arith, n) in
-            rw (x .used (h .number) g, same-counts _ (hasCountPoint (h .count) (runIn ws c 0)) (eqb (c .depth) 1) h (count-here some-open))
+            let found = hasCountPoint (h .count) (runIn ws c 0) in
+            rw (x .used (h .number) g, same-counts _ found (eqb (c .depth) 1) h (count-here some-open))

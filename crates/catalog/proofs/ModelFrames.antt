@@ -8,7 +8,8 @@ use lib.Dec.{eqb}
 use Rattle.lists.specs.Each.{Each}
 use Rattle.lists.proofs.TestOutcomes.{clash}
 use Rattle.lists.proofs.TestLaws.{neither, none-broken}
-use Rattle.catalog.specs.Frames.{Point, Head, Frame, modelFrame, groupFrame, pointFrame, endFrame, malformed, fill, frames, wordsOfAll}
+use Rattle.catalog.specs.Frames.{Point, Head, Frame, modelFrame, groupFrame, pointFrame, endFrame, malformed, fill, frames}
+use Rattle.catalog.specs.Frames.{wordsOfAll}
 use Rattle.catalog.specs.State.{OpenGroup, State, start, opened, withPoint, withGroup, closed, next}
 use Rattle.catalog.specs.Rules.{noModel, inTop, afterGroup, run, isMalformed, rules}
 use Rattle.catalog.specs.Checking.{accepted, checkFrom, checked}

@@ -7,7 +7,8 @@ use native.Mathlib.Omega.{arith}
 use Rattle.lists.specs.Each.{Each}
 use Rattle.lists.specs.Members.{Distinct}
 use Rattle.registers.specs.Registers.{AreRegisters}
-use Rattle.catalog.specs.Frames.{Frame, modelFrame, groupFrame, pointFrame, endFrame, malformed, frames, wordsOf, wordsOfAll}
+use Rattle.catalog.specs.Frames.{Frame, modelFrame, groupFrame, pointFrame, endFrame, malformed, frames, wordsOf}
+use Rattle.catalog.specs.Frames.{wordsOfAll}
 use Rattle.catalog.specs.Checking.{accepted, checked}
 use Rattle.catalog.specs.Definitions.{Definition, definitionFrames, catalogFrames, parsed, definitions, modelIds}
 use Rattle.catalog.specs.Soundness.{SoundDefinition, idsOf}

@@ -59,7 +59,7 @@ module _ (ws : List ℕ) (n : ℕ) (e : checked ws ≡ accepted n) where
       λ enclosing level h ps behind. Each (ScaleResolves (ps ++ enclosing)) ps in
       of-models (λ d. Each (ScaleResolves (d .top .points)) (d .top .points) × EachLowerGroup P d) (λ d s. (
         points-resolve (d .top .points) (d .top .points) (s .points),
-        of-lower-groups P (d .top .points) (λ enclosing level h ps behind head some each. points-resolve (ps ++ enclosing) ps each)
+        of-lower-groups P (d .top .points) (λ enclosing level h ps after head some each. points-resolve (ps ++ enclosing) ps each)
             d refl s,
       )) ws n e
 
@@ -72,5 +72,6 @@ module _ (ws : List ℕ) (n : ℕ) (e : checked ws ≡ accepted n) where
       of-models (λ d. EachLowerGroup (P d) d)
       (λ d s.
       let top = d .top .points in
-      of-lower-groups (P d) top (λ enclosing level h ps behind head some each k. count-point-found (h .count) top (head .counted k))
+      of-lower-groups (P d) top
+      (λ enclosing level h ps after head some each k. count-point-found (h .count) top (head .counted k))
       d refl s) ws n e

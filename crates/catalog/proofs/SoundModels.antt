@@ -14,7 +14,8 @@ use Rattle.lists.proofs.TestLaws.{excludes}
 use Rattle.catalog.specs.Frames.{Point, Head, Frame, endFrame, fill}
 use Rattle.catalog.specs.State.{OpenGroup, opened}
 use Rattle.catalog.specs.Rules.{noModel, inTop, run, pointsOf, topPoints, noPoint}
-use Rattle.catalog.specs.Definitions.{Groups, noGroup, group, Definition, pointFrames, groupFrames, definitionFrames, catalogFrames}
+use Rattle.catalog.specs.Definitions.{Groups, noGroup, group, Definition, pointFrames, groupFrames, definitionFrames}
+use Rattle.catalog.specs.Definitions.{catalogFrames}
 use Rattle.catalog.specs.Soundness.{SoundPoint, SoundGroups, SoundDefinition, numbersOf, idsOf}
 use Rattle.catalog.proofs.AcceptedFrames.{Standing, Numbered}
 use Rattle.catalog.proofs.SoundFrames.{sound-head}

@@ -13,7 +13,8 @@ use Rattle.lists.specs.Tests.{oneHolds, firstBroken}
 use Rattle.catalog.specs.Frames.{Point, Head, Frame, modelFrame, groupFrame, pointFrame, endFrame, malformed}
 use Rattle.catalog.specs.State as check
 use Rattle.catalog.specs.State.{OpenGroup}
-use Rattle.catalog.specs.Rules.{run, inReach, noModel, isMisplaced, isMisnumbered, isMisscaled, isMistyped, scaleFaults, fault}
+use Rattle.catalog.specs.Rules.{run, inReach, noModel, isMisplaced, isMisnumbered, isMisscaled, isMistyped, scaleFaults}
+use Rattle.catalog.specs.Rules.{fault}
 use Rattle.catalog.specs.Answers.{IdFits}
 use Rattle.catalog.specs.Scans.{framesOnward, runsOf}
 use Rattle.catalog.specs.Tracking.{Tracks, Opens, aheadOf, codeRules, numbersSoFar}
@@ -50,14 +51,16 @@ module _ (ws used : List ℕ) (i : ℕ) (c : State) (s : check.State) (t : Track
       subst (λ (ps : List Point). Opens ws (c .firsts) (c .«has_group») ps (s .openGroups)) none-left (t .openGroups)
 
   -- The same fault, kind by kind.
-  model-fault : (id : ℕ) (ahead : List Point) → id < 65536 → firstBroken (codeRules ws used i c (modelFrame id)) ≡ fault s (modelFrame id) ahead
+  model-fault : (id : ℕ) (ahead : List Point) → id < 65536
+      → firstBroken (codeRules ws used i c (modelFrame id)) ≡ fault s (modelFrame id) ahead
   model-fault id ahead h = rw (none-open (c .depth) (s .openGroups) (t .depth), t .ids id h)
 
   group-fault : (h : Head) (ahead : List Point) → run (framesOnward ws i) ≡ []
       → firstBroken (codeRules ws used i c (groupFrame h)) ≡ fault s (groupFrame h) ahead
   group-fault h ahead e = go (s .openGroups) refl
     where
-      go : (ls : List OpenGroup) → s .openGroups ≡ ls → firstBroken (codeRules ws used i c (groupFrame h)) ≡ fault s (groupFrame h) ahead
+      go : (ls : List OpenGroup) → s .openGroups ≡ ls
+          → firstBroken (codeRules ws used i c (groupFrame h)) ≡ fault s (groupFrame h) ahead
       go [] q = rw (none-open (c .depth) [] (t .depth ∙ ap length q), q)
       go (l ∷ ls) q =
           let d : c .depth ≡ suc (length ls) = t .depth ∙ ap length q in
@@ -72,7 +75,8 @@ module _ (ws used : List ℕ) (i : ℕ) (c : State) (s : check.State) (t : Track
             q,
           )
 
-  point-fault : (p : Point) → firstBroken (codeRules ws used i c (pointFrame p)) ≡ fault s (pointFrame p) (run (framesOnward ws i))
+  point-fault : (p : Point)
+      → firstBroken (codeRules ws used i c (pointFrame p)) ≡ fault s (pointFrame p) (run (framesOnward ws i))
   point-fault p = go (s .openGroups) refl
     where
       opens : (l : OpenGroup) (ls : List OpenGroup) → s .openGroups ≡ l ∷ ls → (b : Bool) → c .«has_group» ≡ b

@@ -15,7 +15,8 @@ use Rattle.lists.proofs.TestLaws.{none-broken, neither}
 use Rattle.number_sets.specs.NumberSets.{Marks}
 use Rattle.number_sets.proofs.SetLaws.{none-in}
 use Rattle.number_sets.proofs.MarkLaws.{now-in}
-use Rattle.catalog.specs.Frames.{Point, Head, Frame, modelFrame, groupFrame, pointFrame, endFrame, malformed, word, frameAt, wordsOf, fill}
+use Rattle.catalog.specs.Frames.{Point, Head, Frame, modelFrame, groupFrame, pointFrame, endFrame, malformed, word, frameAt}
+use Rattle.catalog.specs.Frames.{wordsOf, fill}
 use Rattle.catalog.specs.State as check
 use Rattle.catalog.specs.State.{OpenGroup, start, next}
 use Rattle.catalog.specs.Rules.{run, noModel, inTop, afterGroup, isMalformed, rules, fault}
@@ -37,7 +38,8 @@ first-alone n b h (suc (suc (suc (suc k)))) = omega arith
 
 -- Before the first frame.
 pub tracks-start : (ws : List ℕ)
-    → Tracks ws (replicate 1024 0) 0 (record { models = 0; depth = 0; firsts = 0 ∷ 0 ∷ 0 ∷ 0 ∷ []; «has_group» = false; «has_fill» = false }) start
+    → Tracks ws (replicate 1024 0) 0
+    (record { models = 0; depth = 0; firsts = 0 ∷ 0 ∷ 0 ∷ 0 ∷ []; «has_group» = false; «has_fill» = false }) start
 unfolding numbersBefore
 tracks-start ws =
     record {
@@ -265,7 +267,8 @@ module _ (ws used : List ℕ) (i : ℕ) (c : State) (s : check.State) (t : Track
 
 module _ (ws used : List ℕ) (i : ℕ) (c : State) (s : check.State) (t : Tracks ws used i c s) where
   -- With an open model there is an innermost open group.
-  inside : (X : Type 0) → noModel (s .openGroups) ≡ false → ((l : OpenGroup) (ls : List OpenGroup) → s .openGroups ≡ l ∷ ls → X) → X
+  inside : (X : Type 0) → noModel (s .openGroups) ≡ false
+      → ((l : OpenGroup) (ls : List OpenGroup) → s .openGroups ≡ l ∷ ls → X) → X
   inside X h k = go (s .openGroups) refl h
     where
       go : (ls : List OpenGroup) → s .openGroups ≡ ls → noModel ls ≡ false → X

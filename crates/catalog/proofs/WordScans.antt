@@ -102,4 +102,5 @@ module _ (ws firsts : List ℕ) (n k m : ℕ) (e : k ≡ m + 1) where
   pub scope-more : hasScaleFactor n (runsOf ws firsts k)
       ≡ hasScaleFactor n (run (framesOnward ws (getD firsts m 0))) || hasScaleFactor n (runsOf ws firsts m)
   unfolding runsOf
-  scope-more = rw (e, add-one m) (has-either (isScaleFactorPoint n) (run (framesOnward ws (getD firsts m 0))) (runsOf ws firsts m))
+  scope-more =
+      rw (e, add-one m) (has-either (isScaleFactorPoint n) (run (framesOnward ws (getD firsts m 0))) (runsOf ws firsts m))

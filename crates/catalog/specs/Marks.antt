@@ -1,5 +1,5 @@
 -- What the code keeps of the frames so far, so that it searches none of them again: the numbers used, the scale factors in scope,
--- and the first group of the model whose count no point gives. `proofs/MarkedFrames.antt` shows that a search would find the same.
+-- and the first group of the model whose count no point gives. A search would find the same (`proofs/MarkedFrames.antt`).
 use mathlib.Core.Path.{_≡_}
 use mathlib.Core.Bool.{Bool, true, false, not, _&&_, _||_}
 use mathlib.Core.List.{List}

@@ -9,7 +9,8 @@ use Rattle.lists.specs.Members.{among}
 use Rattle.lists.specs.Tests.{oneHolds, firstBroken}
 use Rattle.point_types.specs.Rows.{mayScale, registersOf}
 use Rattle.values.specs.Classes.{twosComplement, isScaleFactor}
-use Rattle.catalog.specs.Frames.{Point, Head, Frame, modelFrame, groupFrame, pointFrame, endFrame, malformed, noScale, fixedScale, scaleByPoint, constantCount, countByPoint, fill, uint16, sunssf, readOnly}
+use Rattle.catalog.specs.Frames.{Point, Head, Frame, modelFrame, groupFrame, pointFrame, endFrame, malformed, noScale}
+use Rattle.catalog.specs.Frames.{fixedScale, scaleByPoint, constantCount, countByPoint, fill, uint16, sunssf, readOnly}
 use Rattle.catalog.specs.State.{OpenGroup, State}
 
 -- ---- What the rules look at (where a rule behind 4 needs an open model, 4 has decided without one)

@@ -10,7 +10,8 @@ use Rattle.lists.specs.Members.{In, Distinct}
 use Rattle.lists.specs.Each.{Each}
 use Rattle.point_types.specs.Rows.{mayScale}
 use Rattle.values.specs.Classes.{twosComplement, isScaleFactor}
-use Rattle.catalog.specs.Frames.{Point, Head, Frame, modelFrame, groupFrame, pointFrame, endFrame, malformed, noScale, fixedScale, scaleByPoint, constantCount, countByPoint, fill, uint16, sunssf, readOnly}
+use Rattle.catalog.specs.Frames.{Point, Head, Frame, modelFrame, groupFrame, pointFrame, endFrame, malformed, noScale}
+use Rattle.catalog.specs.Frames.{fixedScale, scaleByPoint, constantCount, countByPoint, fill, uint16, sunssf, readOnly}
 use Rattle.catalog.specs.Rules.{isSizeOf, hasScaleFactor, hasCountPoint}
 use Rattle.catalog.specs.Definitions.{Groups, noGroup, group, Definition, definitionFrames, catalogFrames}
 
@@ -78,8 +79,8 @@ pub record SoundCatalog (ds : List Definition) : Type 0 where
 
 -- ---- What follows for every group and point
 
--- A fact about each of these groups and each group in them: about the points of the groups around it, its level, its head, its own
--- points and the groups behind it.
+-- A fact about each of these groups and each group in them: about the points of the groups around it, its level, its head, its
+-- own points and the groups behind it.
 abbrev pub EachGroup : (List Point → ℕ → Head → List Point → Groups → Type 0) → List Point → ℕ → Groups → Type 0
 EachGroup P enclosing level noGroup = Unit {0}
 EachGroup P enclosing level (group h ps inside behind) =

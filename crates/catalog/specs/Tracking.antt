@@ -11,7 +11,8 @@ use Rattle.lists.specs.Tests.{oneHolds}
 use Rattle.point_types.specs.Rows.{mayScale}
 use Rattle.values.specs.Classes.{twosComplement, isScaleFactor}
 use Rattle.number_sets.specs.NumberSets.{inSet}
-use Rattle.catalog.specs.Frames.{Point, Head, Frame, modelFrame, groupFrame, pointFrame, endFrame, malformed, noScale, fixedScale, scaleByPoint, constantCount, countByPoint, fill}
+use Rattle.catalog.specs.Frames.{Point, Head, Frame, modelFrame, groupFrame, pointFrame, endFrame, malformed, noScale}
+use Rattle.catalog.specs.Frames.{fixedScale, scaleByPoint, constantCount, countByPoint, fill}
 use Rattle.catalog.specs.State as check
 use Rattle.catalog.specs.State.{OpenGroup}
 use Rattle.catalog.specs.Rules.{run, noPoint, isMistyped, scaleFaults, countFaults}
@@ -155,7 +156,9 @@ aheadOf ws i hasGroup = elim hasGroup [ true ↦ [] | false ↦ run (framesOnwar
 abbrev pub Opens : List ℕ → List ℕ → Bool → List Point → List OpenGroup → Type 0
 Opens ws firsts hasGroup ahead [] = Unit {0}
 Opens ws firsts hasGroup ahead (l ∷ ls) =
-    (run (framesOnward ws (getD firsts (length ls) 0)) ≡ l .points ++ ahead) × (l .hasGroup ≡ hasGroup) × Opens ws firsts true [] ls
+    (run (framesOnward ws (getD firsts (length ls) 0)) ≡ l .points ++ ahead)
+    × (l .hasGroup ≡ hasGroup)
+    × Opens ws firsts true [] ls
 
 -- The code's state and its set of ids agree with a state of the check before frame i.
 pub record Tracks (ws used : List ℕ) (i : ℕ) (c : State) (s : check.State) : Type 0 where

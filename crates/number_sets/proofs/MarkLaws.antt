@@ -41,7 +41,8 @@ marks-back before between after p z x y =
       has = λ l n h. y .has (x .words ∙ l) n h ∙ go (p n) (inSet between n) (inSet before n) (z .none n h) (x .has l n h);
     }
   where
-    go : (p m s : Bool) → s ≡ false → m ≡ elim p [ true ↦ true | false ↦ s ] → _≡_ {A = Bool} (elim p [ true ↦ false | false ↦ m ]) s
+    go : (p m s : Bool) → s ≡ false → m ≡ elim p [ true ↦ true | false ↦ s ]
+        → _≡_ {A = Bool} (elim p [ true ↦ false | false ↦ m ]) s
     go true m s e f = sym e
     go false m s e f = f
 

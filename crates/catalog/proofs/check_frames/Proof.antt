@@ -60,27 +60,38 @@ mark-scales-requires c κs = search needs
 
 after-requires : tie.Need-after-requires Inv-loop μ-loop
 after-requires c κs =
-    let l = c .before .before .before .before .before .before .before .before .before .before .before .before .before .before .before .loop in
-    let fault = c .before .before .before .before .before .before .before .before .before .before .fault-at .ensures in
-    let unbroken = sym (ap faultForm (c .before .before .before .before .before .before .before .before .before .if1 .left)) ∙ fault .0 in
+    let c5 = c .before .before .before .before .before in
+    let c10 = c5 .before .before .before .before .before in
+    let c15 = c10 .before .before .before .before .before in
+    let l = c15 .loop in
+    let fault = c10 .fault-at .ensures in
+    let unbroken = sym (ap faultForm (c5 .before .before .before .before .if1 .left)) ∙ fault .0 in
     let room = frame.room-here _ _ _ _ _ (l .i) (l .state) (l .inv .1) (fault .1) (omega arith) unbroken in
     ((search needs, search needs, l .inv .1 .decides .tracks .within .few), room)
 
 add-i : tie.Need-add-i Inv-loop μ-loop
 add-i c =
-    omega (arith, c .before .before .before .before .before .before .before .before .before .before .before .before .before .before .before .loop-test .taken, c .before .before .before .before .before .before .before .before .before .before .before .before .before .before .before .before .before .before .pre)
+    let c5 = c .before .before .before .before .before in
+    let c10 = c5 .before .before .before .before .before in
+    let c15 = c10 .before .before .before .before .before in
+    omega (arith, c15 .loop-test .taken, c15 .before .before .before .pre)
 
 loop-less : tie.Need-loop-less Inv-loop μ-loop
 loop-less c = search needs
 
 loop-again : tie.Need-loop-again Inv-loop μ-loop
 loop-again c =
-    let l = c .before .before .before .before .before .before .before .before .before .before .before .before .before .before .before .before .loop in
-    let before-end = c .before .before .before .before .before .before .before .before .before .before .before .before .before .before .before .loop-test .taken in
-    let fault = c .before .before .before .before .before .before .before .before .before .before .before .fault-at .ensures in
-    let unbroken = sym (ap faultForm (c .before .before .before .before .before .before .before .before .before .before .if1 .left)) ∙ fault .0 in
+    let c5 = c .before .before .before .before .before in
+    let c10 = c5 .before .before .before .before .before in
+    let c15 = c10 .before .before .before .before .before in
+    let l = c15 .before .loop in
+    let before-end = c15 .loop-test .taken in
+    let fault = c10 .before .fault-at .ensures in
+    let unbroken = sym (ap faultForm (c10 .if1 .left)) ∙ fault .0 in
+    let numbers = c .before .before .before .mark-number .ensures in
+    let begun = c5 .begin-model .ensures in
     let on = frame.holds-on _ _ _ _ _ (l .i) (l .state) (l .inv .1) (fault .1) (omega arith) unbroken _ _ _ _ _ _ _
-    (c .before .before .before .before .before .before .before .before .before .innermost .ensures) (c .before .before .before .before .before .begin-model .ensures) (c .before .before .before .mark-number .ensures) (c .before .mark-scales .ensures) in
+    (c5 .before .before .before .before .innermost .ensures) begun numbers (c .before .mark-scales .ensures) in
     (omega arith, rw (c .after .ensures) on)
 
 returns-2 : tie.Need-returns-2 Inv-loop μ-loop

@@ -39,7 +39,8 @@ returns-2 c =
     let zero = c .before .before .before .zero-from in
     let all-zero = sym (zero .ensures) ∙ not-false (zero .result) (c .before .before .if1 .left) in
     let named = c .before .before .before .before .named-words .ensures .0 in
-    let kind = kinds.model-here (a .catalog .now) (a .i) _ (c .before .before .before .before .before .word-of .ensures) _ named all-zero (c .before .match .keys1) in
+    let word = c .before .before .before .before .before .word-of .ensures in
+    let kind = kinds.model-here (a .catalog .now) (a .i) _ word _ named all-zero (c .before .match .keys1) in
     (ap modelFrame (c .word-of2 .ensures) ∙ sym kind, search needs)
 
 returns-3 : tie.Need-returns-3
@@ -48,7 +49,8 @@ returns-3 c =
     let zero = c .before .before .before .zero-from in
     let all-zero = sym (zero .ensures) ∙ not-false (zero .result) (c .before .before .if1 .left) in
     let named = c .before .before .before .before .named-words .ensures .0 in
-    let kind = kinds.group-here (a .catalog .now) (a .i) _ (c .before .before .before .before .before .word-of .ensures) _ named all-zero (c .before .match .keys2) in
+    let word = c .before .before .before .before .before .word-of .ensures in
+    let kind = kinds.group-here (a .catalog .now) (a .i) _ word _ named all-zero (c .before .match .keys2) in
     (ap groupFrame (c .head-at .ensures) ∙ sym kind, search needs)
 
 returns-4 : tie.Need-returns-4
@@ -57,7 +59,8 @@ returns-4 c =
     let zero = c .before .before .before .zero-from in
     let all-zero = sym (zero .ensures) ∙ not-false (zero .result) (c .before .before .if1 .left) in
     let named = c .before .before .before .before .named-words .ensures .0 in
-    let kind = kinds.point-here (a .catalog .now) (a .i) _ (c .before .before .before .before .before .word-of .ensures) _ named all-zero (c .before .match .keys3) in
+    let word = c .before .before .before .before .before .word-of .ensures in
+    let kind = kinds.point-here (a .catalog .now) (a .i) _ word _ named all-zero (c .before .match .keys3) in
     (ap pointFrame (c .point-at .ensures) ∙ sym kind, search needs)
 
 returns-5 : tie.Need-returns-5
@@ -66,14 +69,16 @@ returns-5 c =
     let zero = c .before .before .zero-from in
     let all-zero = sym (zero .ensures) ∙ not-false (zero .result) (c .before .if1 .left) in
     let named = c .before .before .before .named-words .ensures .0 in
-    let kind = kinds.end-here (a .catalog .now) (a .i) _ (c .before .before .before .before .word-of .ensures) _ named all-zero (c .match .keys4) in
+    let word = c .before .before .before .before .word-of .ensures in
+    let kind = kinds.end-here (a .catalog .now) (a .i) _ word _ named all-zero (c .match .keys4) in
     (sym kind, tt)
 
 returns-6 : tie.Need-returns-6
 returns-6 c =
     let a = c .before .before .before .before .before .before .args in
     let n = c .match .rest in
-    let none = kinds.no-kind (a .catalog .now) (a .i) _ (c .before .before .before .before .word-of .ensures) (n .0 .0 .0 .1) (n .0 .0 .1) (n .0 .1) (n .1) in
+    let kind = c .before .before .before .before .word-of .ensures in
+    let none = kinds.no-kind (a .catalog .now) (a .i) _ kind (n .0 .0 .0 .1) (n .0 .0 .1) (n .0 .1) (n .1) in
     (sym none, tt)
 
 pub frame-at-spec : {M : Type 1} → statement M

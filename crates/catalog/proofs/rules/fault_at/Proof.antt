@@ -77,7 +77,8 @@ returns-3 c =
     let f = c .before .before .before .before .frame-at .ensures in
     let is = c .before .before .frame3 .given .1 in
     let fits = rw is at (f .1) in
-    let same = ap firstBroken (marked.point-tested _ _ _ _ _ _ x (pointForm (c .before .before .frame3 .given .0 .0)) (fits .0) (fits .1)) in
+    let point = pointForm (c .before .before .frame3 .given .0 .0) in
+    let same = ap firstBroken (marked.point-tested _ _ _ _ _ _ x point (fits .0) (fits .1)) in
     rw (← f .0, is) (c .point-fault .ensures ∙ same, fits)
 
 returns-4 : tie.Need-returns-4

@@ -1,4 +1,5 @@
 -- `catalog::rules::group_fault` meets its contract: the tests in the order of their rules.
+use native.Mathlib.Omega.{arith}
 use borrow.Author.Tests.{eq-eqb, ne-eqb, lt-ltb, le-ltb, le-leb, lt-leb}
 use borrow.Author.Needs.{needs}
 use Rattle.catalog.proofs.rules.group_fault.Statement.{statement}
@@ -15,11 +16,12 @@ returns-2 c = rw (ne-eqb _ _ (c .before .before .if1 .left), ← c .before .is-a
 
 returns-3 : tie.Need-returns-3
 returns-3 c =
+    let depth = c .before .before .before .before .args .depth in
     rw (
       ne-eqb _ _ (c .before .before .before .if1 .left),
       ← c .before .before .is-after-fill .ensures,
       c .before .if2 .left,
-      le-leb _ _ (c .if3 .taken),
+      le-leb 4 depth (omega (arith, c .if3 .taken)),
     )
 
 is-misnumbered-requires : tie.Need-is-misnumbered-requires
@@ -27,22 +29,24 @@ is-misnumbered-requires c κs = search needs
 
 returns-4 : tie.Need-returns-4
 returns-4 c =
+    let depth = c .before .before .before .before .before .before .args .depth in
     rw (
       ne-eqb _ _ (c .before .before .before .before .before .if1 .left),
       ← c .before .before .before .before .is-after-fill .ensures,
       c .before .before .before .if2 .left,
-      lt-leb _ _ (c .before .before .if3 .left),
+      lt-leb 4 depth (omega (arith, c .before .before .if3 .left)),
       ← c .before .is-misnumbered .ensures,
       c .if4 .taken,
     )
 
 returns-5 : tie.Need-returns-5
 returns-5 c =
+    let depth = c .before .before .before .before .before .before .before .before .args .depth in
     rw (
       ne-eqb _ _ (c .before .before .before .before .before .before .before .if1 .left),
       ← c .before .before .before .before .before .before .is-after-fill .ensures,
       c .before .before .before .before .before .if2 .left,
-      lt-leb _ _ (c .before .before .before .before .if3 .left),
+      lt-leb 4 depth (omega (arith, c .before .before .before .before .if3 .left)),
       ← c .before .before .before .is-misnumbered .ensures,
       c .before .before .if4 .left,
       lt-ltb _ _ (c .if5 .taken),
@@ -53,11 +57,12 @@ is-miscounted-requires c κs = search needs
 
 returns-6 : tie.Need-returns-6
 returns-6 c =
+    let depth = c .before .before .before .before .before .before .before .before .before .before .args .depth in
     rw (
       ne-eqb _ _ (c .before .before .before .before .before .before .before .before .before .if1 .left),
       ← c .before .before .before .before .before .before .before .before .is-after-fill .ensures,
       c .before .before .before .before .before .before .before .if2 .left,
-      lt-leb _ _ (c .before .before .before .before .before .before .if3 .left),
+      lt-leb 4 depth (omega (arith, c .before .before .before .before .before .before .if3 .left)),
       ← c .before .before .before .before .before .is-misnumbered .ensures,
       c .before .before .before .before .if4 .left,
       le-ltb _ _ (c .before .before .if5 .left),
@@ -67,11 +72,12 @@ returns-6 c =
 
 returns-7 : tie.Need-returns-7
 returns-7 c =
+    let depth = c .before .before .before .before .before .before .before .before .before .before .args .depth in
     rw (
       ne-eqb _ _ (c .before .before .before .before .before .before .before .before .before .if1 .left),
       ← c .before .before .before .before .before .before .before .before .is-after-fill .ensures,
       c .before .before .before .before .before .before .before .if2 .left,
-      lt-leb _ _ (c .before .before .before .before .before .before .if3 .left),
+      lt-leb 4 depth (omega (arith, c .before .before .before .before .before .before .if3 .left)),
       ← c .before .before .before .before .before .is-misnumbered .ensures,
       c .before .before .before .before .if4 .left,
       le-ltb _ _ (c .before .before .if5 .left),

@@ -10,28 +10,34 @@ use Rattle.catalog.proofs.rules.is_miscounted.Tie as tie
 returns : tie.Need-returns
 returns c =
     let a = c .before .before .args in
-    sym (kinds.fill-outside (a .counted) (eqb (a .depth) 1) (headForm (a .head)) (c .before .match .keys3) (ne-eqb _ _ (c .if1 .taken)))
+    let h = headForm (a .head) in
+    sym (kinds.fill-outside (a .counted) (eqb (a .depth) 1) h (c .before .match .keys3) (ne-eqb _ _ (c .if1 .taken)))
 
 returns-2 : tie.Need-returns-2
 returns-2 c =
     let a = c .before .before .args in
-    sym (kinds.constant-count (a .counted) (eqb (a .depth) 1) (headForm (a .head)) (c .before .match .keys1))
+    let h = headForm (a .head) in
+    sym (kinds.constant-count (a .counted) (eqb (a .depth) 1) h (c .before .match .keys1))
 
 returns-3 : tie.Need-returns-3
 returns-3 c =
     let a = c .before .args in
-    sym (kinds.count-by-point (a .counted) (eqb (a .depth) 1) (headForm (a .head)) (c .match .keys2))
+    let h = headForm (a .head) in
+    sym (kinds.count-by-point (a .counted) (eqb (a .depth) 1) h (c .match .keys2))
 
 returns-4 : tie.Need-returns-4
 returns-4 c =
+    let fills = c .before .before .match .keys3 in
     let a = c .before .before .before .args in
-    sym (kinds.fill-direct (a .counted) (eqb (a .depth) 1) (headForm (a .head)) (c .before .before .match .keys3) (eq-eqb _ _ (c .before .if1 .left)))
+    let h = headForm (a .head) in
+    sym (kinds.fill-direct (a .counted) (eqb (a .depth) 1) h fills (eq-eqb _ _ (c .before .if1 .left)))
 
 returns-5 : tie.Need-returns-5
 returns-5 c =
     let n = c .match .rest in
     let a = c .before .args in
-    sym (kinds.count-kind-over (a .counted) (eqb (a .depth) 1) (headForm (a .head)) (n .0 .0 .1) (n .0 .1) (n .1))
+    let h = headForm (a .head) in
+    sym (kinds.count-kind-over (a .counted) (eqb (a .depth) 1) h (n .0 .0 .1) (n .0 .1) (n .1))
 
 pub is-miscounted-spec : {M : Type 1} → statement M
 is-miscounted-spec = tie.close (tie.spec returns returns-2 returns-3 returns-4 returns-5)

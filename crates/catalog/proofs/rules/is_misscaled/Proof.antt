@@ -22,7 +22,8 @@ returns-2 c =
     let may = c .before .scalable in
     let may-not = sym (may .ensures) ∙ not-true (may .result) (c .if2 .taken) in
     let a = c .before .before .before .args in
-    sym (kinds.not-scalable (inSet (a .scales .now) (a .point .scale)) (pointForm (a .point)) (c .before .before .if1 .left) may-not)
+    let known = inSet (a .scales .now) (a .point .scale) in
+    sym (kinds.not-scalable known (pointForm (a .point)) (c .before .before .if1 .left) may-not)
 
 scale-factor-in-range-requires : tie.Need-scale-factor-in-range-requires
 scale-factor-in-range-requires c κs = search needs

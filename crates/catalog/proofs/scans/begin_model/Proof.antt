@@ -36,17 +36,22 @@ add-first-uncounted c = search needs
 
 first-uncounted-requires : tie.Need-first-uncounted-requires
 first-uncounted-requires c κs =
-    let s = c .before .before .before .before .before .before .before .before .before in
-    let model : isModel (s .args .catalog .now) (s .args .i) ≡ true = rw (← c .before .before .before .before .before .before .before .word-of .ensures) (eq-eqb _ _ (c .before .before .before .before .before .before .if1 .left)) in
+    let c5 = c .before .before .before .before .before in
+    let s = c5 .before .before .before .before in
+    let kind = c5 .before .before .word-of .ensures in
+    let model : isModel (s .args .catalog .now) (s .args .i) ≡ true = rw (← kind) (eq-eqb _ _ (c5 .before .if1 .left)) in
     (search needs, s .pre .1 model)
 
 returns-2 : tie.Need-returns-2
 returns-2 c =
-    let a = c .before .before .before .before .before .before .before .before .before .before .args in
-    let model : isModel (a .catalog .now) (a .i) ≡ true = rw (← c .before .before .before .before .before .before .before .before .word-of .ensures) (eq-eqb _ _ (c .before .before .before .before .before .before .before .if1 .left)) in
+    let c5 = c .before .before .before .before .before in
+    let c10 = c5 .before .before .before .before .before in
+    let a = c10 .args in
+    let kind = c5 .before .before .before .word-of .ensures in
+    let model : isModel (a .catalog .now) (a .i) ≡ true = rw (← kind) (eq-eqb _ _ (c5 .before .before .if1 .left)) in
     let found = c .first-uncounted .ensures in
     record {
-      used = rw (model, ← c .before .before .before .before .before .word-of2 .ensures) (c .before .before .before .before .mark .ensures .1);
+      used = rw (model, ← c5 .word-of2 .ensures) (c .before .before .before .before .mark .ensures .1);
       freed = rw model (c .before .before .take-numbers-out .ensures);
       kept = found .1;
       counts = rw model (found .0);

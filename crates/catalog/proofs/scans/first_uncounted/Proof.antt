@@ -18,7 +18,8 @@ returns : tie.Need-returns
 returns c =
     let blank = c .before .before .before .before .before .before .before .pre .1 in
     let marked = c .before .before .before .before .mark-run .ensures in
-    (laws.counted-by _ _ _ _ _ blank marked (c .before .before .first-stop .ensures), marks.marks-back _ _ _ _ blank marked (c .mark-run2 .ensures))
+    let stop = c .before .before .first-stop .ensures in
+    (laws.counted-by _ _ _ _ _ blank marked stop, marks.marks-back _ _ _ _ blank marked (c .mark-run2 .ensures))
 
 pub first-uncounted-spec : {M : Type 1} → statement M
 first-uncounted-spec =

@@ -13,7 +13,8 @@ returns c = marks.marks-none _ _ _ (λ n. rw (← c .before .word-of .ensures, l
 
 returns-2 : tie.Need-returns-2
 returns-2 c =
-    marks.marks-none _ _ _ (λ n. rw (← c .before .before .word-of .ensures, le-leb _ _ (c .before .if1 .left), lt-leb _ _ (c .if2 .taken)))
+    let kind = c .before .before .word-of .ensures in
+    marks.marks-none _ _ _ (λ n. rw (← kind, le-leb _ _ (c .before .if1 .left), lt-leb _ _ (c .if2 .taken)))
 
 word-of-requires-2 : tie.Need-word-of-requires-2
 word-of-requires-2 c κs = search needs
@@ -23,9 +24,11 @@ mark-requires c κs = search needs
 
 returns-3 : tie.Need-returns-3
 returns-3 c =
-    let kind = c .before .before .before .before .before .word-of .ensures in
+    let c4 = c .before .before .before .before in
+    let kind = c4 .before .word-of .ensures in
+    let number = c .before .word-of2 .ensures in
     marks.marks-same _ _ _ _ _
-    (λ n. rw (← kind, le-leb _ _ (c .before .before .before .before .if1 .left), le-leb _ _ (c .before .before .before .if2 .left), ← c .before .word-of2 .ensures))
+    (λ n. rw (← kind, le-leb _ _ (c4 .if1 .left), le-leb _ _ (c .before .before .before .if2 .left), ← number))
     (c .mark .ensures .1)
 
 pub mark-number-spec : {M : Type 1} → statement M

@@ -27,10 +27,12 @@ mark-requires c κs = search needs
 
 returns-2 : tie.Need-returns-2
 returns-2 c =
-    let a = c .before .before .before .before .before .before .args in
+    let c4 = c .before .before .before .before in
+    let a = c4 .before .before .args in
     let p = pointWords (a .catalog .now) (a .j) in
-    let same = sym (c .before .before .before .before .is-of-kind .ensures) ∙ not-false _ (c .before .before .before .if1 .left) in
-    marks.marks-same _ _ _ _ _ (λ n. ap (eqb n) (c .before .word-of .ensures) ∙ laws.same-kind (a .target) n p same) (c .mark .ensures .1)
+    let same = sym (c4 .is-of-kind .ensures) ∙ not-false _ (c .before .before .before .if1 .left) in
+    let number = c .before .word-of .ensures in
+    marks.marks-same _ _ _ _ _ (λ n. ap (eqb n) number ∙ laws.same-kind (a .target) n p same) (c .mark .ensures .1)
 
 pub mark-point-spec : {M : Type 1} → statement M
 mark-point-spec =

@@ -44,10 +44,12 @@ loop-less c = search needs
 
 loop-again : tie.Need-loop-again Inv-loop μ-loop
 loop-again c =
+    let c4 = c .before .before .before .before in
     λ after m.
-    let l = c .before .before .before .before .before .loop in
-    let a = c .before .before .before .before .before .before .before .args in
-    let goes = run-goes (a .catalog .now) (l .j) _ (omega arith) (c .before .before .before .word-of .ensures) (c .before .before .if1 .left) in
+    let l = c4 .before .loop in
+    let a = c4 .before .before .before .args in
+    let kind = c .before .before .before .word-of .ensures in
+    let goes = run-goes (a .catalog .now) (l .j) _ (omega arith) kind (c .before .before .if1 .left) in
     l .inv after
     (marks.marks-then _ _ _ _ _ _ _ (c .mark-point .ensures) m (λ n. laws.run-more (a .catalog .now) (l .j) (a .target) n goes))
 

@@ -26,7 +26,9 @@ mark-run-requires-2 c κs = search needs
 
 returns-3 : tie.Need-returns-3
 returns-3 c =
-    rw (← c .before .before .before .before .word-of .ensures, ne-eqb _ _ (c .before .before .before .if1 .left), ne-eqb _ _ (c .before .before .if2 .left)) (c .mark-run2 .ensures)
+    let kind = c .before .before .before .before .word-of .ensures in
+    let no-point = ne-eqb _ _ (c .before .before .before .if1 .left) in
+    rw (← kind, no-point, ne-eqb _ _ (c .before .before .if2 .left)) (c .mark-run2 .ensures)
 
 pub mark-scales-spec : {M : Type 1} → statement M
 mark-scales-spec =

@@ -14,7 +14,8 @@ add-opened c = search needs
 
 opened-requires : tie.Need-opened-requires
 opened-requires c κs =
-    (search needs, c .before .before .before .before .pre .1 .opens (omega (arith, c .before .before .word-of .ensures, c .before .match .keys1)))
+    let kind = c .before .before .word-of .ensures in
+    (search needs, c .before .before .before .before .pre .1 .opens (omega (arith, kind, c .before .match .keys1)))
 
 word-of-requires-2 : tie.Need-word-of-requires-2
 word-of-requires-2 c κs = search needs
@@ -24,7 +25,9 @@ is-fill-in-requires c κs = search needs
 
 opened-requires-2 : tie.Need-opened-requires-2
 opened-requires-2 c κs =
-    (search needs, c .before .before .before .before .before .pre .1 .opens (omega (arith, c .before .before .before .word-of .ensures, c .before .before .match .keys2)))
+    let c4 = c .before .before .before .before in
+    let kind = c .before .before .before .word-of .ensures in
+    (search needs, c4 .before .pre .1 .opens (omega (arith, kind, c .before .before .match .keys2)))
 
 ended-requires : tie.Need-ended-requires
 ended-requires c κs = c .before .before .before .pre .1 .ends (omega (arith, c .before .word-of .ensures, c .match .keys3))
@@ -34,7 +37,9 @@ returns c = rw (← c .before .before .before .word-of .ensures, c .before .befo
 
 returns-2 : tie.Need-returns-2
 returns-2 c =
-    rw (← c .before .before .before .before .word-of .ensures, c .before .before .before .match .keys2, ← c .before .before .word-of2 .ensures, ← c .before .is-fill-in .ensures) (c .opened2 .ensures)
+    let kind = c .before .before .before .before .word-of .ensures in
+    let count = c .before .before .word-of2 .ensures in
+    rw (← kind, c .before .before .before .match .keys2, ← count, ← c .before .is-fill-in .ensures) (c .opened2 .ensures)
 
 returns-3 : tie.Need-returns-3
 returns-3 c = rw (← c .before .before .word-of .ensures, c .before .match .keys3) (c .ended .ensures)
