@@ -10,7 +10,9 @@ returns : tie.Need-returns
 returns c = sym (steps.not-whole (c .before .before .args .catalog .now) (c .if1 .taken))
 
 returns-2 : tie.Need-returns-2
-returns-2 c = sym (steps.too-many (c .before .before .before .args .catalog .now) (c .before .if1 .left) (omega (arith, c .if2 .taken)))
+returns-2 c =
+    let ws = c .before .before .before .args .catalog .now in
+    sym (steps.too-many ws (c .before .if1 .left) (omega (arith, c .if2 .taken)))
 
 check-frames-requires : tie.Need-check-frames-requires
 check-frames-requires c κs = search needs

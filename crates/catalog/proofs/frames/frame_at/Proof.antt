@@ -33,25 +33,23 @@ point-at-requires c κs = search needs
 
 returns-2 : tie.Need-returns-2
 returns-2 c =
-    let c4 = c .before .before .before .before in
-    let a = c4 .before .before .before .args in
-    let kind = c4 .before .word-of .ensures in
-    let named = c4 .named-words .ensures .0 in (
-      kinds.model-here (a .catalog .now) (a .i) _ kind _ named _ (c .before .before .before .zero-from .ensures) (c .before .before .if1 .left) (c .before .match .keys1)
-          _ (c .word-of2 .ensures),
-      search needs,
-    )
+    let a = c .before .before .before .before .before .before .before .args in
+    let kind = c .before .before .before .before .before .word-of .ensures in
+    let named = c .before .before .before .before .named-words .ensures .0 in
+    let zero = c .before .before .before .zero-from .ensures in
+    let formed = c .before .before .if1 .left in
+    let key = c .before .match .keys1 in
+    (kinds.model-here (a .catalog .now) (a .i) _ kind _ named _ zero formed key _ (c .word-of2 .ensures), search needs)
 
 returns-3 : tie.Need-returns-3
 returns-3 c =
-    let c4 = c .before .before .before .before in
-    let a = c4 .before .before .before .args in
-    let kind = c4 .before .word-of .ensures in
-    let named = c4 .named-words .ensures .0 in (
-      kinds.group-here (a .catalog .now) (a .i) _ kind _ named _ (c .before .before .before .zero-from .ensures) (c .before .before .if1 .left) (c .before .match .keys2)
-          _ (c .head-at .ensures),
-      search needs,
-    )
+    let a = c .before .before .before .before .before .before .before .args in
+    let kind = c .before .before .before .before .before .word-of .ensures in
+    let named = c .before .before .before .before .named-words .ensures .0 in
+    let zero = c .before .before .before .zero-from .ensures in
+    let formed = c .before .before .if1 .left in
+    let key = c .before .match .keys2 in
+    (kinds.group-here (a .catalog .now) (a .i) _ kind _ named _ zero formed key _ (c .head-at .ensures), search needs)
 
 returns-4 : tie.Need-returns-4
 returns-4 c =
@@ -61,11 +59,13 @@ returns-4 c =
 
 returns-5 : tie.Need-returns-5
 returns-5 c =
-    let c4 = c .before .before .before .before in
-    let a = c4 .before .before .args in
-    let kind = c4 .word-of .ensures in
+    let a = c .before .before .before .before .before .before .args in
+    let kind = c .before .before .before .before .word-of .ensures in
     let named = c .before .before .before .named-words .ensures .0 in
-    (kinds.end-here (a .catalog .now) (a .i) _ kind _ named _ (c .before .before .zero-from .ensures) (c .before .if1 .left) (c .match .keys4), tt)
+    let zero = c .before .before .zero-from .ensures in
+    let formed = c .before .if1 .left in
+    let key = c .match .keys4 in
+    (kinds.end-here (a .catalog .now) (a .i) _ kind _ named _ zero formed key, tt)
 
 returns-6 : tie.Need-returns-6
 returns-6 c =
