@@ -1,14 +1,17 @@
 -- The frame of words by its kind, one law for each way to read it.
 use mathlib.Core.Path.{_≡_, refl, sym, ap, _∙_}
-use mathlib.Core.Bool.{Bool, true, false}
+use mathlib.Core.Bool.{Bool, true, false, not}
 use mathlib.Core.List.{List, [], _∷_}
 use Prim.Native.Nat.{ℕ, _-_}
-use borrow.Author.Tests.{ne-eqb, eqb-true, eqb-false}
+use borrow.Author.Tests.{eqb-true, eqb-false, not-true, not-false}
 use lib.Dec.{eqb}
 use Rattle.lists.proofs.TestOutcomes.{by-test, clash}
 use Rattle.catalog.specs.Frames.{Frame, modelFrame, groupFrame, pointFrame, endFrame, malformed, word, frameOf, frameAt}
 use Rattle.catalog.specs.Rules.{run}
+use Rattle.catalog.specs.Answers.{IsHead, IsPoint, headForm, pointForm}
 use Rattle.catalog.specs.Scans.{zeroWords, namedWords, headWords, pointWords}
+use Rattle.catalog.specs.declared.frames.Head.{Head}
+use Rattle.catalog.specs.declared.frames.Point.{Point}
 
 -- `f` if the words that a kind does not name are 0.
 abbrev pub formed : Bool → Frame → Frame
@@ -18,7 +21,7 @@ formed-run : (b : Bool) (f : Frame) (fs : List Frame) → run (f ∷ fs) ≡ [] 
 formed-run true f fs h = h
 formed-run false f fs h = refl
 
-module _ (ws : List ℕ) (i k : ℕ) (q : k ≡ word ws i 0) where
+module _ (ws : List ℕ) (i k : ℕ) (kind : k ≡ word ws i 0) where
   -- What holds of the frame of each kind holds of the frame.
   by-kind : (P : Frame → Type 0) → (k ≡ 1 → P (formed (zeroWords ws i 2 6) (modelFrame (word ws i 1))))
       → (k ≡ 2 → P (formed (zeroWords ws i 5 3) (groupFrame (headWords ws i)))) → (k ≡ 3 → P (pointFrame (pointWords ws i)))
@@ -26,7 +29,7 @@ module _ (ws : List ℕ) (i k : ℕ) (q : k ≡ word ws i 0) where
       → ((k ≡ 1 → ⊥) → (k ≡ 2 → ⊥) → (k ≡ 3 → ⊥) → (k ≡ 4 → ⊥) → P malformed) → P (frameAt ws i)
   unfolding frameOf zeroWords
   by-kind P a b c d e =
-      rw (← q)
+      rw (← kind)
       (by-test P (eqb k 1) (λ t. a (eqb-true k 1 t)) λ x.
       by-test P (eqb k 2) (λ t. b (eqb-true k 2 t)) λ y.
       by-test P (eqb k 3) (λ t. c (eqb-true k 3 t)) λ z.
@@ -41,7 +44,7 @@ module _ (ws : List ℕ) (i k : ℕ) (q : k ≡ word ws i 0) where
   -- A point frame is never malformed.
   pub kind-3 : k ≡ 3 → frameAt ws i ≡ pointFrame (pointWords ws i)
   unfolding frameOf
-  kind-3 h = rw (← q, h)
+  kind-3 h = rw (← kind, h)
 
   -- A frame of another kind begins no run of points.
   pub no-point-here : (k ≡ 3 → ⊥) → (fs : List Frame) → run (frameAt ws i ∷ fs) ≡ []
@@ -53,35 +56,41 @@ module _ (ws : List ℕ) (i k : ℕ) (q : k ≡ word ws i 0) where
       (λ e. formed-run (zeroWords ws i 1 7) endFrame fs refl)
       (λ x y z w. refl)
 
-  -- By whether the words that the kind does not name are 0.
-  module _ (from : ℕ) (named : from ≡ namedWords k) where
-    pub malformed-here : zeroWords ws i from (8 - from) ≡ false → frameAt ws i ≡ malformed
+  -- By whether the words that the kind does not name are 0, which is `all-zero`.
+  module _ (from : ℕ) (named : from ≡ namedWords k) (all-zero : Bool) (q : all-zero ≡ zeroWords ws i from (8 - from)) where
+    pub malformed-here : not all-zero ≡ true → frameAt ws i ≡ malformed
     unfolding zeroWords
-    malformed-here z =
-        let g = rw named at z in
+    malformed-here t =
+        let g = rw named at (sym q ∙ not-true all-zero t) in
         by-kind (λ f. f ≡ malformed) (λ e. rw (rw e at g)) (λ e. rw (rw e at g)) (λ e. clash (rw e at g)) (λ e. rw (rw e at g))
         (λ x y z w. refl)
 
-    module _ (z : zeroWords ws i from (8 - from) ≡ true) where
-      pub model-here : k ≡ 1 → frameAt ws i ≡ modelFrame (word ws i 1)
+    module _ (t : not all-zero ≡ false) where
+      -- The frame, if it is formed.
+      is-formed : (b : Bool) (f : Frame) → frameAt ws i ≡ formed b f → b ≡ true → frameAt ws i ≡ f
+      is-formed b f e z = e ∙ ap (λ b. formed b f) z
+
+      pub model-here : k ≡ 1 → (id : ℕ) → id ≡ word ws i 1 → modelFrame id ≡ frameAt ws i
       unfolding frameOf zeroWords
-      model-here h =
-          let f = modelFrame (word ws i 1) in
-          let e : frameAt ws i ≡ formed (zeroWords ws i 2 6) f = rw (← q, h) in
-          e ∙ ap (λ b. formed b f) (rw (named, h) at z)
+      model-here h id e =
+          let z = rw (named, h) at (sym q ∙ not-false all-zero t) in
+          ap modelFrame e ∙ sym (is-formed (zeroWords ws i 2 6) (modelFrame (word ws i 1)) (rw (← kind, h)) z)
 
-      pub group-here : k ≡ 2 → frameAt ws i ≡ groupFrame (headWords ws i)
+      pub group-here : k ≡ 2 → (r : Head) → IsHead r (headWords ws i) → groupFrame (headForm r) ≡ frameAt ws i
       unfolding frameOf zeroWords
-      group-here h =
-          let f = groupFrame (headWords ws i) in
-          let e : frameAt ws i ≡ formed (zeroWords ws i 5 3) f = rw (← q, h) in
-          e ∙ ap (λ b. formed b f) (rw (named, h) at z)
+      group-here h r e =
+          let z = rw (named, h) at (sym q ∙ not-false all-zero t) in
+          let same : headForm r ≡ headWords ws i = rw (e .number, e .groupType, e .countKind, e .count) in
+          ap groupFrame same ∙ sym (is-formed (zeroWords ws i 5 3) (groupFrame (headWords ws i)) (rw (← kind, h)) z)
 
-      pub point-here : k ≡ 3 → frameAt ws i ≡ pointFrame (pointWords ws i)
-      point-here = kind-3
-
-      pub end-here : k ≡ 4 → frameAt ws i ≡ endFrame
+      pub end-here : k ≡ 4 → endFrame ≡ frameAt ws i
       unfolding frameOf zeroWords
       end-here h =
-          let e : frameAt ws i ≡ formed (zeroWords ws i 1 7) endFrame = rw (← q, h) in
-          e ∙ ap (λ b. formed b endFrame) (rw (named, h) at z)
+          let z = rw (named, h) at (sym q ∙ not-false all-zero t) in
+          sym (is-formed (zeroWords ws i 1 7) endFrame (rw (← kind, h)) z)
+
+  pub point-here : k ≡ 3 → (r : Point) → IsPoint r (pointWords ws i) → pointFrame (pointForm r) ≡ frameAt ws i
+  point-here h r e =
+      let same : pointForm r ≡ pointWords ws i =
+      rw (e .number, e .typeCode, e .size, e .scaleKind, e .scale, e .mandatory, e .access) in
+      ap pointFrame same ∙ sym (kind-3 h)

@@ -1,6 +1,6 @@
 -- What the code keeps of the frames is what a search would find, from the start and from frame to frame.
 use mathlib.Core.Path.{_≡_, refl, sym, ap, subst, _∙_}
-use mathlib.Core.Bool.{Bool, true, false, not, _&&_, _||_, or-false}
+use mathlib.Core.Bool.{true, false, _&&_, _||_, or-false}
 use mathlib.Core.List.{List, [], _∷_, append-nil}
 use mathlib.Core.Option.{none}
 use Prim.Native.Nat.{ℕ, zero, suc, _+_, _-_, _/_, _≤_, _<_}
@@ -32,7 +32,7 @@ use Rattle.catalog.proofs.FreshNumbers.{Fresh, Apart}
 use Rattle.catalog.proofs.MarkLaws.{stop-later}
 use Rattle.catalog.proofs.OpenGroups.{runs-points}
 use Rattle.catalog.proofs.TrackedRules.{no-point-ahead}
-use Rattle.catalog.proofs.TrackedState.{stateBy, word-here}
+use Rattle.catalog.proofs.TrackedState.{stateBy, word-here, kind-here}
 use Rattle.catalog.proofs.WordScans.{has-either, number-here, scope-more}
 
 -- Before the first frame.
@@ -126,7 +126,7 @@ module _ (ws used numbers scales : List ℕ) (u i : ℕ) (c : State) (s : check.
     after-model id e n =
         let four = t .within .four in
         let closed = none-open id n in
-        let kind : word ws i 0 ≡ 1 = word-here ws i (modelFrame id) e refl 0 in
+        let kind = kind-here ws i (modelFrame id) e refl in
         let stored : getD (set (c .firsts) (c .depth) (i + 1)) 0 0 ≡ i + 1 =
         rw closed (getD-set-same (c .firsts) 0 (i + 1) 0 (omega arith)) in
         let none-yet : i + 1 - (i + 1) ≡ 0 = omega arith in
@@ -152,7 +152,7 @@ module _ (ws used numbers scales : List ℕ) (u i : ℕ) (c : State) (s : check.
         let some-open = eqb-false (c .depth) 0 (neither (eqb (c .depth) 0) (eqb (c .depth) 1 && c .«has_fill») .0 (ok .0) .0) in
         let shallow = leb-false 4 (c .depth) (ok .1 .0) in
         let d : 1 ≤ c .depth = omega (arith, some-open) in
-        let kind : word ws i 0 ≡ 2 = word-here ws i (groupFrame h) e refl 0 in
+        let kind = kind-here ws i (groupFrame h) e refl in
         let count-kind : word ws i 3 ≡ h .countKind = word-here ws i (groupFrame h) e refl 3 in
         let count : word ws i 4 ≡ h .count = word-here ws i (groupFrame h) e refl 4 in
         let f = getD-set-other (c .firsts) (c .depth) 0 (i + 1) 0 (λ z. omega (arith, z, d)) in
@@ -170,7 +170,7 @@ module _ (ws used numbers scales : List ℕ) (u i : ℕ) (c : State) (s : check.
     after-point : (p : Point) → frameAt ws i ≡ pointFrame p → firstBroken (pointRules ws i c p) ≡ none
         → Indexed ws numbers'' scales'' u' (i + 1) c
     after-point p e n =
-        let kind : word ws i 0 ≡ 3 = word-here ws i (pointFrame p) e refl 0 in
+        let kind = kind-here ws i (pointFrame p) e refl in
         let same : Marks scales' scales'' (λ n. false) true = rw kind at r in
         record {
           numberWords = number-words;
@@ -205,7 +205,7 @@ module _ (ws used numbers scales : List ℕ) (u i : ℕ) (c : State) (s : check.
 
       after-end : Indexed ws numbers'' scales'' u' (i + 1) (stateBy c i endFrame)
       after-end =
-          let kind : word ws i 0 ≡ 4 = word-here ws i endFrame e refl 0 in
+          let kind = kind-here ws i endFrame e refl in
           let out = subst (λ j. Marks scales' scales'' (inRun ws j Target.ScaleFactor) false) top (rw kind at r) in
           record {
             numberWords = number-words;
@@ -228,10 +228,7 @@ module _ (ws used numbers scales : List ℕ) (u i : ℕ) (c : State) (s : check.
 
   pub blank-here : (f : Frame) → frameAt ws i ≡ f → firstBroken (codeRules ws used i c f) ≡ none → BlankAtModel ws i scales
   blank-here (modelFrame id) e n = λ q. blank-at-model id n
-  blank-here (groupFrame h) e n =
-      λ q. let kind : word ws i 0 ≡ 2 = word-here ws i (groupFrame h) e refl 0 in clash (sym (rw kind at q))
-  blank-here (pointFrame p) e n =
-      λ q. let kind : word ws i 0 ≡ 3 = word-here ws i (pointFrame p) e refl 0 in clash (sym (rw kind at q))
-  blank-here endFrame e n =
-      λ q. let kind : word ws i 0 ≡ 4 = word-here ws i endFrame e refl 0 in clash (sym (rw kind at q))
+  blank-here (groupFrame h) e n = λ q. clash (sym (rw (kind-here ws i (groupFrame h) e refl) at q))
+  blank-here (pointFrame p) e n = λ q. clash (sym (rw (kind-here ws i (pointFrame p) e refl) at q))
+  blank-here endFrame e n = λ q. clash (sym (rw (kind-here ws i endFrame e refl) at q))
   blank-here malformed e n = impossible (cc)

@@ -20,7 +20,6 @@ use Rattle.catalog.specs.Frames.{wordsOf, fill}
 use Rattle.catalog.specs.State as check
 use Rattle.catalog.specs.State.{OpenGroup, start, next}
 use Rattle.catalog.specs.Rules.{run, noModel, inTop, afterGroup, isMalformed, rules, fault}
-use Rattle.catalog.specs.Answers.{IdFits}
 use Rattle.catalog.specs.Scans.{framesOnward, isModel, isNumbered, numbersBefore}
 use Rattle.catalog.specs.Tracking.{Within, Tracks, Opens, Room, aheadOf, numbersSoFar, withOpened, withEnded, stateOf}
 use Rattle.catalog.specs.declared.state.State.{State}
@@ -81,6 +80,10 @@ pub word-here : (ws : List ℕ) (i : ℕ) (f : Frame) → frameAt ws i ≡ f →
     → getD (eightWords ws i) k 0 ≡ getD (wordsOf f) k 0
 word-here ws i f e m k = sym (ap (λ l. getD l k 0) (words-here ws i f e m))
 
+pub kind-here : (ws : List ℕ) (i : ℕ) (f : Frame) → frameAt ws i ≡ f → isMalformed f ≡ false
+    → word ws i 0 ≡ getD (wordsOf f) 0 0
+kind-here ws i f e m = word-here ws i f e m 0
+
 -- The code's state after a frame, by its kind.
 abbrev pub stateBy : State → ℕ → Frame → State
 stateBy c i (modelFrame id) = withOpened c i (c .models + 1) false
@@ -91,13 +94,12 @@ stateBy c i malformed = c
 
 pub state-here : (ws : List ℕ) (i : ℕ) (c : State) (f : Frame) → frameAt ws i ≡ f → isMalformed f ≡ false
     → stateOf (word ws i 0) (word ws i 3) i c ≡ stateBy c i f
-state-here ws i c (modelFrame id) e m = let w : word ws i 0 ≡ 1 = word-here ws i (modelFrame id) e m 0 in rw w
+state-here ws i c (modelFrame id) e m = rw (kind-here ws i (modelFrame id) e m)
 state-here ws i c (groupFrame h) e m =
-    let kind : word ws i 0 ≡ 2 = word-here ws i (groupFrame h) e m 0 in
     let count : word ws i 3 ≡ h .countKind = word-here ws i (groupFrame h) e m 3 in
-    rw (kind, count)
-state-here ws i c (pointFrame p) e m = let w : word ws i 0 ≡ 3 = word-here ws i (pointFrame p) e m 0 in rw w
-state-here ws i c endFrame e m = let w : word ws i 0 ≡ 4 = word-here ws i endFrame e m 0 in rw w
+    rw (kind-here ws i (groupFrame h) e m, count)
+state-here ws i c (pointFrame p) e m = rw (kind-here ws i (pointFrame p) e m)
+state-here ws i c endFrame e m = rw (kind-here ws i endFrame e m)
 state-here ws i c malformed e m = clash m
 
 -- The numbers so far, after a frame of this kind and with this number.
@@ -158,7 +160,7 @@ module _ (ws used : List ℕ) (i : ℕ) (c : State) (s : check.State) (t : Track
       let few = t .within .few in
       let four = t .within .four in
       let closed : c .depth ≡ 0 = eqb-true (c .depth) 0 (none-open (c .depth) (s .openGroups) (t .depth) ∙ n) in
-      let kind : word ws i 0 ≡ 1 = word-here ws i (modelFrame id) e refl 0 in
+      let kind = kind-here ws i (modelFrame id) e refl in
       let here : word ws i 1 ≡ id = word-here ws i (modelFrame id) e refl 1 in
       let stored : getD (set (c .firsts) (c .depth) (i + 1)) 0 0 ≡ i + 1 =
       rw closed (getD-set-same (c .firsts) 0 (i + 1) 0 (omega arith)) in
@@ -189,7 +191,7 @@ module _ (ws used : List ℕ) (i : ℕ) (c : State) (s : check.State) (t : Track
     after-group : (h : Head) → frameAt ws i ≡ groupFrame h → run (framesOnward ws i) ≡ [] → c .depth < 4
         → Tracks ws used (i + 1) (stateBy c i (groupFrame h)) (next s (groupFrame h))
     after-group h e r deep =
-        let kind : word ws i 0 ≡ 2 = word-here ws i (groupFrame h) e refl 0 in
+        let kind = kind-here ws i (groupFrame h) e refl in
         let number : word ws i 1 ≡ h .number = word-here ws i (groupFrame h) e refl 1 in
         let few = t .within .few in
         let d = depth-here in
@@ -219,7 +221,7 @@ module _ (ws used : List ℕ) (i : ℕ) (c : State) (s : check.State) (t : Track
     after-point : (p : Point) → frameAt ws i ≡ pointFrame p → run (framesOnward ws i) ≡ p ∷ run (framesOnward ws (i + 1))
         → l .hasGroup ≡ false → Tracks ws used (i + 1) (stateBy c i (pointFrame p)) (next s (pointFrame p))
     after-point p e r g =
-        let kind : word ws i 0 ≡ 3 = word-here ws i (pointFrame p) e refl 0 in
+        let kind = kind-here ws i (pointFrame p) e refl in
         let number : word ws i 1 ≡ p .number = word-here ws i (pointFrame p) e refl 1 in
         let d = depth-here in
         let o = subst (Opens ws (c .firsts) (c .«has_group») (aheadOf ws i (c .«has_group»))) q (t .openGroups) in
@@ -245,7 +247,6 @@ module _ (ws used : List ℕ) (i : ℕ) (c : State) (s : check.State) (t : Track
         let few = t .within .few in
         let deep = t .within .deep in
         let d = depth-here in
-        let kind : word ws i 0 ≡ 4 = word-here ws i endFrame e refl 0 in
         let o = subst (Opens ws (c .firsts) (c .«has_group») []) q (no-point-ahead ws used i c s t r) in
         record {
           within = record {
@@ -258,7 +259,7 @@ module _ (ws used : List ℕ) (i : ℕ) (c : State) (s : check.State) (t : Track
           words = t .words;
           ids = t .ids;
           depth = rw q (omega arith);
-          numbers = λ h. numbers-kept ws used i c s t (omega arith) 4 kind refl;
+          numbers = λ h. numbers-kept ws used i c s t (omega arith) 4 (kind-here ws i endFrame e refl) refl;
           hasFill = t .hasFill;
           openGroups = rw q (o .2);
         }
@@ -276,29 +277,26 @@ module _ (ws used : List ℕ) (i : ℕ) (c : State) (s : check.State) (t : Track
       go (l ∷ ls) q g = k l ls q
 
   -- A frame that breaks no rule opens at most the fourth group, and ends one that is open.
-  pub has-room : (f : Frame) (ahead : List Point) → frameAt ws i ≡ f → fault s f ahead ≡ none → Room (word ws i 0) c
-  has-room (modelFrame id) ahead e n =
+  room-for : (f : Frame) (ahead : List Point) → fault s f ahead ≡ none → Room (getD (wordsOf f) 0 0) c
+  room-for (modelFrame id) ahead n =
       let x = not-false _ (none-broken (rules s (modelFrame id) ahead) .0 n .1 .0) in
       let closed = eqb-true (c .depth) 0 (none-open (c .depth) (s .openGroups) (t .depth) ∙ x) in
-      let kind : word ws i 0 ≡ 1 = word-here ws i (modelFrame id) e refl 0 in
       record { opens = λ k. omega arith; ends = λ k. omega arith }
-  has-room (groupFrame h) ahead e n =
-      let x = none-broken (rules s (groupFrame h) ahead) .0 n .1 .1 .0 in
+  room-for (groupFrame h) ahead n =
       let d = t .depth in
-      let y = leb-false 4 (length (s .openGroups)) x in
-      let kind : word ws i 0 ≡ 2 = word-here ws i (groupFrame h) e refl 0 in
+      let y = leb-false 4 (length (s .openGroups)) (none-broken (rules s (groupFrame h) ahead) .0 n .1 .1 .0) in
       record { opens = λ k. omega arith; ends = λ k. omega arith }
-  has-room (pointFrame p) ahead e n =
-      let kind : word ws i 0 ≡ 3 = word-here ws i (pointFrame p) e refl 0 in
-      record { opens = λ k. omega arith; ends = λ k. omega arith }
-  has-room endFrame ahead e n =
+  room-for (pointFrame p) ahead n = record { opens = λ k. absurd (omega arith); ends = λ k. absurd (omega arith) }
+  room-for endFrame ahead n =
       let x = none-broken (rules s endFrame ahead) .0 n .1 .0 in
-      let kind : word ws i 0 ≡ 4 = word-here ws i endFrame e refl 0 in
       record {
-        opens = λ k. omega arith;
+        opens = λ k. absurd (omega arith);
         ends = λ k. inside (1 ≤ c .depth) x (λ l ls q. let d = t .depth ∙ ap length q in omega arith);
       }
-  has-room malformed ahead e n = impossible (cc)
+  room-for malformed ahead n = impossible (cc)
+
+  pub has-room : (f : Frame) (ahead : List Point) → frameAt ws i ≡ f → fault s f ahead ≡ none → Room (word ws i 0) c
+  has-room f ahead e n = rw (kind-here ws i f e (none-broken (rules s f ahead) .0 n .0)) (room-for f ahead n)
 
 -- After a frame that breaks no rule.
 module _ (ws used : List ℕ) (i : ℕ) (c : State) (s : check.State) (t : Tracks ws used i c s) (used' : List ℕ)
@@ -313,19 +311,18 @@ module _ (ws used : List ℕ) (i : ℕ) (c : State) (s : check.State) (t : Track
       let x = neither (noModel (s .openGroups)) (inTop (s .openGroups) && s .hasFill) .0 (b .1 .0) .0 in
       let y = leb-false 4 (length (s .openGroups)) (b .1 .1 .0) in
       let d = t .depth in
-      let kind : word ws i 0 ≡ 2 = word-here ws i (groupFrame h) e refl 0 in
+      let t' = same-ids ws used i c s t used' m (rw (kind-here ws i (groupFrame h) e refl)) in
       inside ws used i c s t (Tracks ws used' (i + 1) (stateBy c i (groupFrame h)) (next s (groupFrame h))) x
-      (λ l ls q. after-group ws used' i c s (same-ids ws used i c s t used' m (rw kind)) l ls q h e (ap run a) (omega arith))
+      (λ l ls q. after-group ws used' i c s t' l ls q h e (ap run a) (omega arith))
   tracks-next (pointFrame p) e a n =
       let b = none-broken (rules s (pointFrame p) (run (framesOnward ws i))) .0 n in
       let x = neither (noModel (s .openGroups)) (afterGroup (s .openGroups)) .0 (b .1 .0) in
-      let kind : word ws i 0 ≡ 3 = word-here ws i (pointFrame p) e refl 0 in
+      let t' = same-ids ws used i c s t used' m (rw (kind-here ws i (pointFrame p) e refl)) in
       inside ws used i c s t (Tracks ws used' (i + 1) (stateBy c i (pointFrame p)) (next s (pointFrame p))) (x .0)
-      (λ l ls q. after-point ws used' i c s (same-ids ws used i c s t used' m (rw kind)) l ls q p e (ap run a)
-      (sym (ap afterGroup q) ∙ x .1))
+      (λ l ls q. after-point ws used' i c s t' l ls q p e (ap run a) (sym (ap afterGroup q) ∙ x .1))
   tracks-next endFrame e a n =
       let b = none-broken (rules s endFrame (run (framesOnward ws i))) .0 n in
-      let kind : word ws i 0 ≡ 4 = word-here ws i endFrame e refl 0 in
+      let t' = same-ids ws used i c s t used' m (rw (kind-here ws i endFrame e refl)) in
       inside ws used i c s t (Tracks ws used' (i + 1) (stateBy c i endFrame) (next s endFrame)) (b .1 .0)
-      (λ l ls q. after-end ws used' i c s (same-ids ws used i c s t used' m (rw kind)) l ls q e (ap run a))
+      (λ l ls q. after-end ws used' i c s t' l ls q e (ap run a))
   tracks-next malformed e a n = impossible (cc)

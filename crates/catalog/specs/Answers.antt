@@ -1,4 +1,5 @@
 -- What the code's types mean.
+use mathlib.Core.Path.{_≡_}
 use mathlib.Core.Bool.{true, false}
 use mathlib.Core.Option.{Option, none, some}
 use Prim.Native.Nat.{ℕ, _<_}
@@ -32,6 +33,22 @@ pointForm p =
 abbrev pub headForm : Head → Frames.Head
 headForm h =
     record { number = h .number; groupType = h .«group_type»; countKind = h .«count_kind»; count = h .count }
+
+-- The code's point and head have these words.
+pub record IsPoint (r : Point) (p : Frames.Point) : Type 0 where
+  pub number : r .number ≡ p .number
+  pub typeCode : r .«type_code» ≡ p .typeCode
+  pub size : r .size ≡ p .size
+  pub scaleKind : r .«scale_kind» ≡ p .scaleKind
+  pub scale : r .scale ≡ p .scale
+  pub mandatory : r .mandatory ≡ p .mandatory
+  pub access : r .access ≡ p .access
+
+pub record IsHead (r : Head) (h : Frames.Head) : Type 0 where
+  pub number : r .number ≡ h .number
+  pub groupType : r .«group_type» ≡ h .groupType
+  pub countKind : r .«count_kind» ≡ h .countKind
+  pub count : r .count ≡ h .count
 
 -- The code's frame as a frame.
 abbrev pub frameForm : Frame → Frames.Frame

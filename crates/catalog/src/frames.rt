@@ -3,7 +3,7 @@ ghost use mathlib.Core.Path.{_≡_};
 ghost use Prim.Native.Nat.{_/_, _-_, _<_, _≤_};
 ghost use lib.ListN.{length};
 ghost use Rattle.catalog.specs.Frames.{word, frameAt, frameIn};
-ghost use Rattle.catalog.specs.Answers.{IdFits, frameForm, headForm, pointForm};
+ghost use Rattle.catalog.specs.Answers.{IdFits, IsHead, IsPoint, frameForm};
 ghost use Rattle.catalog.specs.Scans.{headWords, namedWords, pointWords, zeroWords};
 
 // The words of a frame.
@@ -123,7 +123,7 @@ pub fn read_frame(catalog: &[u16], i: usize) -> Frame
 // The words of a group frame.
 fn head_at(catalog: &[u16], i: usize) -> Head
     requires { ⌜ i < length (now catalog) / 8 ⌝ }
-    ensures { λ r. ⌜ headForm r ≡ headWords (now (catalog .entry)) i ⌝ }
+    ensures { λ r. ⌜ IsHead r (headWords (now (catalog .entry)) i) ⌝ }
 {
     Head {
         number: word_of(catalog, i, 1),
@@ -136,7 +136,7 @@ fn head_at(catalog: &[u16], i: usize) -> Head
 // The words of a point frame.
 fn point_at(catalog: &[u16], i: usize) -> Point
     requires { ⌜ i < length (now catalog) / 8 ⌝ }
-    ensures { λ r. ⌜ pointForm r ≡ pointWords (now (catalog .entry)) i ⌝ }
+    ensures { λ r. ⌜ IsPoint r (pointWords (now (catalog .entry)) i) ⌝ }
 {
     Point {
         number: word_of(catalog, i, 1),

@@ -7,7 +7,8 @@ use Rattle.display.specs.declared.quantities.ScaledNumber.{ScaledNumber}
 use Rattle.display.proofs.AmountCases.{WasAmount}
 use Rattle.display.proofs.SameAmount.{by-parts}
 
-pub both-accepted : (a b : Amount) (x y : ScaledNumber) → WasAmount a x → WasAmount b y → equality a b ≡ equalIf (isSameByParts x y)
+pub both-accepted : (a b : Amount) (x y : ScaledNumber) → WasAmount a x → WasAmount b y
+    → equality a b ≡ equalIf (isSameByParts x y)
 unfolding equality
 both-accepted a b x y w u =
     rw (w .is, u .is, w .form, u .form) (ap equalIf (sym (by-parts (w .value) (w .scale) (u .value) (u .scale))))

@@ -24,7 +24,7 @@ use Rattle.values.proofs.ClassCases.{in-range, of-class}
 use Rattle.catalog.specs.Frames.{Point}
 use Rattle.catalog.specs.Rules.{isSizeOf}
 use Rattle.layout.specs.Points.{registersAt}
-use Rattle.layout.specs.Answers.{registersClass, ShownOf}
+use Rattle.layout.specs.Answers.{registersClass, shownForm, shownBy}
 use Rattle.layout.specs.declared.points.Shown.{Shown}
 
 -- The row of a type and its size by it.
@@ -144,8 +144,8 @@ module _ (code : ℕ) (rs : List ℕ) where
 pub shown-at : (p : Point) (body : List ℕ) (offset : ℕ) → ((k : ℕ) → getD body k 0 < 65536)
     → isSizeOf (p .typeCode) (p .size) ≡ true → offset + p .size ≤ length body
     → (rs : List ℕ) → rs ≡ registersAt body offset p → (register : ℕ) (r : Shown)
-    → ShownOf p (registersClass (p .typeCode) rs) rs register r
-    → ShownOf p (classified (p .typeCode) (join (registersAt body offset p))) (registersAt body offset p) register r
+    → shownForm r ≡ shownBy p (registersClass (p .typeCode) rs) rs register
+    → shownForm r ≡ shownBy p (classified (p .typeCode) (join (registersAt body offset p))) (registersAt body offset p) register
 shown-at p body offset words sized inside rs e register r shown =
     let Is16 : ℕ → Type 0 = λ n. n < 65536 in
     let rest = drop offset body in
@@ -156,5 +156,6 @@ shown-at p body offset words sized inside rs e register r shown =
     let parts = subst AreRegisters (sym (take-append-drop (p .size) rest)) after in
     let own = each-parts Is16 (take (p .size) rest) (drop (p .size) rest) parts .0 in
     let class = sized-class (p .typeCode) (registersAt body offset p) size own in
-    subst (λ (x : Classified). ShownOf p x (registersAt body offset p) register r) class
-    (subst (λ (qs : List ℕ). ShownOf p (registersClass (p .typeCode) qs) qs register r) e shown)
+    shown
+    ∙ ap (λ (qs : List ℕ). shownBy p (registersClass (p .typeCode) qs) qs register) e
+    ∙ ap (λ (x : Classified). shownBy p x (registersAt body offset p) register) class

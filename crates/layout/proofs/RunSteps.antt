@@ -12,7 +12,8 @@ use Rattle.catalog.specs.Rules.{run}
 use Rattle.catalog.specs.Definitions.{pointsSize}
 use Rattle.layout.specs.Reading.{endsWithPad}
 use Rattle.layout.specs.Walks.{onward, heldAt, Stands}
-use Rattle.layout.specs.Answers.{RunOf}
+use Rattle.layout.specs.Answers.{RunOf, PointRun, runForm, runOf}
+use Rattle.layout.specs.declared.counts.Run.{Run}
 use Rattle.layout.proofs.Standing.{past-end-within}
 use Rattle.layout.proofs.FrameRuns.{run-held}
 
@@ -79,3 +80,16 @@ pub run-whole : (ws : List ℕ) (i : ℕ) → Stands ws i → length ws / 8 ≤ 
 run-whole ws i s few =
     let w = past-end-within ws i s in
     ap (take 4096) (run-held ws i s) ∙ take-all 4096 (heldAt ws i .points) (omega arith)
+
+-- A run as one equation, and part by part.
+pub run-form : {ps : List Point} {first : ℕ} {r : Run} → RunOf ps first r → runForm r ≡ runOf ps first
+run-form x = λ k. record { size = x .size k; points = x .points k; next = x .next k; pad = x .pad k }
+
+pub run-parts : (ps : List Point) (first : ℕ) (r : Run) → runForm r ≡ runOf ps first → RunOf ps first r
+run-parts ps first r e =
+    record {
+      size = ap (λ (x : PointRun). x .size) e;
+      points = ap (λ (x : PointRun). x .points) e;
+      next = ap (λ (x : PointRun). x .next) e;
+      pad = ap (λ (x : PointRun). x .pad) e;
+    }

@@ -1,6 +1,6 @@
 -- What the code's types mean.
 use mathlib.Core.Path.{_≡_}
-use mathlib.Core.Bool.{true, false}
+use mathlib.Core.Bool.{Bool, true, false}
 use mathlib.Core.List.{List}
 use mathlib.Core.Option.{Option, none, some}
 use Prim.Native.Nat.{ℕ, _+_}
@@ -37,13 +37,37 @@ registersClass code rs =
       | false ↦ elim (allZero rs) [ true ↦ classified code 0 | false ↦ classified code 1 ]
     ]
 
--- What is shown of a point by its registers, the class that they have, and the register of its scale point.
-pub record ShownOf (p : Frames.Point) (class : Classified) (registers : List ℕ) (register : ℕ) (r : Shown) : Type 0 where
-  pub status : r .status ≡ statusOf p class register
-  pub raw : r .raw ≡ shownRaw registers
-  pub scale : r .scale ≡ scaleOf p (statusOf p class register) register
+-- What is shown of a point: its status, raw value and scale.
+pub record PointShown : Type 0 where
+  pub status : ℕ
+  pub raw : ℕ
+  pub scale : ℕ
 
--- The registers and the number of a run of points from frame `first` on, the frame after it, and whether its last point is a pad.
+abbrev pub shownForm : Shown → PointShown
+shownForm s = record { status = s .status; raw = s .raw; scale = s .scale }
+
+-- What is shown of a point by the class of its registers, these, and the register of its scale point.
+abbrev pub shownBy : Frames.Point → Classified → List ℕ → ℕ → PointShown
+shownBy p class registers register =
+    let status = statusOf p class register in
+    record { status = status; raw = shownRaw registers; scale = scaleOf p status register }
+
+-- A run of points: its registers, its number of points, the frame after it, and whether its last point is a pad.
+pub record PointRun : Type 0 where
+  pub size : ℕ
+  pub points : ℕ
+  pub next : ℕ
+  pub pad : Bool
+
+abbrev pub runForm : Run → PointRun
+runForm r = record { size = r .size; points = r .points; next = r .next; pad = r .«ends_with_pad» }
+
+-- The run of these points from frame `first` on.
+abbrev pub runOf : List Frames.Point → ℕ → PointRun
+runOf ps first =
+    record { size = pointsSize ps; points = length ps; next = first + length ps; pad = endsWithPad ps }
+
+-- The same, part by part.
 pub record RunOf (ps : List Frames.Point) (first : ℕ) (r : Run) : Type 0 where
   pub size : r .size ≡ pointsSize ps
   pub points : r .points ≡ length ps

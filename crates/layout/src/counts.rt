@@ -16,7 +16,7 @@ ghost use Rattle.catalog.specs.Rules.{run};
 ghost use Rattle.catalog.specs.Answers.{headForm};
 ghost use Rattle.layout.specs.Layout.{countOf};
 ghost use Rattle.layout.specs.Walks.{onward, scopeIn};
-ghost use Rattle.layout.specs.Answers.{RunOf};
+ghost use Rattle.layout.specs.Answers.{runForm, runOf};
 
 // The most frames of a catalog.
 const FRAMES: usize = 4096;
@@ -31,7 +31,7 @@ pub struct Run {
 
 // The run of point frames from frame `first` on. Of one that is longer than any catalog, the first 4,096 frames.
 pub fn run_extent(catalog: &[u16], first: usize) -> Run
-    ensures { λ r. ⌜ RunOf (take 4096 (run (onward (now (catalog .entry)) first))) first r ⌝ }
+    ensures { λ r. ⌜ runForm r ≡ runOf (take 4096 (run (onward (now (catalog .entry)) first))) first ⌝ }
 {
     let mut size = 0usize;
     let mut points = 0usize;

@@ -14,7 +14,7 @@ ghost use Rattle.values.specs.Answers.{classAnswer, classifiedAnswer};
 ghost use Rattle.catalog.specs.Frames.{sunssf};
 ghost use Rattle.catalog.specs.Answers.{pointForm};
 ghost use Rattle.layout.specs.Points.{scaleStatus, statusOf, scaleOf};
-ghost use Rattle.layout.specs.Answers.{registersClass, ShownOf};
+ghost use Rattle.layout.specs.Answers.{registersClass, shownForm, shownBy};
 
 // The status, raw value and scale of a point.
 pub struct Shown {
@@ -25,8 +25,8 @@ pub struct Shown {
 
 // A point by its registers and the register of its scale point.
 pub fn show(point: Point, registers: &[u16], scale_register: u16) -> Shown
-    ensures { λ r. ⌜ ShownOf (pointForm point) (registersClass (pointForm point .typeCode) (now (registers .entry)))
-        (now (registers .entry)) «scale_register» r ⌝ }
+    ensures { λ r. ⌜ shownForm r
+        ≡ shownBy (pointForm point) (registersClass (pointForm point .typeCode) (now (registers .entry))) (now (registers .entry)) «scale_register» ⌝ }
 {
     let class = class_of(point.type_code, registers);
     let status = status_of(point, class, scale_register);

@@ -15,7 +15,7 @@ use Rattle.catalog.specs.Definitions.{pointsSize}
 use Rattle.layout.specs.Points.{ModelPoint, registersAt, pointAt}
 use Rattle.layout.specs.Layout.{pointsAt}
 use Rattle.layout.specs.Walks.{heldAt, pointOf, scopeIn, instanceIn, begun}
-use Rattle.layout.specs.Answers.{ShownOf}
+use Rattle.layout.specs.Answers.{PointShown, shownForm, shownBy}
 use Rattle.layout.specs.declared.points.Shown.{Shown}
 use Rattle.layout.proofs.Standing as standing
 use Rattle.layout.proofs.NotedPoints.{begun-past, begun-first}
@@ -27,13 +27,17 @@ use Rattle.listing.proofs.WrittenRecords.{written-none, written-length,
 
 -- The numbers of a record from what is shown of its point.
 pub shown-numbers : (visit : Visit) (body table path : List ℕ) (offset : ℕ) (p : Point) (shown : Shown)
-    → ShownOf p (classified (p .typeCode) (join (registersAt body offset p))) (registersAt body offset p)
-    (scopeIn table (p .scale)) shown
+    → shownForm shown ≡ shownBy p (classified (p .typeCode) (join (registersAt body offset p))) (registersAt body offset p)
+    (scopeIn table (p .scale))
     → visit .index ∷ visit .id ∷ p .number ∷ getD path 0 0 ∷ getD path 1 0 ∷ getD path 2 0 ∷ (visit .address + 2 + offset)
     ∷ shown .status ∷ shown .raw ∷ shown .scale ∷ []
     ≡ recordNumbers (recordAt visit (pointAt body (instanceIn table path) offset p))
 unfolding recordNumbers pointAt
-shown-numbers visit body table path offset p shown s = rw (s .status, s .raw, s .scale)
+shown-numbers visit body table path offset p shown s =
+    let status = ap (λ (x : PointShown). x .status) s in
+    let raw = ap (λ (x : PointShown). x .raw) s in
+    let scale = ap (λ (x : PointShown). x .scale) s in
+    rw (status, raw, scale)
 
 -- The points that are left to write.
 abbrev pub leftAt : List ℕ → List ℕ → Progress → List Point

@@ -1,5 +1,6 @@
 -- `catalog::check` meets its contract: 1 and 2 come before any frame.
 use mathlib.Core.Path.{sym, _∙_}
+use native.Mathlib.Omega.{arith}
 use Rattle.catalog.proofs.CheckSteps as steps
 use borrow.Author.Needs.{needs}
 use Rattle.catalog.proofs.check.Statement.{statement}
@@ -9,7 +10,9 @@ returns : tie.Need-returns
 returns c = sym (steps.not-whole (c .before .before .args .catalog .now) (c .if1 .taken))
 
 returns-2 : tie.Need-returns-2
-returns-2 c = sym (steps.too-many (c .before .before .before .args .catalog .now) (c .before .if1 .left) (c .if2 .taken))
+returns-2 c =
+    let ws = c .before .before .before .args .catalog .now in
+    sym (steps.too-many ws (c .before .if1 .left) (omega (arith, c .if2 .taken)))
 
 check-frames-requires : tie.Need-check-frames-requires
 check-frames-requires c κs = search needs

@@ -1,7 +1,5 @@
 -- `catalog::frames::frame_at` meets its contract: the arm of each kind is that kind's line of `frameOf`.
-use mathlib.Core.Path.{sym, ap, _∙_}
-use borrow.Author.Tests.{not-true, not-false}
-use Rattle.catalog.specs.Frames.{modelFrame, groupFrame, pointFrame}
+use mathlib.Core.Path.{sym}
 use Rattle.catalog.proofs.FrameKinds as kinds
 use borrow.Author.Needs.{needs}
 use Rattle.catalog.proofs.frames.frame_at.Statement.{statement}
@@ -19,10 +17,10 @@ zero-from-requires c κs = (c .before .before .before .pre, c .named-words .ensu
 returns : tie.Need-returns
 returns c =
     let a = c .before .before .before .before .before .args in
-    let zero = c .before .zero-from in
-    let some-not = sym (zero .ensures) ∙ not-true (zero .result) (c .if1 .taken) in
+    let kind = c .before .before .before .word-of .ensures in
     let named = c .before .before .named-words .ensures .0 in
-    (sym (kinds.malformed-here (a .catalog .now) (a .i) _ (c .before .before .before .word-of .ensures) _ named some-not), tt)
+    let zero = c .before .zero-from .ensures in
+    (sym (kinds.malformed-here (a .catalog .now) (a .i) _ kind _ named _ zero (c .if1 .taken)), tt)
 
 word-of-requires-2 : tie.Need-word-of-requires-2
 word-of-requires-2 c κs = search needs
@@ -36,42 +34,38 @@ point-at-requires c κs = search needs
 returns-2 : tie.Need-returns-2
 returns-2 c =
     let a = c .before .before .before .before .before .before .before .args in
-    let zero = c .before .before .before .zero-from in
-    let all-zero = sym (zero .ensures) ∙ not-false (zero .result) (c .before .before .if1 .left) in
+    let kind = c .before .before .before .before .before .word-of .ensures in
     let named = c .before .before .before .before .named-words .ensures .0 in
-    let word = c .before .before .before .before .before .word-of .ensures in
-    let kind = kinds.model-here (a .catalog .now) (a .i) _ word _ named all-zero (c .before .match .keys1) in
-    (ap modelFrame (c .word-of2 .ensures) ∙ sym kind, search needs)
+    let zero = c .before .before .before .zero-from .ensures in
+    let formed = c .before .before .if1 .left in
+    let key = c .before .match .keys1 in
+    (kinds.model-here (a .catalog .now) (a .i) _ kind _ named _ zero formed key _ (c .word-of2 .ensures), search needs)
 
 returns-3 : tie.Need-returns-3
 returns-3 c =
     let a = c .before .before .before .before .before .before .before .args in
-    let zero = c .before .before .before .zero-from in
-    let all-zero = sym (zero .ensures) ∙ not-false (zero .result) (c .before .before .if1 .left) in
+    let kind = c .before .before .before .before .before .word-of .ensures in
     let named = c .before .before .before .before .named-words .ensures .0 in
-    let word = c .before .before .before .before .before .word-of .ensures in
-    let kind = kinds.group-here (a .catalog .now) (a .i) _ word _ named all-zero (c .before .match .keys2) in
-    (ap groupFrame (c .head-at .ensures) ∙ sym kind, search needs)
+    let zero = c .before .before .before .zero-from .ensures in
+    let formed = c .before .before .if1 .left in
+    let key = c .before .match .keys2 in
+    (kinds.group-here (a .catalog .now) (a .i) _ kind _ named _ zero formed key _ (c .head-at .ensures), search needs)
 
 returns-4 : tie.Need-returns-4
 returns-4 c =
     let a = c .before .before .before .before .before .before .before .args in
-    let zero = c .before .before .before .zero-from in
-    let all-zero = sym (zero .ensures) ∙ not-false (zero .result) (c .before .before .if1 .left) in
-    let named = c .before .before .before .before .named-words .ensures .0 in
-    let word = c .before .before .before .before .before .word-of .ensures in
-    let kind = kinds.point-here (a .catalog .now) (a .i) _ word _ named all-zero (c .before .match .keys3) in
-    (ap pointFrame (c .point-at .ensures) ∙ sym kind, search needs)
+    let kind = c .before .before .before .before .before .word-of .ensures in
+    (kinds.point-here (a .catalog .now) (a .i) _ kind (c .before .match .keys3) _ (c .point-at .ensures), search needs)
 
 returns-5 : tie.Need-returns-5
 returns-5 c =
     let a = c .before .before .before .before .before .before .args in
-    let zero = c .before .before .zero-from in
-    let all-zero = sym (zero .ensures) ∙ not-false (zero .result) (c .before .if1 .left) in
+    let kind = c .before .before .before .before .word-of .ensures in
     let named = c .before .before .before .named-words .ensures .0 in
-    let word = c .before .before .before .before .word-of .ensures in
-    let kind = kinds.end-here (a .catalog .now) (a .i) _ word _ named all-zero (c .match .keys4) in
-    (sym kind, tt)
+    let zero = c .before .before .zero-from .ensures in
+    let formed = c .before .if1 .left in
+    let key = c .match .keys4 in
+    (kinds.end-here (a .catalog .now) (a .i) _ kind _ named _ zero formed key, tt)
 
 returns-6 : tie.Need-returns-6
 returns-6 c =

@@ -6,7 +6,7 @@ use Prim.Native.Nat.{_-_}
 use lib.Dec.{eqb}
 use Rattle.lists.specs.Tests.{firstBroken}
 use Rattle.catalog.specs.Rules.{noPoint, run}
-use Rattle.catalog.specs.Answers.{frameForm, headForm, pointForm}
+use Rattle.catalog.specs.Answers.{frameForm, pointForm}
 use Rattle.catalog.specs.Scans.{framesOnward}
 use Rattle.catalog.specs.Tracking.{endTests}
 use Rattle.catalog.proofs.MarkedRules as marked

@@ -1,4 +1,5 @@
 -- `catalog::scans::mark_number` meets its contract.
+use native.Mathlib.Omega.{arith}
 use borrow.Author.Tests.{lt-leb, le-leb}
 use Rattle.number_sets.proofs.MarkLaws as marks
 use borrow.Author.Needs.{needs}
@@ -9,12 +10,16 @@ word-of-requires : tie.Need-word-of-requires
 word-of-requires c κs = search needs
 
 returns : tie.Need-returns
-returns c = marks.marks-none _ _ _ (λ n. rw (← c .before .word-of .ensures, lt-leb _ _ (c .if1 .taken)))
+returns c =
+    let kind = c .before .word-of in
+    let low = lt-leb 2 (kind .result) (omega (arith, c .if1 .taken)) in
+    marks.marks-none _ _ _ (λ n. rw (← kind .ensures, low))
 
 returns-2 : tie.Need-returns-2
 returns-2 c =
-    let kind = c .before .before .word-of .ensures in
-    marks.marks-none _ _ _ (λ n. rw (← kind, le-leb _ _ (c .before .if1 .left), lt-leb _ _ (c .if2 .taken)))
+    let kind = c .before .before .word-of in
+    let low = le-leb 2 (kind .result) (omega (arith, c .before .if1 .left)) in
+    marks.marks-none _ _ _ (λ n. rw (← kind .ensures, low, lt-leb _ _ (c .if2 .taken)))
 
 word-of-requires-2 : tie.Need-word-of-requires-2
 word-of-requires-2 c κs = search needs
@@ -24,11 +29,11 @@ mark-requires c κs = search needs
 
 returns-3 : tie.Need-returns-3
 returns-3 c =
-    let c4 = c .before .before .before .before in
-    let kind = c4 .before .word-of .ensures in
+    let kind = c .before .before .before .before .before .word-of in
+    let low = le-leb 2 (kind .result) (omega (arith, c .before .before .before .before .if1 .left)) in
     let number = c .before .word-of2 .ensures in
     marks.marks-same _ _ _ _ _
-    (λ n. rw (← kind, le-leb _ _ (c4 .if1 .left), le-leb _ _ (c .before .before .before .if2 .left), ← number))
+    (λ n. rw (← kind .ensures, low, le-leb _ _ (c .before .before .before .if2 .left), ← number))
     (c .mark .ensures .1)
 
 pub mark-number-spec : {M : Type 1} → statement M

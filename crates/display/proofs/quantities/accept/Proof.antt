@@ -39,14 +39,16 @@ unfolding amountOf
 returns-2 c =
     let v = c .before .before .before in
     let q = v .before .args .quantity in
-    simp (amountOf, was-not-scalable (unscaled (q .«type_code») (q .raw)) (sym (v .unscaled-value .ensures) ∙ c .enum-told .given .1))
+    let e = sym (v .unscaled-value .ensures) ∙ c .enum-told .given .1 in
+    simp (amountOf, was-not-scalable (unscaled (q .«type_code») (q .raw)) e)
 
 returns-3 : tie.Need-returns-3
 unfolding amountOf
 returns-3 c =
     let v = c .before .before .before in
     let q = v .before .args .quantity in
-    simp (amountOf, was-no-value (unscaled (q .«type_code») (q .raw)) (sym (v .unscaled-value .ensures) ∙ c .enum-told2 .given .1))
+    let e = sym (v .unscaled-value .ensures) ∙ c .enum-told2 .given .1 in
+    simp (amountOf, was-no-value (unscaled (q .«type_code») (q .raw)) e)
 
 returns-4 : tie.Need-returns-4
 unfolding amountOf

@@ -20,14 +20,16 @@ returns c =
     let l = c .before .before .before .before in
     let bs = l .before .before .args .bytes .now in
     let d = c .before .is-digit in
-    sym (every-not isDigit bs (l .loop .i) (c .before .before .before .loop-test .taken) (sym (d .ensures) ∙ not-true (d .result) (c .if1 .taken))) ∙ l .loop .inv
+    let e = sym (d .ensures) ∙ not-true (d .result) (c .if1 .taken) in
+    sym (every-not isDigit bs (l .loop .i) (c .before .before .before .loop-test .taken) e) ∙ l .loop .inv
 
 loop-again : tie.Need-loop-again Inv-loop μ-loop
 loop-again c =
     let l = c .before .before .before .before in
     let bs = l .before .before .args .bytes .now in
     let d = c .before .is-digit in
-    sym (every-on isDigit bs (l .loop .i) (c .before .before .before .loop-test .taken) (sym (d .ensures) ∙ not-false (d .result) (c .if1 .left))) ∙ l .loop .inv
+    let e = sym (d .ensures) ∙ not-false (d .result) (c .if1 .left) in
+    sym (every-on isDigit bs (l .loop .i) (c .before .before .before .loop-test .taken) e) ∙ l .loop .inv
 
 returns-2 : tie.Need-returns-2 Inv-loop μ-loop
 returns-2 c =

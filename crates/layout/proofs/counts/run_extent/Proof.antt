@@ -11,7 +11,7 @@ use Rattle.catalog.specs.Answers.{pointForm}
 use Rattle.layout.specs.Walks.{onward}
 use Rattle.layout.specs.Answers.{pointOrForm}
 use Rattle.layout.proofs.FrameRuns.{run-more, run-ends}
-use Rattle.layout.proofs.RunSteps.{RunFrom, run-begins, run-goes, run-stops}
+use Rattle.layout.proofs.RunSteps.{RunFrom, run-begins, run-goes, run-stops, run-form}
 use Rattle.layout.proofs.counts.run_extent.Statement.{statement}
 use Rattle.layout.proofs.counts.run_extent.Tie as tie
 
@@ -85,7 +85,7 @@ returns c =
     let l = head .loop in
     let f = sym (c .before .before .point-at .ensures) ∙ ap pointOrForm (c .enum-told .given .1) in
     let left = ap (take (4096 - l .points)) (run-ends (a .catalog .now) (l .i) f) ∙ take-nil (4096 - l .points) in
-    run-stops _ _ (a .first) (l .size) (l .points) (l .i) (l .ends-with-pad) (l .inv .0) left
+    run-form (run-stops _ _ (a .first) (l .size) (l .points) (l .i) (l .ends-with-pad) (l .inv .0) left)
 
 returns-2 : tie.Need-returns-2 Inv-loop μ-loop
 returns-2 c =
@@ -93,7 +93,7 @@ returns-2 c =
     let l = c .before .loop in
     let none-left : 4096 - l .points ≡ 0 = omega arith in
     let left = ap (λ (k : ℕ). take k (run (onward (a .catalog .now) (l .i)))) none-left in
-    run-stops _ _ (a .first) (l .size) (l .points) (l .i) (l .ends-with-pad) (l .inv .0) left
+    run-form (run-stops _ _ (a .first) (l .size) (l .points) (l .i) (l .ends-with-pad) (l .inv .0) left)
 
 pub run-extent-spec : {M : Type 1} → statement M
 run-extent-spec =

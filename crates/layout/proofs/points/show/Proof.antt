@@ -27,11 +27,9 @@ returns c =
     let p = pointForm (a .point) in
     let status = c .before .before .status-of .ensures
     ∙ ap (λ (x : Classified). statusOf p x (a .scale-register)) (classed .class-of .ensures) in
-    record {
-      status = status;
-      raw = c .before .raw-value .ensures .0;
-      scale = c .scale-of .ensures ∙ ap (λ (s : ℕ). scaleOf p s (a .scale-register)) status;
-    }
+    let raw = c .before .raw-value .ensures .0 in
+    let scale = c .scale-of .ensures ∙ ap (λ (s : ℕ). scaleOf p s (a .scale-register)) status in
+    λ k. record { status = status k; raw = raw k; scale = scale k }
 
 pub show-spec : {M : Type 1} → statement M
 show-spec =
