@@ -9,7 +9,7 @@ use Rattle.layout.specs.Walks.{heldAt, scopeIn}
 use Rattle.layout.specs.Locating.{Located, orElse, locatedIn}
 use Rattle.layout.specs.Answers as Layout
 use Rattle.layout.proofs.Standing as standing
-use Rattle.layout.proofs.RunSteps.{run-whole}
+use Rattle.layout.proofs.RunSteps.{run-whole, run-parts}
 use Rattle.listing.specs.Answers.{locatedForm}
 use Rattle.listing.specs.Promises.{RunOf, LocateAsks}
 use Rattle.listing.proofs.locating.locate_model.Statement.{statement}
@@ -45,8 +45,8 @@ top-run : (c : tie.After-run-extent) → RunOf (c .before .before .before .befor
 top-run c =
     let s = c .before .before .before .before .before .before in
     let a = s .args in
-    subst (λ ps. Layout.RunOf ps (a .first) (c .run-extent .result))
-    (run-whole (a .catalog .now) (a .first) (s .pre .0 .stands) (s .pre .0 .groups .standing .few)) (c .run-extent .ensures)
+    let whole = run-whole (a .catalog .now) (a .first) (s .pre .0 .stands) (s .pre .0 .groups .standing .few) in
+    run-parts _ (a .first) (c .run-extent .result) (c .run-extent .ensures ∙ ap (λ ps. Layout.runOf ps (a .first)) whole)
 
 locate-groups-requires : tie.Need-locate-groups-requires
 locate-groups-requires c κs =

@@ -1,12 +1,12 @@
 -- `listing::locating::shape_of` meets its contract: the shape by the extents of the group's points and of the groups in it.
-use mathlib.Core.Path.{sym, subst}
+use mathlib.Core.Path.{sym, ap, subst, _∙_}
 use Prim.Native.Nat.{_+_, _-_}
 use native.Mathlib.Omega.{arith}
 use borrow.Author.Needs.{needs}
 use Rattle.layout.specs.Walks.{AtGroups}
 use Rattle.layout.specs.Answers as Layout
 use Rattle.layout.proofs.Standing as standing
-use Rattle.layout.proofs.RunSteps.{run-whole}
+use Rattle.layout.proofs.RunSteps.{run-whole, run-parts}
 use Rattle.layout.proofs.IntoGroups as groups
 use Rattle.listing.specs.Promises.{RunOf}
 use Rattle.listing.proofs.ExtentWalks.{own-few}
@@ -30,8 +30,9 @@ own-run c =
     let a = s .args in
     let at = s .pre .0 in
     let stands = standing.group-next (a .catalog .now) (a .frame) (at .stands) (at .noPoint) _ (s .pre .1 .1) .1 in
-    subst (λ ps. Layout.RunOf ps (a .frame + 1) (c .run-extent .result))
-    (run-whole (a .catalog .now) (a .frame + 1) stands (at .few)) (c .run-extent .ensures)
+    let whole = run-whole (a .catalog .now) (a .frame + 1) stands (at .few) in
+    run-parts _ (a .frame + 1) (c .run-extent .result)
+    (c .run-extent .ensures ∙ ap (λ ps. Layout.runOf ps (a .frame + 1)) whole)
 
 sub-groups-extent : tie.Need-sub-groups-extent
 sub-groups-extent c =
