@@ -75,21 +75,24 @@ module _ (all left : List Point) (first size points i : ℕ) (before : Bool) (r 
       }
 
 -- In a catalog of up to 4,096 frames, where a group is open, the run is the points that it still holds.
-pub run-whole : (ws : List ℕ) (i : ℕ) → Stands ws i → length ws / 8 ≤ 4096
+run-whole : (ws : List ℕ) (i : ℕ) → Stands ws i → length ws / 8 ≤ 4096
     → take 4096 (run (onward ws i)) ≡ heldAt ws i .points
 run-whole ws i s few =
     let w = past-end-within ws i s in
     ap (take 4096) (run-held ws i s) ∙ take-all 4096 (heldAt ws i .points) (omega arith)
 
--- A run as one equation, and part by part.
+-- A run as one equation.
 pub run-form : {ps : List Point} {first : ℕ} {r : Run} → RunOf ps first r → runForm r ≡ runOf ps first
 run-form x = λ k. record { size = x .size k; points = x .points k; next = x .next k; pad = x .pad k }
 
-pub run-parts : (ps : List Point) (first : ℕ) (r : Run) → runForm r ≡ runOf ps first → RunOf ps first r
-run-parts ps first r e =
+-- Of a definition's frames, the run that `run_extent` finds is the points of the group there.
+pub held-run : (ws : List ℕ) (first : ℕ) → Stands ws first → length ws / 8 ≤ 4096 → (r : Run)
+    → runForm r ≡ runOf (take 4096 (run (onward ws first))) first → RunOf (heldAt ws first .points) first r
+held-run ws first s few r e =
+    let same = e ∙ ap (λ ps. runOf ps first) (run-whole ws first s few) in
     record {
-      size = ap (λ (x : PointRun). x .size) e;
-      points = ap (λ (x : PointRun). x .points) e;
-      next = ap (λ (x : PointRun). x .next) e;
-      pad = ap (λ (x : PointRun). x .pad) e;
+      size = ap (λ (x : PointRun). x .size) same;
+      points = ap (λ (x : PointRun). x .points) same;
+      next = ap (λ (x : PointRun). x .next) same;
+      pad = ap (λ (x : PointRun). x .pad) same;
     }

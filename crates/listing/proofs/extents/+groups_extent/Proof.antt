@@ -4,9 +4,8 @@ use Prim.Native.Nat.{ℕ, _+_, _-_, _/_, _<_}
 use native.Mathlib.Omega.{arith}
 use lib.ListN.{length}
 use Rattle.layout.specs.Walks.{heldAt, scopeIn, AtGroups}
-use Rattle.layout.specs.Answers as Layout
 use Rattle.layout.proofs.Standing as standing
-use Rattle.layout.proofs.RunSteps.{run-whole, run-parts}
+use Rattle.layout.proofs.RunSteps.{held-run}
 use Rattle.layout.proofs.IntoGroups as groups
 use Rattle.layout.specs.Answers.{groupOrForm}
 use Rattle.listing.specs.Promises.{RunOf}
@@ -89,8 +88,7 @@ module _ (t : ℕ) where
       let group = c .before .before .before .before .group-at .ensures in
       let found = sym group ∙ ap groupOrForm (c .before .before .next .given .1) in
       let within = standing.group-next ws (l .sum .next) (at .stands) (at .noPoint) _ found .1 in
-      run-parts _ (l .sum .next + 1) (c .run-extent .result)
-      (c .run-extent .ensures ∙ ap (λ ps. Layout.runOf ps (l .sum .next + 1)) (run-whole ws (l .sum .next + 1) within (at .few)))
+      held-run ws (l .sum .next + 1) within (at .few) (c .run-extent .result) (c .run-extent .ensures)
 
   sub-groups-extent : lts.Need-sub-groups-extent (known t) (asked t) reads.Post Inv-loop μ-loop
   sub-groups-extent c =

@@ -7,9 +7,8 @@ use Rattle.catalog.specs.Definitions.{Groups, pointsSize}
 use Rattle.layout.specs.Layout.{countOf}
 use Rattle.layout.specs.Walks.{heldAt, scopeIn}
 use Rattle.layout.specs.Locating.{Located, orElse, locatedIn}
-use Rattle.layout.specs.Answers as Layout
 use Rattle.layout.proofs.Standing as standing
-use Rattle.layout.proofs.RunSteps.{run-whole, run-parts}
+use Rattle.layout.proofs.RunSteps.{held-run}
 use Rattle.listing.specs.Answers.{locatedForm}
 use Rattle.listing.specs.Promises.{RunOf, LocateAsks}
 use Rattle.listing.proofs.locating.locate_model.Statement.{statement}
@@ -41,12 +40,13 @@ run-extent-requires : tie.Need-run-extent-requires
 run-extent-requires c κs = search needs
 
 -- The run is the top points.
-top-run : (c : tie.After-run-extent) → RunOf (c .before .before .before .before .before .before .args .catalog .now) (c .before .before .before .before .before .before .args .first) (c .run-extent .result)
+top-run : (c : tie.After-run-extent) → RunOf (c .before .before .before .before .before .before .args .catalog .now)
+    (c .before .before .before .before .before .before .args .first) (c .run-extent .result)
 top-run c =
     let s = c .before .before .before .before .before .before in
     let a = s .args in
-    let whole = run-whole (a .catalog .now) (a .first) (s .pre .0 .stands) (s .pre .0 .groups .standing .few) in
-    run-parts _ (a .first) (c .run-extent .result) (c .run-extent .ensures ∙ ap (λ ps. Layout.runOf ps (a .first)) whole)
+    held-run (a .catalog .now) (a .first) (s .pre .0 .stands) (s .pre .0 .groups .standing .few) (c .run-extent .result)
+    (c .run-extent .ensures)
 
 locate-groups-requires : tie.Need-locate-groups-requires
 locate-groups-requires c κs =

@@ -1,12 +1,11 @@
 -- `listing::locating::shape_of` meets its contract: the shape by the extents of the group's points and of the groups in it.
-use mathlib.Core.Path.{sym, ap, subst, _∙_}
+use mathlib.Core.Path.{sym, subst}
 use Prim.Native.Nat.{_+_, _-_}
 use native.Mathlib.Omega.{arith}
 use borrow.Author.Needs.{needs}
 use Rattle.layout.specs.Walks.{AtGroups}
-use Rattle.layout.specs.Answers as Layout
 use Rattle.layout.proofs.Standing as standing
-use Rattle.layout.proofs.RunSteps.{run-whole, run-parts}
+use Rattle.layout.proofs.RunSteps.{held-run}
 use Rattle.layout.proofs.IntoGroups as groups
 use Rattle.listing.specs.Promises.{RunOf}
 use Rattle.listing.proofs.ExtentWalks.{own-few}
@@ -24,15 +23,14 @@ run-extent-requires : tie.Need-run-extent-requires
 run-extent-requires c κs = search needs
 
 -- The run is the points of the group.
-own-run : (c : tie.After-run-extent) → RunOf (c .before .before .before .args .catalog .now) (c .before .before .before .args .frame + 1) (c .run-extent .result)
+own-run : (c : tie.After-run-extent)
+    → RunOf (c .before .before .before .args .catalog .now) (c .before .before .before .args .frame + 1) (c .run-extent .result)
 own-run c =
     let s = c .before .before .before in
     let a = s .args in
     let at = s .pre .0 in
     let stands = standing.group-next (a .catalog .now) (a .frame) (at .stands) (at .noPoint) _ (s .pre .1 .1) .1 in
-    let whole = run-whole (a .catalog .now) (a .frame + 1) stands (at .few) in
-    run-parts _ (a .frame + 1) (c .run-extent .result)
-    (c .run-extent .ensures ∙ ap (λ ps. Layout.runOf ps (a .frame + 1)) whole)
+    held-run (a .catalog .now) (a .frame + 1) stands (at .few) (c .run-extent .result) (c .run-extent .ensures)
 
 sub-groups-extent : tie.Need-sub-groups-extent
 sub-groups-extent c =

@@ -1,14 +1,13 @@
 -- `listing::surveys::survey_known` meets its contract: what the definition says, by the frames and the table.
-use mathlib.Core.Path.{_≡_, ap, sym, _∙_}
+use mathlib.Core.Path.{_≡_, sym, _∙_}
 use Prim.Native.Nat.{ℕ, _≤_, _<_}
 use native.Mathlib.Omega.{arith}
 use lib.ListN.{length, getD}
 use Rattle.catalog.specs.Rules.{run}
 use Rattle.catalog.specs.Definitions.{pointsSize}
 use Rattle.layout.specs.Walks.{onward, heldAt, noted, begun, begunAt}
-use Rattle.layout.specs.Answers as Layout
 use Rattle.layout.proofs.FrameRuns.{held-noted}
-use Rattle.layout.proofs.RunSteps.{run-whole, run-parts}
+use Rattle.layout.proofs.RunSteps.{held-run}
 use Rattle.layout.proofs.AcceptedModels.{accepted-few}
 use Rattle.listing.specs.Promises.{RunOf}
 use Rattle.listing.proofs.SurveyedModels as models
@@ -26,8 +25,8 @@ top-run : (c : tie.After-run-extent) → RunOf (c .before .before .before .befor
 top-run c =
     let b = c .before .before .before .before in
     let a = b .args in
-    let whole = run-whole (a .catalog .now) (a .first) (b .pre .1 .1 .0) (accepted-few (a .catalog .now) (b .pre .0)) in
-    run-parts _ (a .first) (c .run-extent .result) (c .run-extent .ensures ∙ ap (λ ps. Layout.runOf ps (a .first)) whole)
+    held-run (a .catalog .now) (a .first) (b .pre .1 .1 .0) (accepted-few (a .catalog .now) (b .pre .0)) (c .run-extent .result)
+    (c .run-extent .ensures)
 
 is-pad-left-out-requires : tie.Need-is-pad-left-out-requires
 is-pad-left-out-requires c κs = let b = c .before .before .before .before in ((b .pre .1 .1 .0, top-run c), b .pre .1 .0 .1)
