@@ -26,9 +26,7 @@ below (negsuc n) f t = record { number = suc n - 1; small = omega arith; is = si
 
 not-below : (z : ℤ) → SFits w64 z → ltZ z (pos 0) ≡ false → T (nonNeg z) × Fits w64 (natAbs z)
 not-below (pos n) f t = (tt, record { fits = omega arith })
-not-below (negsuc n) f t =
-    let z : _≡_ {A = ℕ} 0 1 = cc in
-    absurd (omega arith)
+not-below (negsuc n) f t = let z : _≡_ {A = ℕ} 0 1 = cc in absurd (omega arith)
 
 sub-counted : tie.Need-sub-counted
 sub-counted c =
