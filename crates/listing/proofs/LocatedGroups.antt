@@ -48,15 +48,8 @@ module _ (ws table : List ℕ) (fill levels frame : ℕ) (at : AtGroups ws frame
   abbrev inside : Groups
   inside = heldAt ws (frame + 1) .groups
 
-  abbrev behind : Groups
-  behind = heldAt ws (pastEnd ws (frame + 1)) .groups
-
   abbrev counting : Head → ℕ
   counting = countOf (scopeIn table) fill
-
-  -- The registers of an instance.
-  abbrev size : ℕ
-  size = pointsSize own + groupsSize counting inside
 
   -- The groups in the group are below the level of a fill group, so its count does not matter for their size.
   inside-size : groupsSize (countOf (scopeIn table) 0) inside ≡ groupsSize counting inside
