@@ -1,12 +1,9 @@
 -- The claims
 pub mod TwelveCases
-pub mod PartOrFallback
 pub mod Exactness
 pub mod LeadingDigit
 pub mod Equivalence
 -- Laws of the definitions, and what the proofs of the functions cite
-pub mod TextPart
-pub mod SetPositions
 pub mod PowersOfTen
 pub mod DigitCount
 pub mod DigitTexts

@@ -4,11 +4,9 @@ use Prim.Native.Nat.{ℕ, _-_, _≤_}
 use lib.IntN.{ℤ}
 use lib.ListN.{length, replicate}
 use Rattle.values.specs.Classes.{twosComplement}
-use Rattle.display.specs.Events as Events
 use Rattle.display.specs.Amounts as Amounts
 use Rattle.display.specs.Decimals as Decimals
 use Rattle.display.specs.Equality as Equality
-use Rattle.display.specs.declared.EventBits.{EventBits}
 use Rattle.display.specs.declared.DecimalText.{DecimalText}
 use Rattle.display.specs.declared.Digits.{Digits}
 use Rattle.display.specs.declared.Equality as declared
@@ -21,11 +19,6 @@ scaleFactor register = twosComplement 16 register
 -- The amount of a quantity, or its refusal.
 abbrev pub quantityAmount : Quantity → Amounts.Amount
 quantityAmount q = Amounts.amountOf (q .«type_code») (q .raw) (scaleFactor (q .scale))
-
--- The answer of `event_bits`.
-abbrev pub eventAnswer : EventBits → Events.EventBits
-eventAnswer (EventBits.Of count lowest) = Events.bits count lowest
-eventAnswer (EventBits.Refused n) = Events.refused n
 
 -- What `decimal` is asked for: its scale is a register, and the room is the buffer's.
 abbrev pub decimalInto : ℕ → ℕ → ℕ → List ℕ → Decimals.Decimal

@@ -1,5 +1,3 @@
-pub mod Text
-pub mod Events
 pub mod Amounts
 pub mod Decimals
 pub mod Reading

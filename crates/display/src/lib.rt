@@ -1,24 +1,13 @@
-// What a screen shows of a SunSpec point: the text of a string, the bits of an event field, an exact
-// decimal number, and whether two quantities are the same amount. Every public call takes any arguments
-// and carries an equation with the definitions of specs/.
+// What a screen shows of a number: its exact decimal text, and whether two quantities are the same amount.
+// Every public call takes any arguments and carries an equation with the definitions of specs/.
 mod comparison;
 mod decimals;
-mod events;
 mod powers;
 mod quantities;
-mod strings;
 
 pub use comparison::equal_quantities;
 pub use decimals::decimal;
 pub use decimals::digits_of;
-pub use events::event_bits;
-pub use strings::text;
-
-// The number of bits that are set and the lowest set position, 64 if none. Refused: 41, 42.
-pub enum EventBits {
-    Of { count: u32, lowest: u32 },
-    Refused { number: u16 },
-}
 
 // The length of the text that was written. Refused: 43 to 46.
 pub enum DecimalText {

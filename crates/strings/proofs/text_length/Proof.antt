@@ -4,10 +4,10 @@ use Prim.Native.Nat.{_+_, _-_, _≤_}
 use native.Mathlib.Omega.{arith}
 use borrow.Author.Needs.{needs}
 use lib.ListN.{length, drop}
-use Rattle.display.specs.Text.{untilZeroByte}
-use Rattle.display.proofs.TextPart.{text-stops, text-ends, text-on, text-end}
-use Rattle.display.proofs.strings.text_length.Statement.{statement}
-use Rattle.display.proofs.strings.text_length.Tie as tie
+use Rattle.strings.specs.Text.{untilZeroByte}
+use Rattle.strings.proofs.TextPart.{text-stops, text-ends, text-on, text-end}
+use Rattle.strings.proofs.text_length.Statement.{statement}
+use Rattle.strings.proofs.text_length.Tie as tie
 
 abbrev Inv-loop : tie.InvT-loop
 Inv-loop string i₀ i = (i ≤ length string) × (i + length (untilZeroByte (drop i string)) ≡ length (untilZeroByte string))

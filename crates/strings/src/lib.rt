@@ -3,7 +3,7 @@ use registers::all_zero;
 use registers::part;
 ghost use mathlib.Core.Path.{_≡_};
 ghost use lib.ListN.{length};
-ghost use Rattle.display.specs.Text.{hasString, untilZeroByte, textAt};
+ghost use Rattle.strings.specs.Text.{hasString, untilZeroByte, textAt};
 
 // The text of the `size` registers from `address` on, a part of the map; or the fallback where there is
 // no such string.

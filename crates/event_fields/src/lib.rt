@@ -1,8 +1,13 @@
 // The bits of an event field.
 ghost use mathlib.Core.Path.{_≡_};
-ghost use Rattle.display.specs.Events.{isBitfield, eventBits};
-ghost use Rattle.display.specs.Answers.{eventAnswer};
-use crate::EventBits;
+ghost use Rattle.event_fields.specs.Events.{isBitfield, eventBits};
+ghost use Rattle.event_fields.specs.Answers.{eventAnswer};
+
+// The number of bits that are set and the lowest set position, 64 if none. Refused: 41, 42.
+pub enum EventBits {
+    Of { count: u32, lowest: u32 },
+    Refused { number: u16 },
+}
 
 // The bits that are set in a bitfield's value.
 pub fn event_bits(type_code: u16, raw: u64) -> EventBits

@@ -12,7 +12,7 @@ use lib.ListN.{length, getD, take, drop, length-take, drop-of-length-le}
 use lib.Seq.{drop-cons}
 use Rattle.lists.proofs.TestOutcomes.{impossible}
 use Rattle.registers.specs.Registers.{allZero}
-use Rattle.display.specs.Text.{untilZeroByte, hasString, stringAt, textAt}
+use Rattle.strings.specs.Text.{untilZeroByte, hasString, stringAt, textAt}
 
 -- The text is the first registers, so many as it has.
 pub text-prefix : (rs : List ℕ) → untilZeroByte rs ≡ take (length (untilZeroByte rs)) rs

@@ -4,9 +4,9 @@ use Prim.Native.Nat.{ℕ}
 use borrow.Author.Needs.{needs}
 use borrow.Author.Tests.{not-true, not-false}
 use lib.ListN.{take}
-use Rattle.display.proofs.TextPart.{no-string, string-of-zeros, string-shown, text-prefix}
-use Rattle.display.proofs.strings.text.Statement.{statement}
-use Rattle.display.proofs.strings.text.Tie as tie
+use Rattle.strings.proofs.TextPart.{no-string, string-of-zeros, string-shown, text-prefix}
+use Rattle.strings.proofs.text.Statement.{statement}
+use Rattle.strings.proofs.text.Tie as tie
 
 returns : tie.Need-returns
 returns c =

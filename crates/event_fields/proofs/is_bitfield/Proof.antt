@@ -1,7 +1,7 @@
 -- `is_bitfield` tries both codes.
 use borrow.Author.Tests.{eq-eqb, ne-eqb}
-use Rattle.display.proofs.events.is_bitfield.Statement.{statement}
-use Rattle.display.proofs.events.is_bitfield.Tie as tie
+use Rattle.event_fields.proofs.is_bitfield.Statement.{statement}
+use Rattle.event_fields.proofs.is_bitfield.Tie as tie
 
 pub is-bitfield-spec : {M : Type 1} → statement M
 is-bitfield-spec =

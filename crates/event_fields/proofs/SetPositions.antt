@@ -8,7 +8,7 @@ use native.Mathlib.Omega.{arith}
 use lib.Dec.{eqb}
 use lib.Count.{ones, onesIn, trailingZeros, ones-step, under}
 use lib.ListN.{length}
-use Rattle.display.specs.Events.{isSet, setAmong, firstOr}
+use Rattle.event_fields.specs.Events.{isSet, setAmong, firstOr}
 
 -- Position p of the half is position p + 1.
 half-at : (n p : ℕ) → n / 2 / 2 ^ p ≡ n / 2 ^ suc p

@@ -3,9 +3,9 @@ use mathlib.Core.Bool.{and-false}
 use Prim.Native.Nat.{_+_}
 use native.Mathlib.Omega.{arith}
 use borrow.Author.Tests.{le-leb, lt-leb}
-use Rattle.display.proofs.TextPart.{string-end}
-use Rattle.display.proofs.strings.has_string.Statement.{statement}
-use Rattle.display.proofs.strings.has_string.Tie as tie
+use Rattle.strings.proofs.TextPart.{string-end}
+use Rattle.strings.proofs.has_string.Statement.{statement}
+use Rattle.strings.proofs.has_string.Tie as tie
 
 returns-3 : tie.Need-returns-3
 returns-3 c =

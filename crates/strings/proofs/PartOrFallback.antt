@@ -8,8 +8,8 @@ use native.Mathlib.Omega.{arith}
 use lib.ListN.{length, take, drop, length-take}
 use lib.Seq.{take-take}
 use Rattle.registers.specs.Registers.{allZero}
-use Rattle.display.specs.Text.{untilZeroByte, hasString, stringAt, textAt}
-use Rattle.display.proofs.TextPart.{text-prefix, text-shorter, no-string, string-of-zeros, string-shown, string-lies}
+use Rattle.strings.specs.Text.{untilZeroByte, hasString, stringAt, textAt}
+use Rattle.strings.proofs.TextPart.{text-prefix, text-shorter, no-string, string-of-zeros, string-shown, string-lies}
 
 -- So many registers, at most the string's, from the address on.
 pub record PartOf (map : List ℕ) (address size : ℕ) (part : List ℕ) : Type 0 where

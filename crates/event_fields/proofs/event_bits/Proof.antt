@@ -6,10 +6,10 @@ use borrow.Author.Needs.{needs}
 use borrow.Author.Tests.{not-true, not-false}
 use lib.Count.{trailingZeros}
 use lib.ListN.{length}
-use Rattle.display.specs.Events.{setPositions, bits, eventBits}
-use Rattle.display.proofs.SetPositions.{count-of-ones, lowest-position}
-use Rattle.display.proofs.events.event_bits.Statement.{statement}
-use Rattle.display.proofs.events.event_bits.Tie as tie
+use Rattle.event_fields.specs.Events.{setPositions, bits, eventBits}
+use Rattle.event_fields.proofs.SetPositions.{count-of-ones, lowest-position}
+use Rattle.event_fields.proofs.event_bits.Statement.{statement}
+use Rattle.event_fields.proofs.event_bits.Tie as tie
 
 returns : tie.Need-returns
 unfolding eventBits

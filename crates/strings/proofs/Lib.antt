@@ -1,0 +1,4 @@
+-- The claim
+pub mod PartOrFallback
+-- Laws of the definitions
+pub mod TextPart
