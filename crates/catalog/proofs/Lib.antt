@@ -1,25 +1,7 @@
--- The claims
-pub mod AcceptedIsSound
-pub mod SoundIsAccepted
-pub mod ModelFrames
-pub mod ModelIds
-pub mod References
-pub mod GroupSizes
-pub mod FillGroups
-pub mod Removal
-pub mod DefinitionsBack
+-- The claim
 pub mod ClauseByClause
 -- Laws of the definitions
 pub mod FrameWords
-pub mod TreeFrames
-pub mod NewNumbers
-pub mod AcceptedSteps
-pub mod AcceptedFrames
-pub mod SoundFrames
-pub mod NumberedModels
-pub mod SoundModels
-pub mod EveryGroup
-pub mod GroupNumbers
 -- What the proofs of the functions cite
 pub mod FrameKinds
 pub mod FramesByIndex

@@ -2,9 +2,6 @@ pub mod Frames
 pub mod State
 pub mod Rules
 pub mod Checking
-pub mod Definitions
-pub mod Soundness
-pub mod Removal
 pub mod Answers
 pub mod Scans
 pub mod Tracking

@@ -9,10 +9,10 @@ use lib.Dec.{eqb}
 use lib.ListN.{length}
 use Rattle.lists.specs.Each.{Each}
 use Rattle.lists.proofs.TestOutcomes.{impossible}
-use Rattle.catalog.specs.Definitions.{Content, Definition, definitions}
-use Rattle.catalog.specs.Soundness.{SoundPoint, SoundGroups, SoundDefinition}
-use Rattle.catalog.proofs.AcceptedSteps.{accepted-start}
-use Rattle.catalog.proofs.AcceptedIsSound.{accepted-is-sound}
+use Rattle.model_definitions.specs.Definitions.{Content, Definition, definitions}
+use Rattle.model_definitions.specs.Soundness.{SoundPoint, SoundGroups, SoundDefinition}
+use Rattle.model_definitions.proofs.AcceptedSteps.{accepted-start}
+use Rattle.model_definitions.proofs.AcceptedIsSound.{accepted-is-sound}
 use Rattle.register_map.specs.Scan.{Model}
 use Rattle.layout.specs.Reading.{unknown, readBy, reading, topOf}
 use Rattle.layout.specs.Walks.{Accepted}

@@ -10,9 +10,9 @@ use Rattle.lists.specs.Members.{In}
 use Rattle.lists.proofs.EachLaws.{each-parts}
 use Rattle.lists.proofs.InLaws.{all-in}
 use Rattle.catalog.specs.Frames.{Point, Head}
-use Rattle.catalog.specs.Definitions.{Groups, Definition, pointsSize}
-use Rattle.catalog.specs.Soundness.{SoundDefinition}
-use Rattle.catalog.proofs.GroupSizes.{point-size}
+use Rattle.model_definitions.specs.Definitions.{Groups, Definition, pointsSize}
+use Rattle.model_definitions.specs.Soundness.{SoundDefinition}
+use Rattle.model_definitions.proofs.GroupSizes.{point-size}
 use Rattle.layout.specs.Points.{ModelPoint, Instance, pointAt}
 use Rattle.layout.specs.Layout.{groupsSize, countsOf, topInstance, pointsAt, Entering, groupsBy, groupsAt, entered, contentAt}
 use Rattle.layout.specs.Reading.{points, allButLast, readBy}

@@ -8,9 +8,9 @@ use borrow.Author.Tests.{eqb-true}
 use lib.Dec.{eqb}
 use Rattle.lists.specs.Members.{In}
 use Rattle.catalog.specs.Frames.{Point, Head, constantCount, countByPoint, fill}
-use Rattle.catalog.specs.Definitions.{Groups, noGroup, group}
-use Rattle.catalog.specs.Soundness.{SoundHead, SoundGroups}
-use Rattle.catalog.proofs.References.{count-point-found}
+use Rattle.model_definitions.specs.Definitions.{Groups, noGroup, group}
+use Rattle.model_definitions.specs.Soundness.{SoundHead, SoundGroups}
+use Rattle.model_definitions.proofs.References.{count-point-found}
 use Rattle.layout.specs.Points.{Scope}
 use Rattle.layout.specs.Layout.{countOf, measured, fillMeasured, countUnimplemented}
 

@@ -11,9 +11,9 @@ use lib.Seq.{getD-set-other}
 use Rattle.lists.specs.Members.{among, Distinct}
 use Rattle.lists.proofs.TestOutcomes.{clash, both}
 use Rattle.catalog.specs.Frames.{Point, Head}
-use Rattle.catalog.specs.Definitions.{Groups, noGroup, group, pointFrames, groupFrames}
-use Rattle.catalog.specs.Soundness.{numbersOf}
-use Rattle.catalog.proofs.GroupNumbers.{Apart, apart, NoneOf, none-of-parts}
+use Rattle.model_definitions.specs.Definitions.{Groups, noGroup, group, pointFrames, groupFrames}
+use Rattle.model_definitions.specs.Soundness.{numbersOf}
+use Rattle.model_definitions.proofs.GroupNumbers.{Apart, apart, NoneOf, none-of-parts}
 use Rattle.layout.specs.Paths.{depthIn, agreeTo}
 
 -- ---- Paths

@@ -9,9 +9,9 @@ use lib.ListN.{length}
 use Rattle.lists.specs.Members.{among, Distinct, In}
 use Rattle.lists.proofs.InLaws.{in-behind, in-either}
 use Rattle.catalog.specs.Frames.{Point, Head, frameIn}
-use Rattle.catalog.specs.Definitions.{Groups, noGroup, group, Definition, groupFrames, definitions}
-use Rattle.catalog.specs.Soundness.{numbersOf, SoundGroups, SoundDefinition}
-use Rattle.catalog.proofs.GroupNumbers.{point-among, apart, none-of-parts}
+use Rattle.model_definitions.specs.Definitions.{Groups, noGroup, group, Definition, groupFrames, definitions}
+use Rattle.model_definitions.specs.Soundness.{numbersOf, SoundGroups, SoundDefinition}
+use Rattle.model_definitions.proofs.GroupNumbers.{point-among, apart, none-of-parts}
 use Rattle.layout.specs.Reading.{topOf}
 use Rattle.layout.specs.Walks.{heldAt, Stands, pastEnd, Accepted, headOf, levelOf, SoundAt, AtGroups}
 use Rattle.layout.proofs.Standing as standing

@@ -13,9 +13,9 @@ use Rattle.lists.proofs.TestOutcomes.{clash, both}
 use Rattle.point_types.specs.Rows.{rows, rowAmong, registersOf}
 use Rattle.catalog.specs.Frames.{Point, Head, frameIn, pad}
 use Rattle.catalog.specs.Rules.{isSizeOf}
-use Rattle.catalog.specs.Definitions.{Groups, noGroup, group, Content, pointsSize}
-use Rattle.catalog.specs.Soundness.{SoundPoint}
-use Rattle.catalog.proofs.GroupSizes.{point-size}
+use Rattle.model_definitions.specs.Definitions.{Groups, noGroup, group, Content, pointsSize}
+use Rattle.model_definitions.specs.Soundness.{SoundPoint}
+use Rattle.model_definitions.proofs.GroupSizes.{point-size}
 use Rattle.layout.specs.Layout.{fillMeasured, fillOf}
 use Rattle.layout.specs.Reading.{endsWithPad, allButLast, hasNoGroup, padLeftOut}
 use Rattle.layout.specs.Walks.{heldAt, Stands, headOf, begun}

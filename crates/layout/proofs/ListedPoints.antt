@@ -7,8 +7,8 @@ use Rattle.lists.specs.Each.{Each}
 use Rattle.lists.proofs.EachLaws.{each-implied, each-append, each-parts}
 use Rattle.catalog.specs.Frames.{Point, Head}
 use Rattle.catalog.specs.Rules.{isSizeOf}
-use Rattle.catalog.specs.Definitions.{Groups, noGroup, group, Definition, pointsSize}
-use Rattle.catalog.specs.Soundness.{SoundPoint, SoundGroups, SoundDefinition}
+use Rattle.model_definitions.specs.Definitions.{Groups, noGroup, group, Definition, pointsSize}
+use Rattle.model_definitions.specs.Soundness.{SoundPoint, SoundGroups, SoundDefinition}
 use Rattle.layout.specs.Points.{ModelPoint, Instance, pointAt}
 use Rattle.layout.specs.Layout.{countsOf, topInstance, pointsAt, Entering, groupsBy, groupsAt, entered, contentAt}
 use Rattle.layout.specs.Reading.{points, allButLast, readBy}

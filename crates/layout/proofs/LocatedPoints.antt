@@ -15,8 +15,8 @@ use lib.Seq.{getD-set-same, getD-set-other}
 use Rattle.lists.specs.Tests.{firstWith}
 use Rattle.registers.specs.Registers.{allZero}
 use Rattle.catalog.specs.Frames.{Point, Head}
-use Rattle.catalog.specs.Definitions.{Groups, noGroup, group, Content, pointsSize}
-use Rattle.catalog.specs.Soundness.{SoundGroups}
+use Rattle.model_definitions.specs.Definitions.{Groups, noGroup, group, Content, pointsSize}
+use Rattle.model_definitions.specs.Soundness.{SoundGroups}
 use Rattle.layout.specs.Points.{ModelPoint, Instance, pointAt}
 use Rattle.layout.specs.Layout.{groupsSize, countsOf, pointsAt, instances, entered, groupsBy, groupsAt, noInstance, topInstance, contentAt}
 use Rattle.layout.specs.Paths.{isPoint}

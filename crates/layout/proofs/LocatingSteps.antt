@@ -6,7 +6,7 @@ use Prim.Native.Nat.{ℕ, suc, _+_, _*_, _-_, _≤_, _<_}
 use borrow.Author.Tests.{eq-eqb, ne-eqb, lt-ltb, le-ltb}
 use lib.ListN.{getD}
 use Rattle.catalog.specs.Frames.{Point, Head}
-use Rattle.catalog.specs.Definitions.{Groups, noGroup, group, pointsSize}
+use Rattle.model_definitions.specs.Definitions.{Groups, noGroup, group, pointsSize}
 use Rattle.layout.specs.Layout.{groupsSize}
 use Rattle.layout.specs.Locating.{Located, orElse, locatedAmong, locatedOwn, locatedIn}
 use Rattle.layout.specs.Walks.{begun}

@@ -9,10 +9,10 @@ use native.Mathlib.Omega.{arith}
 use lib.ListN.{length}
 use Rattle.lists.proofs.TestOutcomes.{clash}
 use Rattle.catalog.specs.Frames.{Frame, modelFrame, groupFrame, pointFrame, endFrame, malformed, frameIn}
-use Rattle.catalog.specs.Definitions.{Content, Definition, catalogFrames, parsed, inner, definitions}
+use Rattle.model_definitions.specs.Definitions.{Content, Definition, catalogFrames, parsed, inner, definitions}
 use Rattle.catalog.proofs.FramesByIndex.{frame-beyond}
-use Rattle.catalog.proofs.TreeFrames.{definition-frames}
-use Rattle.catalog.proofs.ModelFrames.{restFrames, frames-of-definitions}
+use Rattle.model_definitions.proofs.TreeFrames.{definition-frames}
+use Rattle.model_definitions.proofs.ModelFrames.{restFrames, frames-of-definitions}
 use Rattle.layout.specs.Reading.{topOf}
 use Rattle.layout.specs.Walks.{onward, heldAt, Stands, Accepted, isModelOf}
 use Rattle.layout.proofs.Standing.{length-onward, onward-more, onward-none, first-frame, placed}

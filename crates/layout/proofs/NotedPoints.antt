@@ -14,8 +14,8 @@ use Rattle.lists.proofs.EachLaws.{each-drop}
 use Rattle.registers.specs.Registers.{allZero}
 use Rattle.catalog.specs.Frames.{Point, Frame, modelFrame, groupFrame, pointFrame, endFrame, malformed, frameOf, word, frameAt, framesFrom, frames}
 use Rattle.catalog.specs.Rules.{isSizeOf}
-use Rattle.catalog.specs.Definitions.{pointsSize, pointFrames, groupFrames}
-use Rattle.catalog.proofs.GroupSizes.{type-size}
+use Rattle.model_definitions.specs.Definitions.{pointsSize, pointFrames, groupFrames}
+use Rattle.model_definitions.proofs.GroupSizes.{type-size}
 use Rattle.layout.specs.Points.{Scope}
 use Rattle.layout.specs.Layout.{withPoint, within, pointsAt}
 use Rattle.layout.specs.Walks.{heldAt, Stands, scopeIn, instanceIn, noted, begun, IsTable}

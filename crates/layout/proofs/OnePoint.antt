@@ -6,9 +6,9 @@ use borrow.Author.Tests.{eq-eqb}
 use Rattle.lists.specs.Members.{among, Distinct, In, first, later}
 use Rattle.lists.proofs.TestOutcomes.{clash}
 use Rattle.catalog.specs.Frames.{Point, Frame, modelFrame, groupFrame, pointFrame, endFrame, malformed}
-use Rattle.catalog.specs.Definitions.{Groups, noGroup, group, Definition, pointFrames, groupFrames, definitionFrames}
-use Rattle.catalog.specs.Soundness.{SoundDefinition, numbersOf}
-use Rattle.catalog.proofs.GroupNumbers.{among-later}
+use Rattle.model_definitions.specs.Definitions.{Groups, noGroup, group, Definition, pointFrames, groupFrames, definitionFrames}
+use Rattle.model_definitions.specs.Soundness.{SoundDefinition, numbersOf}
+use Rattle.model_definitions.proofs.GroupNumbers.{among-later}
 use Rattle.layout.specs.Tiling.{lowerPoints, definedPoints}
 
 -- The points of frames.

@@ -6,8 +6,8 @@ use Prim.Native.Nat.{ℕ, zero, suc, _+_, _-_, _/_, _≤_, _<_}
 use native.Mathlib.Omega.{arith}
 use lib.ListN.{length, length-append}
 use Rattle.catalog.specs.Frames.{Point, Frame, modelFrame, groupFrame, pointFrame, endFrame, malformed, frameIn}
-use Rattle.catalog.specs.Definitions.{Groups, noGroup, group, Content, pointFrames, groupFrames}
-use Rattle.catalog.proofs.ModelFrames.{restFrames}
+use Rattle.model_definitions.specs.Definitions.{Groups, noGroup, group, Content, pointFrames, groupFrames}
+use Rattle.model_definitions.proofs.ModelFrames.{restFrames}
 use Rattle.layout.specs.Walks.{onward, heldAt, Stands, pastEnd, openBehind, framesToEnd, framesOfGroup, isModelOf}
 use Rattle.layout.proofs.Standing.{length-onward, onward-more, onward-none, stands-within, at-point, at-group, at-end, rest-there, rest-within}
 

@@ -3,7 +3,7 @@ use mathlib.Core.Path.{_≡_}
 use mathlib.Core.Bool.{true}
 use mathlib.Core.Logic.{_⊎_}
 use Prim.Native.Nat.{_+_, _≤_}
-use Rattle.catalog.specs.Definitions.{Content}
+use Rattle.model_definitions.specs.Definitions.{Content}
 use Rattle.layout.specs.Points.{ModelPoint}
 use Rattle.layout.specs.Paths.{depthIn, agreeTo, pathOf}
 

@@ -15,9 +15,9 @@ use Rattle.lists.proofs.EachLaws.{each-implied, each-append}
 use Rattle.lists.proofs.InLaws.{in-front, in-behind}
 use Rattle.registers.specs.Registers.{shownRaw}
 use Rattle.catalog.specs.Frames.{Point, Head}
-use Rattle.catalog.specs.Definitions.{Groups, noGroup, group, pointsSize, pointFrames, groupFrames}
-use Rattle.catalog.specs.Soundness.{SoundGroups, numbersOf}
-use Rattle.catalog.proofs.GroupNumbers.{point-among, Apart, apart}
+use Rattle.model_definitions.specs.Definitions.{Groups, noGroup, group, pointsSize, pointFrames, groupFrames}
+use Rattle.model_definitions.specs.Soundness.{SoundGroups, numbersOf}
+use Rattle.model_definitions.proofs.GroupNumbers.{point-among, Apart, apart}
 use Rattle.layout.specs.Points.{ModelPoint, Instance, registersAt, pointAt}
 use Rattle.layout.specs.Layout.{groupsSize, pointsAt, instances, entered, groupsBy, groupsAt}
 use Rattle.layout.specs.Tiling.{lowerPoints}

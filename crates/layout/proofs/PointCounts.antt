@@ -6,8 +6,8 @@ use native.Mathlib.Nat.{suc-mul, mul-le-mul-left}
 use native.Mathlib.Omega.{arith}
 use lib.ListN.{length, length-append}
 use Rattle.catalog.specs.Frames.{Point, Head}
-use Rattle.catalog.specs.Definitions.{Groups, noGroup, group, Content, pointsSize}
-use Rattle.catalog.specs.Soundness.{SoundGroups}
+use Rattle.model_definitions.specs.Definitions.{Groups, noGroup, group, Content, pointsSize}
+use Rattle.model_definitions.specs.Soundness.{SoundGroups}
 use Rattle.layout.specs.Points.{ModelPoint, Instance}
 use Rattle.layout.specs.Layout.{measured, groupsSize, countsOf, topInstance, pointsAt, instances, Entering, groupsBy, groupsAt, entered, contentAt}
 use Rattle.layout.specs.Counts.{groupsPoints}

@@ -14,9 +14,9 @@ use Rattle.lists.proofs.TestLaws.{neither}
 use Rattle.lists.proofs.EachLaws.{each-implied, each-append, each-one, each-any}
 use Rattle.lists.proofs.InLaws.{in-front, in-behind, all-in}
 use Rattle.catalog.specs.Frames.{Point, Head}
-use Rattle.catalog.specs.Definitions.{noGroup, Content, Definition, pointsSize, pointFrames}
-use Rattle.catalog.specs.Soundness.{SoundDefinition, numbersOf}
-use Rattle.catalog.proofs.GroupNumbers.{point-among, Apart, apart}
+use Rattle.model_definitions.specs.Definitions.{noGroup, Content, Definition, pointsSize, pointFrames}
+use Rattle.model_definitions.specs.Soundness.{SoundDefinition, numbersOf}
+use Rattle.model_definitions.proofs.GroupNumbers.{point-among, Apart, apart}
 use Rattle.layout.specs.Points.{ModelPoint}
 use Rattle.layout.specs.Layout.{countsOf, noInstance, topInstance, pointsAt, groupsAt, contentAt}
 use Rattle.layout.specs.Reading.{points, allButLast, readBy}

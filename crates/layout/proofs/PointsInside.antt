@@ -9,9 +9,9 @@ use Rattle.lists.specs.Each.{Each}
 use Rattle.lists.proofs.TestOutcomes.{impossible, by-test}
 use Rattle.lists.proofs.EachLaws.{each-any}
 use Rattle.catalog.specs.Checking.{accepted, checked}
-use Rattle.catalog.specs.Definitions.{Definition, definitions}
-use Rattle.catalog.specs.Soundness.{SoundDefinition}
-use Rattle.catalog.proofs.AcceptedIsSound.{accepted-is-sound}
+use Rattle.model_definitions.specs.Definitions.{Definition, definitions}
+use Rattle.model_definitions.specs.Soundness.{SoundDefinition}
+use Rattle.model_definitions.proofs.AcceptedIsSound.{accepted-is-sound}
 use Rattle.register_map.specs.Scan.{Model}
 use Rattle.layout.specs.Points.{ModelPoint}
 use Rattle.layout.specs.Reading.{Reading, points, reading}

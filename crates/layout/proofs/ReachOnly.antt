@@ -14,10 +14,10 @@ use Rattle.lists.proofs.InLaws.{in-either}
 use Rattle.registers.specs.Registers.{join, shownRaw}
 use Rattle.values.specs.Classes.{value, unimplemented, outOfRange, Classified, ofClass, tooWide, unknownType, classified}
 use Rattle.catalog.specs.Frames.{Point, Head, fixedScale, scaleByPoint, sunssf}
-use Rattle.catalog.specs.Definitions.{Groups, noGroup, group, pointsSize, pointFrames}
-use Rattle.catalog.specs.Soundness.{numbersOf, SoundGroups, ScaleResolves}
-use Rattle.catalog.proofs.References.{points-resolve}
-use Rattle.catalog.proofs.GroupNumbers.{point-among}
+use Rattle.model_definitions.specs.Definitions.{Groups, noGroup, group, pointsSize, pointFrames}
+use Rattle.model_definitions.specs.Soundness.{numbersOf, SoundGroups, ScaleResolves}
+use Rattle.model_definitions.proofs.References.{points-resolve}
+use Rattle.model_definitions.proofs.GroupNumbers.{point-among}
 use Rattle.layout.specs.Points.{ModelPoint, Scope, Instance, statusOf, scaleOf, scaleStatus, registersAt, pointAt}
 use Rattle.layout.specs.Layout.{withPoint, within, countOf, groupsSize, pointsAt, entered, groupsBy, groupsAt}
 use Rattle.layout.proofs.CountsAgree.{count-agrees, measures-agree}

@@ -10,8 +10,8 @@ use lib.ListN.{length}
 use Rattle.lists.specs.Members.{In, first, later}
 use Rattle.catalog.specs.Frames.{Point, uint16, readOnly}
 use Rattle.catalog.specs.Rules.{hasCountPoint}
-use Rattle.catalog.specs.Definitions.{Groups, noGroup, group, Content, pointsSize}
-use Rattle.catalog.specs.Soundness.{SoundGroups}
+use Rattle.model_definitions.specs.Definitions.{Groups, noGroup, group, Content, pointsSize}
+use Rattle.model_definitions.specs.Soundness.{SoundGroups}
 use Rattle.layout.specs.Points.{Scope, Instance}
 use Rattle.layout.specs.Layout.{topScope, countOf, fillSizeOf, restSize, countUnimplemented, fits, fillOf, countsOf, groupsAt}
 use Rattle.layout.proofs.CountsAgree.{measures-agree, fills-agree, unimplemented-agrees}

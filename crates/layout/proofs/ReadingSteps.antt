@@ -9,8 +9,8 @@ use lib.Dec.{eqb}
 use Rattle.lists.specs.Members.{among}
 use Rattle.lists.specs.Tests.{keptBy}
 use Rattle.lists.proofs.TestLaws.{neither}
-use Rattle.catalog.specs.Definitions.{Content, Definition}
-use Rattle.catalog.specs.Soundness.{idsOf}
+use Rattle.model_definitions.specs.Definitions.{Content, Definition}
+use Rattle.model_definitions.specs.Soundness.{idsOf}
 use Rattle.register_map.specs.Scan.{Model}
 use Rattle.layout.specs.Reading.{Reading, unknown, readBy, topOf, reading}
 

@@ -11,8 +11,8 @@ use Rattle.lists.specs.Each.{Each}
 use Rattle.lists.specs.Members.{In, first, later}
 use Rattle.lists.proofs.TestOutcomes.{impossible, by-test}
 use Rattle.catalog.specs.Frames.{Point, sunssf, pad}
-use Rattle.catalog.specs.Definitions.{Content, pointsSize}
-use Rattle.catalog.specs.Soundness.{ScaleResolves}
+use Rattle.model_definitions.specs.Definitions.{Content, pointsSize}
+use Rattle.model_definitions.specs.Soundness.{ScaleResolves}
 use Rattle.layout.specs.Points.{ModelPoint}
 use Rattle.layout.specs.Layout.{topScope, countUnimplemented, fits, topInstance, pointsAt, contentAt}
 use Rattle.layout.specs.Reading.{Fault, Reading, unknown, faulty, points, belowTopPoints, countPointUnimplemented, notTheSize, endsWithPad, allButLast, padLeftOut, laidOut, readBy}

@@ -9,7 +9,7 @@ use lib.ListN.{length, take}
 use lib.Seq.{take-all}
 use Rattle.catalog.specs.Frames.{Point, pad}
 use Rattle.catalog.specs.Rules.{run}
-use Rattle.catalog.specs.Definitions.{pointsSize}
+use Rattle.model_definitions.specs.Definitions.{pointsSize}
 use Rattle.layout.specs.Reading.{endsWithPad}
 use Rattle.layout.specs.Walks.{onward, heldAt, Stands}
 use Rattle.layout.specs.Answers.{RunOf, PointRun, runForm, runOf}

@@ -16,10 +16,10 @@ use Rattle.lists.proofs.EachLaws.{each-implied}
 use Rattle.catalog.specs.Frames.{Point, Head, constantCount, countByPoint, fill}
 use Rattle.catalog.specs.Rules.{isSizeOf}
 use Rattle.catalog.specs.Checking.{accepted, checked}
-use Rattle.catalog.specs.Definitions.{Groups, noGroup, group, Content, Definition, definitions, pointsSize}
-use Rattle.catalog.specs.Soundness.{SoundPoint, SoundGroups}
-use Rattle.catalog.proofs.GroupSizes.{point-size}
-use Rattle.catalog.proofs.EveryGroup.{of-models}
+use Rattle.model_definitions.specs.Definitions.{Groups, noGroup, group, Content, Definition, definitions, pointsSize}
+use Rattle.model_definitions.specs.Soundness.{SoundPoint, SoundGroups}
+use Rattle.model_definitions.proofs.GroupSizes.{point-size}
+use Rattle.model_definitions.proofs.EveryGroup.{of-models}
 use Rattle.layout.specs.Points.{Scope}
 use Rattle.layout.specs.Layout.{topScope, countOf, measured, fillMeasured, groupsSize, fillSize, restSize, fillSizeOf, fits, fillOf, countsOf}
 use Rattle.layout.specs.Counts.{or0}

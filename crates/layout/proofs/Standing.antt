@@ -9,9 +9,9 @@ use lib.ListN.{length, drop, getD, length-drop, drop-of-length-le}
 use lib.Seq.{drop-cons, getD-drop, drop-drop, drop-append-seam}
 use Rattle.lists.proofs.TestOutcomes.{impossible}
 use Rattle.catalog.specs.Frames.{Point, Head, Frame, groupFrame, pointFrame, endFrame, malformed, framesFrom, frames, frameIn}
-use Rattle.catalog.specs.Definitions.{Groups, noGroup, group, pointFrames, groupFrames, parsed, inner}
-use Rattle.catalog.proofs.TreeFrames.{contentFrames, group-frames}
-use Rattle.catalog.proofs.DefinitionsBack.{points-read, groups-read}
+use Rattle.model_definitions.specs.Definitions.{Groups, noGroup, group, pointFrames, groupFrames, parsed, inner}
+use Rattle.model_definitions.proofs.TreeFrames.{contentFrames, group-frames}
+use Rattle.model_definitions.proofs.DefinitionsBack.{points-read, groups-read}
 use Rattle.layout.specs.Walks.{onward, heldAt, Stands, pastEnd, pointOf, headOf}
 
 -- ---- Frames by their index

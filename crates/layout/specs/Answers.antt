@@ -10,7 +10,7 @@ use Rattle.registers.specs.Registers.{join, allZero, shownRaw}
 use Rattle.values.specs.Classes.{Classified, classified}
 use Rattle.catalog.specs.Frames as Frames
 use Rattle.catalog.specs.Answers.{headForm, pointForm}
-use Rattle.catalog.specs.Definitions.{pointsSize}
+use Rattle.model_definitions.specs.Definitions.{pointsSize}
 use Rattle.layout.specs.Points.{statusOf, scaleOf}
 use Rattle.layout.specs.Reading.{endsWithPad}
 use Rattle.layout.specs.declared.frames.PointOr.{PointOr}

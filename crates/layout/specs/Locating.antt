@@ -8,7 +8,7 @@ use lib.ListN.{getD, drop}
 use Rattle.lists.specs.Tests.{firstWith}
 use Rattle.registers.specs.Registers.{allZero}
 use Rattle.catalog.specs.Frames.{Point, Head}
-use Rattle.catalog.specs.Definitions.{Groups, noGroup, group, Content, pointsSize}
+use Rattle.model_definitions.specs.Definitions.{Groups, noGroup, group, Content, pointsSize}
 use Rattle.layout.specs.Points.{ModelPoint}
 use Rattle.layout.specs.Layout.{groupsSize}
 use Rattle.layout.specs.Paths.{isPoint}

@@ -5,8 +5,8 @@ use Prim.Native.Nat.{ℕ, zero, suc}
 use lib.Dec.{eqb}
 use lib.ListN.{getD}
 use Rattle.lists.specs.Members.{among}
-use Rattle.catalog.specs.Definitions.{Groups, noGroup, group, pointFrames, groupFrames}
-use Rattle.catalog.specs.Soundness.{numbersOf}
+use Rattle.model_definitions.specs.Definitions.{Groups, noGroup, group, pointFrames, groupFrames}
+use Rattle.model_definitions.specs.Soundness.{numbersOf}
 use Rattle.layout.specs.Points.{ModelPoint}
 
 -- How many instance numbers lead to the point with a number: 0 for one that is in none of these groups, so for a point of the

@@ -6,7 +6,7 @@ use Prim.Native.Nat.{ℕ, _+_}
 use lib.Dec.{eqb, ltb}
 use lib.ListN.{length}
 use Rattle.catalog.specs.Frames.{Point, pad}
-use Rattle.catalog.specs.Definitions.{Groups, noGroup, group, Content, Definition, pointsSize}
+use Rattle.model_definitions.specs.Definitions.{Groups, noGroup, group, Content, Definition, pointsSize}
 use Rattle.register_map.specs.Scan.{Model}
 use Rattle.layout.specs.Points.{ModelPoint}
 use Rattle.layout.specs.Layout.{topScope, countUnimplemented, fits, topInstance, pointsAt, contentAt}

@@ -5,7 +5,7 @@ use Prim.Native.Nat.{ℕ, _+_, _≤_}
 use Rattle.lists.specs.Each.{Each}
 use Rattle.lists.specs.Members.{In}
 use Rattle.catalog.specs.Frames.{Point}
-use Rattle.catalog.specs.Definitions.{Groups, noGroup, group, Definition}
+use Rattle.model_definitions.specs.Definitions.{Groups, noGroup, group, Definition}
 use Rattle.layout.specs.Points.{ModelPoint}
 
 -- ---- What a definition has

@@ -9,8 +9,8 @@ use lib.ListN.{length, drop, getD, set}
 use Rattle.lists.specs.Members.{among, Distinct, In}
 use Rattle.catalog.specs.Frames.{Point, Head, Frame, modelFrame, groupFrame, pointFrame, endFrame, malformed, frames}
 use Rattle.catalog.specs.Checking as Checking
-use Rattle.catalog.specs.Definitions.{Content, pointFrames, groupFrames, parsed, inner, definitions}
-use Rattle.catalog.specs.Soundness.{numbersOf, SoundGroups}
+use Rattle.model_definitions.specs.Definitions.{Content, pointFrames, groupFrames, parsed, inner, definitions}
+use Rattle.model_definitions.specs.Soundness.{numbersOf, SoundGroups}
 use Rattle.layout.specs.Points.{ModelPoint, Scope, Instance}
 use Rattle.layout.specs.Layout.{fillOf}
 use Rattle.layout.specs.Reading.{topOf, Reading, unknown, faulty, points, faultNumber, reading}

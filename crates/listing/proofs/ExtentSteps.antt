@@ -10,7 +10,7 @@ use lib.Dec.{eqb}
 use lib.ListN.{length}
 use Rattle.lists.proofs.TestOutcomes.{impossible, clash}
 use Rattle.catalog.specs.Frames.{Point, Head, countByPoint, fill}
-use Rattle.catalog.specs.Definitions.{Groups, noGroup, group, pointsSize}
+use Rattle.model_definitions.specs.Definitions.{Groups, noGroup, group, pointsSize}
 use Rattle.layout.specs.Points.{Scope}
 use Rattle.layout.specs.Layout.{countOf, measured, fillMeasured, groupsSize, fillSize, countUnimplemented}
 use Rattle.layout.specs.Counts.{groupsPoints, fillPoints, or0}

@@ -6,7 +6,7 @@ use Prim.Native.Nat.{ℕ, _+_, _≤_, _<_}
 use native.Mathlib.Omega.{arith}
 use lib.ListN.{length, length-append}
 use Rattle.catalog.specs.Frames.{Point, Head, endFrame, fill, frameIn}
-use Rattle.catalog.specs.Definitions.{Groups, noGroup, group, pointsSize, pointFrames, groupFrames}
+use Rattle.model_definitions.specs.Definitions.{Groups, noGroup, group, pointsSize, pointFrames, groupFrames}
 use Rattle.layout.specs.Points.{Scope}
 use Rattle.layout.specs.Walks.{heldAt, pastEnd, headOf, AtGroups}
 use Rattle.layout.proofs.Standing as standing

@@ -10,10 +10,10 @@ use lib.ListN.{length, getD, set, length-append}
 use Rattle.lists.specs.Members.{among, In}
 use Rattle.lists.proofs.TestLaws.{neither}
 use Rattle.catalog.specs.Frames.{Point, Head}
-use Rattle.catalog.specs.Definitions.{Groups, noGroup, group, pointsSize, pointFrames, groupFrames}
-use Rattle.catalog.specs.Soundness.{numbersOf}
-use Rattle.catalog.proofs.References.{points-resolve}
-use Rattle.catalog.proofs.GroupNumbers.{none-of-parts, NoneOf}
+use Rattle.model_definitions.specs.Definitions.{Groups, noGroup, group, pointsSize, pointFrames, groupFrames}
+use Rattle.model_definitions.specs.Soundness.{numbersOf}
+use Rattle.model_definitions.proofs.References.{points-resolve}
+use Rattle.model_definitions.proofs.GroupNumbers.{none-of-parts, NoneOf}
 use Rattle.layout.specs.Points.{ModelPoint, Scope, Instance}
 use Rattle.layout.specs.Layout.{withPoint, within, countOf, measured, groupsSize, pointsAt, instances, entered, groupsBy, groupsAt}
 use Rattle.layout.specs.Counts.{groupsPoints}

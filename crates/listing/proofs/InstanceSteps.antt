@@ -6,8 +6,8 @@ use Prim.Native.Nat.{ℕ, suc, _+_, _-_, _≤_, _<_}
 use native.Mathlib.Omega.{arith}
 use lib.ListN.{length, getD, set, length-set}
 use Rattle.catalog.specs.Frames.{Point, Head, frameIn}
-use Rattle.catalog.specs.Definitions.{Groups, group, pointsSize, groupFrames}
-use Rattle.catalog.specs.Soundness.{numbersOf}
+use Rattle.model_definitions.specs.Definitions.{Groups, group, pointsSize, groupFrames}
+use Rattle.model_definitions.specs.Soundness.{numbersOf}
 use Rattle.layout.specs.Points.{Scope}
 use Rattle.layout.specs.Layout.{within, countOf, measured, groupsSize, pointsAt, entered, groupsAt}
 use Rattle.layout.specs.Counts.{groupsPoints}

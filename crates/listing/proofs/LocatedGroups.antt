@@ -7,7 +7,7 @@ use native.Mathlib.Nat.{zero-mul, suc-mul, mul-le-mul-right}
 use native.Mathlib.Omega.{arith}
 use lib.ListN.{getD}
 use Rattle.catalog.specs.Frames.{Point, Head, frameIn}
-use Rattle.catalog.specs.Definitions.{Groups, group, pointsSize}
+use Rattle.model_definitions.specs.Definitions.{Groups, group, pointsSize}
 use Rattle.layout.specs.Layout.{countOf, measured, groupsSize}
 use Rattle.layout.specs.Walks.{heldAt, Stands, pastEnd, headOf, levelOf, scopeIn, begun, AtGroups}
 use Rattle.layout.specs.Locating.{Located, orElse, locatedOwn, locatedIn}

@@ -6,8 +6,8 @@ use native.Mathlib.Omega.{arith}
 use lib.ListN.{length, getD}
 use Rattle.lists.specs.Members.{first}
 use Rattle.catalog.specs.Frames.{Point}
-use Rattle.catalog.specs.Definitions.{Groups, Content, pointsSize, definitions}
-use Rattle.catalog.specs.Soundness.{ScaleResolves}
+use Rattle.model_definitions.specs.Definitions.{Groups, Content, pointsSize, definitions}
+use Rattle.model_definitions.specs.Soundness.{ScaleResolves}
 use Rattle.layout.specs.Layout.{countOf, groupsSize, countsOf, pointsAt, groupsAt, noInstance, topInstance, contentAt}
 use Rattle.layout.specs.Counts.{groupsPoints}
 use Rattle.layout.specs.Reading.{Reading, points, allButLast, readBy, reading}

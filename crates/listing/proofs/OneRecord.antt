@@ -13,7 +13,7 @@ use Rattle.lists.specs.Tests.{firstWith}
 use Rattle.lists.proofs.TestOutcomes.{both, clash}
 use Rattle.lists.proofs.EachLaws.{each-one}
 use Rattle.lists.proofs.FirstFound.{found-in, none-found}
-use Rattle.catalog.specs.Definitions.{definitions}
+use Rattle.model_definitions.specs.Definitions.{definitions}
 use Rattle.register_map.specs.Scan.{Model, scan, totalSize}
 use Rattle.layout.specs.Points.{ModelPoint}
 use Rattle.layout.specs.Reading.{reading, points}

@@ -11,7 +11,7 @@ use Rattle.registers.specs.Registers.{join}
 use Rattle.values.specs.Classes.{classified}
 use Rattle.catalog.specs.Frames.{Point, frameIn}
 use Rattle.catalog.specs.Rules.{isSizeOf}
-use Rattle.catalog.specs.Definitions.{pointsSize}
+use Rattle.model_definitions.specs.Definitions.{pointsSize}
 use Rattle.layout.specs.Points.{ModelPoint, registersAt, pointAt}
 use Rattle.layout.specs.Layout.{pointsAt}
 use Rattle.layout.specs.Walks.{heldAt, pointOf, scopeIn, instanceIn, begun}

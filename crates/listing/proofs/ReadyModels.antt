@@ -11,9 +11,9 @@ use lib.ListN.{length, getD}
 use Rattle.lists.specs.Each.{Each}
 use Rattle.lists.specs.Members.{first}
 use Rattle.catalog.specs.Frames.{Point}
-use Rattle.catalog.specs.Definitions.{Content, pointsSize, definitions}
-use Rattle.catalog.specs.Soundness.{SoundPoint, SoundGroups, ScaleResolves}
-use Rattle.catalog.proofs.References.{points-resolve}
+use Rattle.model_definitions.specs.Definitions.{Content, pointsSize, definitions}
+use Rattle.model_definitions.specs.Soundness.{SoundPoint, SoundGroups, ScaleResolves}
+use Rattle.model_definitions.proofs.References.{points-resolve}
 use Rattle.layout.specs.Points.{ModelPoint, Scope}
 use Rattle.layout.specs.Layout.{nothing, within, topScope, countOf, measured, groupsSize, fillSizeOf, fillOf, countsOf, pointsAt, entered, groupsAt, noInstance, topInstance, contentAt, restSize}
 use Rattle.layout.specs.Reading.{Reading, points, readBy, reading}

@@ -7,8 +7,8 @@ use native.Mathlib.Omega.{arith}
 use lib.ListN.{length}
 use Rattle.lists.specs.Members.{In}
 use Rattle.lists.proofs.TestOutcomes.{impossible}
-use Rattle.catalog.specs.Definitions.{Content, Definition, definitions}
-use Rattle.catalog.specs.Soundness.{SoundDefinition}
+use Rattle.model_definitions.specs.Definitions.{Content, Definition, definitions}
+use Rattle.model_definitions.specs.Soundness.{SoundDefinition}
 use Rattle.register_map.specs.Scan.{Model, totalSize, marked, scan}
 use Rattle.register_map.proofs.MadeOfModels.{MadeOf, made-of-models}
 use Rattle.layout.specs.Points.{ModelPoint}

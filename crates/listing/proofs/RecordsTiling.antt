@@ -11,10 +11,10 @@ use Rattle.lists.specs.Members.{among, Distinct, In, first, later}
 use Rattle.lists.proofs.EachLaws.{each-one, each-map, each-all}
 use Rattle.lists.proofs.TestOutcomes.{clash}
 use Rattle.catalog.specs.Checking.{accepted, checked}
-use Rattle.catalog.specs.Definitions.{Definition, definitions}
-use Rattle.catalog.specs.Soundness.{SoundDefinition, idsOf}
-use Rattle.catalog.proofs.AcceptedIsSound.{accepted-is-sound}
-use Rattle.catalog.proofs.GroupNumbers.{among-later}
+use Rattle.model_definitions.specs.Definitions.{Definition, definitions}
+use Rattle.model_definitions.specs.Soundness.{SoundDefinition, idsOf}
+use Rattle.model_definitions.proofs.AcceptedIsSound.{accepted-is-sound}
+use Rattle.model_definitions.proofs.GroupNumbers.{among-later}
 use Rattle.register_map.specs.Scan.{Model, sizeOf, totalSize, scan}
 use Rattle.layout.specs.Points.{ModelPoint}
 use Rattle.layout.specs.Reading.{Reading, unknown, faulty, points, readBy, reading}

@@ -7,8 +7,8 @@ use Prim.Native.Nat.{ℕ, _-_, _≤_, _<_}
 use native.Mathlib.Omega.{arith}
 use lib.ListN.{length, getD}
 use Rattle.lists.specs.Each.{Each}
-use Rattle.catalog.specs.Definitions.{Content, definitions, pointsSize}
-use Rattle.catalog.specs.Soundness.{SoundPoint, SoundGroups}
+use Rattle.model_definitions.specs.Definitions.{Content, definitions, pointsSize}
+use Rattle.model_definitions.specs.Soundness.{SoundPoint, SoundGroups}
 use Rattle.layout.specs.Layout.{nothing, topScope, fits, fillOf, contentAt}
 use Rattle.layout.specs.Reading.{padLeftOut, readBy, topOf}
 use Rattle.layout.specs.Walks.{heldAt, Stands, Accepted, scopeIn, noted, begun, IsTable, surveyedRefused, surveyedPoints, surveyed, Ready, AtGroups}

@@ -14,8 +14,8 @@ use lib.ListN.{length}
 use Rattle.lists.specs.Members.{In}
 use Rattle.lists.proofs.TestOutcomes.{by-test}
 use Rattle.catalog.specs.Frames.{Point, Head, fill}
-use Rattle.catalog.specs.Definitions.{Groups, noGroup, group, Content, pointsSize}
-use Rattle.catalog.specs.Soundness.{SoundGroups}
+use Rattle.model_definitions.specs.Definitions.{Groups, noGroup, group, Content, pointsSize}
+use Rattle.model_definitions.specs.Soundness.{SoundGroups}
 use Rattle.layout.specs.Points.{Scope}
 use Rattle.layout.specs.Layout.{topScope, countOf, fillMeasured, groupsSize, fillSize, countUnimplemented, fillSizeOf, fits, fillOf, pointsAt, topInstance, contentAt}
 use Rattle.layout.specs.Counts.{groupsPoints, fillPoints, or0}

@@ -8,8 +8,8 @@ use lib.ListN.{length}
 use Rattle.lists.specs.Members.{among, In}
 use Rattle.catalog.specs.Frames.{frames}
 use Rattle.catalog.specs.Checking.{accepted, checked}
-use Rattle.catalog.specs.Definitions.{Definition, definitions, modelIds}
-use Rattle.catalog.proofs.ModelIds.{ids-of-model-frames}
+use Rattle.model_definitions.specs.Definitions.{Definition, definitions, modelIds}
+use Rattle.model_definitions.proofs.ModelIds.{ids-of-model-frames}
 use Rattle.register_map.specs.Scan.{Model, sizeOf, totalSize, scan}
 use Rattle.layout.specs.Points.{ModelPoint}
 use Rattle.layout.specs.Reading.{points, reading}

@@ -7,7 +7,7 @@ use native.Mathlib.Nat.{eq-or-lt-of-le}
 use native.Mathlib.Omega.{arith}
 use lib.ListN.{length}
 use Rattle.lists.proofs.TestOutcomes.{impossible}
-use Rattle.catalog.specs.Definitions.{definitions}
+use Rattle.model_definitions.specs.Definitions.{definitions}
 use Rattle.register_map.specs.Scan.{scan}
 use Rattle.register_map.proofs.MadeOfModels.{marked-count}
 use Rattle.layout.specs.Reading.{reading}

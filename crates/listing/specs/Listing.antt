@@ -6,7 +6,7 @@ use Prim.Native.Nat.{ℕ, _+_, _*_}
 use lib.Dec.{ltb}
 use lib.ListN.{length, drop}
 use Rattle.catalog.specs.Checking as Checking
-use Rattle.catalog.specs.Definitions.{definitions}
+use Rattle.model_definitions.specs.Definitions.{definitions}
 use Rattle.register_map.specs.Headers.{opening}
 use Rattle.register_map.specs.Scan.{Model, sizeOf, Ending, marked, broken, scan}
 use Rattle.layout.specs.Points.{ModelPoint}

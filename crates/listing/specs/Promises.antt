@@ -11,7 +11,7 @@ use Rattle.lists.specs.Each.{Each}
 use Rattle.registers.specs.Registers.{shownRaw}
 use Rattle.catalog.specs.Frames as Frames
 use Rattle.catalog.specs.Rules.{isSizeOf}
-use Rattle.catalog.specs.Definitions.{Groups, Content, pointsSize}
+use Rattle.model_definitions.specs.Definitions.{Groups, Content, pointsSize}
 use Rattle.layout.specs.Points.{ModelPoint, Scope, registersAt}
 use Rattle.layout.specs.Layout.{countOf, groupsSize, fillSize, countUnimplemented}
 use Rattle.layout.specs.Counts.{groupsPoints, fillPoints, or0}

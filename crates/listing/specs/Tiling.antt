@@ -6,7 +6,7 @@ use lib.Dec.{eqb}
 use Rattle.lists.specs.Each.{Each}
 use Rattle.lists.specs.Members.{In}
 use Rattle.lists.specs.Tests.{selected}
-use Rattle.catalog.specs.Definitions.{Definition}
+use Rattle.model_definitions.specs.Definitions.{Definition}
 use Rattle.layout.specs.Tiling.{definedPoints, Tiles}
 use Rattle.listing.specs.Listing.{Record}
 

@@ -30,7 +30,7 @@ ghost use mathlib.Core.Option.{none};
 ghost use Prim.Native.Nat.{_+_, _*_, _≤_};
 ghost use lib.ListN.{length};
 ghost use lib.ListN as Lists;
-ghost use Rattle.catalog.specs.Definitions.{definitions};
+ghost use Rattle.model_definitions.specs.Definitions.{definitions};
 ghost use Rattle.register_map.specs.Headers.{opening};
 ghost use Rattle.layout.specs.Reading.{reading};
 ghost use Rattle.layout.specs.Walks.{Accepted, IsTable, pointsOf, readIn};

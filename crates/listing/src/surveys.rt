@@ -12,7 +12,7 @@ ghost use mathlib.Core.Path.{_≡_};
 ghost use mathlib.Core.Option.{some};
 ghost use Prim.Native.Nat.{_+_, _/_, _≤_};
 ghost use lib.ListN.{length};
-ghost use Rattle.catalog.specs.Definitions.{definitions};
+ghost use Rattle.model_definitions.specs.Definitions.{definitions};
 ghost use Rattle.layout.specs.Reading.{readBy, padLeftOut, topOf};
 ghost use Rattle.layout.specs.Walks.{heldAt, Stands, Accepted, IsTable, surveyed, readIn};
 ghost use Rattle.listing.specs.Answers.{surveyForm};

@@ -9,7 +9,7 @@ use Rattle.display.specs.Decimals.{lastDigits, digitCountWithin}
 use Rattle.catalog.specs.Frames.{frameOf, framesFrom}
 use Rattle.catalog.specs.Rules.{isSizeOf}
 use Rattle.catalog.specs.Checking.{checkFrom, checked}
-use Rattle.catalog.specs.Definitions as Definitions
+use Rattle.model_definitions.specs.Definitions as Definitions
 use Rattle.register_map.specs.Headers.{opening}
 use Rattle.register_map.specs.Scan.{scanFrom, scan}
 use Rattle.layout.specs.Points.{pointAt}

@@ -11,7 +11,7 @@ use Rattle.values.specs.Classes.{inRange, classOf, classified}
 use Rattle.catalog.specs.Frames.{frameOf, framesFrom}
 use Rattle.catalog.specs.Rules.{isSizeOf}
 use Rattle.catalog.specs.Checking.{checkFrom, checked}
-use Rattle.catalog.specs.Definitions.{parsed}
+use Rattle.model_definitions.specs.Definitions.{parsed}
 use Rattle.register_map.specs.Headers.{opening}
 use Rattle.register_map.specs.Scan as Scan
 use Rattle.register_map.specs.Scan.{Model, WellFormed, scanFrom, scan}

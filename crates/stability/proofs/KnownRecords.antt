@@ -7,8 +7,8 @@ use Rattle.lists.specs.Each.{Each}
 use Rattle.lists.specs.Members.{among}
 use Rattle.lists.proofs.TestOutcomes.{impossible}
 use Rattle.lists.proofs.EachLaws.{each-any}
-use Rattle.catalog.specs.Definitions.{Definition, definitions}
-use Rattle.catalog.specs.Soundness.{idsOf}
+use Rattle.model_definitions.specs.Definitions.{Definition, definitions}
+use Rattle.model_definitions.specs.Soundness.{idsOf}
 use Rattle.register_map.specs.Scan.{Model, scan}
 use Rattle.layout.specs.Points.{ModelPoint}
 use Rattle.layout.specs.Reading.{points, reading}

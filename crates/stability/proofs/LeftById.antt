@@ -12,11 +12,11 @@ use Rattle.lists.proofs.TestOutcomes.{clash}
 use Rattle.lists.proofs.TestLaws.{neither}
 use Rattle.lists.proofs.EachLaws.{each-implied}
 use Rattle.lists.proofs.SelectedLaws.{selected-same}
-use Rattle.catalog.specs.Definitions.{Definition, definitions}
-use Rattle.catalog.specs.Soundness.{idsOf}
-use Rattle.catalog.specs.Removal.{keeping}
-use Rattle.catalog.proofs.ModelIds.{ids-distinct}
-use Rattle.catalog.proofs.Removal as catalogs
+use Rattle.model_definitions.specs.Definitions.{Definition, definitions}
+use Rattle.model_definitions.specs.Soundness.{idsOf}
+use Rattle.model_definitions.specs.Removal.{keeping}
+use Rattle.model_definitions.proofs.ModelIds.{ids-distinct}
+use Rattle.model_definitions.proofs.Removal as catalogs
 use Rattle.listing.specs.Listing.{Record, listed, listing}
 use Rattle.listing.proofs.WalksBehind.{listed-walks}
 use Rattle.stability.specs.Removed.{keepsId, recordsLeft, recordsOf}

@@ -8,8 +8,8 @@ use Rattle.lists.specs.Members.{among}
 use Rattle.lists.proofs.EachLaws.{each-implied}
 use Rattle.catalog.specs.Checking.{Verdict, accepted, checked}
 use Rattle.catalog.specs.Checking as Checking
-use Rattle.catalog.specs.Definitions.{definitions}
-use Rattle.catalog.proofs.ModelIds.{ids-of-model-frames}
+use Rattle.model_definitions.specs.Definitions.{definitions}
+use Rattle.model_definitions.proofs.ModelIds.{ids-of-model-frames}
 use Rattle.register_map.specs.Scan.{Model, marked}
 use Rattle.register_map.specs.Insertion.{allModels, placed}
 use Rattle.layout.specs.Reading.{unknown, reading}

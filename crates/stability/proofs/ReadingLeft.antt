@@ -6,8 +6,8 @@ use borrow.Author.Tests.{eqb-true}
 use lib.Dec.{eqb}
 use Rattle.lists.specs.Members.{Distinct}
 use Rattle.lists.specs.Tests.{keptBy}
-use Rattle.catalog.specs.Definitions.{Definition}
-use Rattle.catalog.specs.Soundness.{idsOf}
+use Rattle.model_definitions.specs.Definitions.{Definition}
+use Rattle.model_definitions.specs.Soundness.{idsOf}
 use Rattle.register_map.specs.Scan.{Model}
 use Rattle.layout.specs.Reading.{Reading, unknown, readBy, reading}
 use Rattle.layout.proofs.ReadingSteps.{reading-first, unknown-left}

@@ -7,9 +7,9 @@ use Prim.Native.Nat.{ℕ, _*_, _≤_}
 use native.Mathlib.Omega.{arith}
 use lib.ListN.{length}
 use Rattle.lists.proofs.TestOutcomes.{impossible}
-use Rattle.catalog.specs.Definitions.{Definition, definitions}
-use Rattle.catalog.specs.Removal.{keeping}
-use Rattle.catalog.proofs.Removal as catalogs
+use Rattle.model_definitions.specs.Definitions.{Definition, definitions}
+use Rattle.model_definitions.specs.Removal.{keeping}
+use Rattle.model_definitions.proofs.Removal as catalogs
 use Rattle.register_map.specs.Scan.{Model, scan}
 use Rattle.listing.specs.Listing.{Record, recordWidth, Answer, refused, listed, withRoom, listing}
 use Rattle.listing.proofs.RefusalNumbers.{Between, catalog-number}

@@ -9,9 +9,9 @@ use lib.ListN.{length, drop}
 use Rattle.lists.specs.Each.{Each}
 use Rattle.lists.proofs.SelectedLaws.{selected-fewer}
 use Rattle.catalog.specs.Checking.{checked, accepted}
-use Rattle.catalog.specs.Definitions.{definitions}
-use Rattle.catalog.specs.Removal.{keeping}
-use Rattle.catalog.proofs.Removal as catalogs
+use Rattle.model_definitions.specs.Definitions.{definitions}
+use Rattle.model_definitions.specs.Removal.{keeping}
+use Rattle.model_definitions.proofs.Removal as catalogs
 use Rattle.listing.specs.Listing.{Record, recordWidth, listed, withRoom, listing, entries, stored, listedTold, told}
 use Rattle.listing.proofs.ListingCases.{with-room, listing-walks}
 use Rattle.listing.proofs.WalksBehind.{listed-walks}

@@ -11,8 +11,8 @@ use Rattle.lists.specs.Tests.{selected}
 use Rattle.catalog.specs.Frames.{frameOf, framesFrom}
 use Rattle.catalog.specs.Rules.{isSizeOf}
 use Rattle.catalog.specs.Checking.{checkFrom, checked}
-use Rattle.catalog.specs.Definitions.{parsed, definitions}
-use Rattle.catalog.specs.Removal.{keeping, allButOne}
+use Rattle.model_definitions.specs.Definitions.{parsed, definitions}
+use Rattle.model_definitions.specs.Removal.{keeping, allButOne}
 use Rattle.register_map.specs.Headers.{opening}
 use Rattle.register_map.specs.Scan.{scanFrom, scan}
 use Rattle.layout.specs.Points.{ModelPoint, pointAt}

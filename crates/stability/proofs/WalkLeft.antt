@@ -7,7 +7,7 @@ use native.Mathlib.Omega.{arith}
 use Rattle.lists.specs.Tests.{selected}
 use Rattle.lists.proofs.EachLaws.{each-map, each-all}
 use Rattle.lists.proofs.SelectedLaws.{selected-append, selected-all, selected-none}
-use Rattle.catalog.specs.Definitions.{Definition}
+use Rattle.model_definitions.specs.Definitions.{Definition}
 use Rattle.register_map.specs.Scan.{Model, sizeOf, Ending, marked, broken}
 use Rattle.layout.specs.Points.{ModelPoint}
 use Rattle.layout.specs.Reading.{Fault, faultNumber, Reading, unknown, faulty, points}

@@ -6,10 +6,10 @@ use Prim.Native.Nat.{ℕ}
 use native.Mathlib.Omega.{arith}
 use lib.ListN.{length}
 use Rattle.lists.specs.Tests.{keptBy}
-use Rattle.catalog.specs.Definitions.{definitions}
-use Rattle.catalog.specs.Removal.{keeping}
-use Rattle.catalog.proofs.ModelIds.{ids-distinct}
-use Rattle.catalog.proofs.Removal as catalogs
+use Rattle.model_definitions.specs.Definitions.{definitions}
+use Rattle.model_definitions.specs.Removal.{keeping}
+use Rattle.model_definitions.proofs.ModelIds.{ids-distinct}
+use Rattle.model_definitions.proofs.Removal as catalogs
 use Rattle.register_map.specs.Scan.{Model, scan}
 use Rattle.layout.specs.Reading.{reading}
 use Rattle.listing.specs.Listing.{Record, Answer, refused, listed, walked}

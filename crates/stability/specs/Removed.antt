@@ -5,7 +5,7 @@ use Prim.Native.Nat.{ℕ, zero, suc}
 use lib.Dec.{eqb}
 use Rattle.lists.specs.Members.{among}
 use Rattle.lists.specs.Tests.{selected}
-use Rattle.catalog.specs.Definitions.{Definition}
+use Rattle.model_definitions.specs.Definitions.{Definition}
 use Rattle.register_map.specs.Scan.{Model}
 use Rattle.listing.specs.Listing.{Record}
 

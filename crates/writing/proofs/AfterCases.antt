@@ -6,7 +6,7 @@ use mathlib.Core.Option.{Option, none, some}
 use Prim.Native.Nat.{ℕ}
 use borrow.Author.Tests.{eq-eqb, ne-eqb}
 use lib.Dec.{eqb}
-use Rattle.catalog.specs.Definitions.{Content, Definition}
+use Rattle.model_definitions.specs.Definitions.{Content, Definition}
 use Rattle.layout.specs.Points.{ModelPoint}
 use Rattle.layout.specs.Reading.{topOf}
 use Rattle.listing.specs.Listing.{Record}

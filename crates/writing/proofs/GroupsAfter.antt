@@ -14,11 +14,11 @@ use Rattle.lists.proofs.InLaws.{in-front, in-behind, in-either}
 use Rattle.lists.proofs.EachLaws.{each-parts}
 use Rattle.lists.proofs.PairwiseLaws.{pairwise-append}
 use Rattle.catalog.specs.Frames.{Point, Head}
-use Rattle.catalog.specs.Definitions.{Groups, noGroup, group, Content, pointsSize, pointFrames}
-use Rattle.catalog.specs.Soundness.{numbersOf, SoundPoint, ScaleResolves}
-use Rattle.catalog.proofs.GroupSizes.{point-size}
-use Rattle.catalog.proofs.References.{points-resolve}
-use Rattle.catalog.proofs.GroupNumbers.{point-among}
+use Rattle.model_definitions.specs.Definitions.{Groups, noGroup, group, Content, pointsSize, pointFrames}
+use Rattle.model_definitions.specs.Soundness.{numbersOf, SoundPoint, ScaleResolves}
+use Rattle.model_definitions.proofs.GroupSizes.{point-size}
+use Rattle.model_definitions.proofs.References.{points-resolve}
+use Rattle.model_definitions.proofs.GroupNumbers.{point-among}
 use Rattle.layout.specs.Points.{ModelPoint, Scope}
 use Rattle.layout.specs.Layout.{withPoint, within, groupsSize, pointsAt, instances, entered, groupsBy, groupsAt}
 use Rattle.layout.specs.Tiling.{lowerPoints}

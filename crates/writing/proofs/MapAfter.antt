@@ -14,7 +14,7 @@ use Rattle.lists.specs.Each.{Pairwise}
 use Rattle.lists.proofs.FirstFound.{found-in}
 use Rattle.registers.specs.Registers.{split}
 use Rattle.registers.proofs.Splitting.{split-length}
-use Rattle.catalog.specs.Definitions.{Content, Definition, definitions}
+use Rattle.model_definitions.specs.Definitions.{Content, Definition, definitions}
 use Rattle.register_map.specs.Scan.{sizeOf, marked, scan}
 use Rattle.register_map.proofs.BodyReplaced.{storedIn, scan-anew, opens-anew}
 use Rattle.layout.specs.Points.{ModelPoint}

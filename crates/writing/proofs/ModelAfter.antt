@@ -18,9 +18,9 @@ use Rattle.registers.specs.Registers.{split}
 use Rattle.values.specs.Classes.{classified, isUnimplementedClass}
 use Rattle.catalog.specs.Frames.{Point, readOnly}
 use Rattle.catalog.specs.Rules.{isSizeOf}
-use Rattle.catalog.specs.Definitions.{Definition, pointsSize}
-use Rattle.catalog.specs.Soundness.{SoundPoint, SoundDefinition, ScaleResolves}
-use Rattle.catalog.proofs.References.{points-resolve}
+use Rattle.model_definitions.specs.Definitions.{Definition, pointsSize}
+use Rattle.model_definitions.specs.Soundness.{SoundPoint, SoundDefinition, ScaleResolves}
+use Rattle.model_definitions.proofs.References.{points-resolve}
 use Rattle.layout.specs.Points.{ModelPoint, Scope}
 use Rattle.layout.specs.Layout.{nothing, topScope, countsOf, noInstance, pointsAt, groupsAt, contentAt, topInstance}
 use Rattle.layout.specs.Reading.{points, allButLast, padLeftOut, readBy}

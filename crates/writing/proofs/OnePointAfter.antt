@@ -19,8 +19,8 @@ use Rattle.point_types.specs.Rows.{mayScale}
 use Rattle.values.specs.Classes.{value, ofClass, classified, isValue, isUnimplementedClass}
 use Rattle.catalog.specs.Frames.{Point, scaleByPoint, sunssf}
 use Rattle.catalog.specs.Rules.{isSizeOf}
-use Rattle.catalog.specs.Definitions.{Content}
-use Rattle.catalog.specs.Soundness.{SoundPoint, ScaleResolves}
+use Rattle.model_definitions.specs.Definitions.{Content}
+use Rattle.model_definitions.specs.Soundness.{SoundPoint, ScaleResolves}
 use Rattle.layout.specs.Points.{ModelPoint, Scope, Instance, statusOf, scaleOf, registersAt, pointAt}
 use Rattle.layout.specs.Paths.{depthIn, agreeTo, pathOf}
 use Rattle.layout.proofs.ReachOnly.{same-status, same-scale, shownAs, shown-same}

@@ -15,7 +15,7 @@ use Rattle.lists.specs.Tests.{firstWith}
 use Rattle.lists.specs.Each.{Pairwise}
 use Rattle.lists.proofs.FirstFound.{found-in}
 use Rattle.lists.proofs.PairwiseLaws.{pairwise-at, pairwise-implied}
-use Rattle.catalog.specs.Definitions.{Content, Definition, definitions}
+use Rattle.model_definitions.specs.Definitions.{Content, Definition, definitions}
 use Rattle.register_map.specs.Scan.{totalSize, scan}
 use Rattle.layout.specs.Reading.{topOf}
 use Rattle.listing.specs.Listing.{Record, listed, allRecords, listing}

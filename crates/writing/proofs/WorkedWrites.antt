@@ -12,7 +12,7 @@ use Rattle.values.specs.Classes.{twosComplement, integer, inRange, classOf, cla
 use Rattle.catalog.specs.Frames.{frameOf, framesFrom}
 use Rattle.catalog.specs.Rules.{isSizeOf}
 use Rattle.catalog.specs.Checking.{checkFrom, checked}
-use Rattle.catalog.specs.Definitions.{Content, parsed, definitions}
+use Rattle.model_definitions.specs.Definitions.{Content, parsed, definitions}
 use Rattle.register_map.specs.Headers.{opening}
 use Rattle.register_map.specs.Scan.{scanFrom, scan}
 use Rattle.layout.specs.Points.{pointAt}

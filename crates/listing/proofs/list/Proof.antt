@@ -4,7 +4,7 @@ use mathlib.Core.List.{List}
 use Prim.Native.Nat.{ℕ, _/_, _≤_}
 use native.Mathlib.Omega.{arith}
 use lib.ListN.{length, length-replicate}
-use Rattle.catalog.specs.Definitions.{definitions}
+use Rattle.model_definitions.specs.Definitions.{definitions}
 use Rattle.layout.specs.Reading.{reading}
 use Rattle.listing.specs.Listing.{walked, allRecords, listedTold, told, stored, recordWidth}
 use Rattle.listing.specs.Promises.{WalkFits}

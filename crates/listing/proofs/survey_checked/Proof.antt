@@ -1,6 +1,6 @@
 -- `listing::survey_checked` meets its contract: 20 and 21 come next.
 use mathlib.Core.Path.{sym, ap, _∙_}
-use Rattle.catalog.specs.Definitions.{definitions}
+use Rattle.model_definitions.specs.Definitions.{definitions}
 use Rattle.register_map.specs.Answers.{openingForm}
 use Rattle.layout.specs.Reading.{reading}
 use Rattle.listing.specs.Listing.{told}

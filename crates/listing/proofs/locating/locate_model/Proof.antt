@@ -3,7 +3,7 @@ use mathlib.Core.Path.{_≡_, sym, ap, subst, _∙_}
 use mathlib.Core.Option.{Option}
 use Prim.Native.Nat.{ℕ}
 use borrow.Author.Needs.{needs}
-use Rattle.catalog.specs.Definitions.{Groups, pointsSize}
+use Rattle.model_definitions.specs.Definitions.{Groups, pointsSize}
 use Rattle.layout.specs.Layout.{countOf}
 use Rattle.layout.specs.Walks.{heldAt, scopeIn}
 use Rattle.layout.specs.Locating.{Located, orElse, locatedIn}

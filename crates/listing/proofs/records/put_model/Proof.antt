@@ -4,7 +4,7 @@ use mathlib.Core.Path.{_≡_, refl, ap, _∙_}
 use Prim.Native.Nat.{ℕ, _<_}
 use native.Mathlib.Omega.{arith}
 use lib.ListN.{length, getD}
-use Rattle.catalog.specs.Definitions.{pointsSize}
+use Rattle.model_definitions.specs.Definitions.{pointsSize}
 use Rattle.layout.specs.Layout.{noInstance}
 use Rattle.layout.specs.Walks.{heldAt, instanceIn, begun}
 use Rattle.layout.proofs.PointCounts as counts

@@ -7,7 +7,7 @@ use borrow.Author.Needs.{needs}
 use lib.Dec.{eqb}
 use lib.ListN.{length}
 use Rattle.lists.specs.Tests.{firstWith}
-use Rattle.catalog.specs.Definitions.{definitions}
+use Rattle.model_definitions.specs.Definitions.{definitions}
 use Rattle.register_map.specs.Answers.{headerForm}
 use Rattle.register_map.proofs.HeaderLaws.{opening-none}
 use Rattle.register_map.proofs.HeaderCases.{model-ends}

@@ -4,7 +4,7 @@ use Prim.Native.Nat.{ℕ, _≤_, _<_}
 use native.Mathlib.Omega.{arith}
 use lib.ListN.{length, getD}
 use Rattle.catalog.specs.Rules.{run}
-use Rattle.catalog.specs.Definitions.{pointsSize}
+use Rattle.model_definitions.specs.Definitions.{pointsSize}
 use Rattle.layout.specs.Walks.{onward, heldAt, noted, begun, begunAt}
 use Rattle.layout.proofs.FrameRuns.{held-noted}
 use Rattle.layout.proofs.RunSteps.{held-run}

@@ -1,6 +1,6 @@
 -- `listing::surveys::survey_model` meets its contract: it surveys by the definition that is found.
 use mathlib.Core.Path.{sym, ap, subst, _∙_}
-use Rattle.catalog.specs.Definitions.{definitions}
+use Rattle.model_definitions.specs.Definitions.{definitions}
 use Rattle.layout.specs.Walks.{heldAt, surveyed}
 use Rattle.layout.proofs.AcceptedModels.{read-known, read-unknown}
 use Rattle.listing.specs.Answers.{foundForm}

@@ -11,17 +11,17 @@ use lib.ListN.{length}
 use Rattle.lists.specs.Each.{Each}
 use Rattle.lists.proofs.TestOutcomes.{impossible, clash, both}
 use Rattle.lists.proofs.TestLaws.{excludes}
 use Rattle.catalog.specs.Frames.{Point, Head, Frame, endFrame, fill}
 use Rattle.catalog.specs.State.{OpenGroup, opened}
 use Rattle.catalog.specs.Rules.{noModel, inTop, run, pointsOf, topPoints, noPoint}
-use Rattle.catalog.specs.Definitions.{Groups, noGroup, group, Definition, pointFrames, groupFrames, definitionFrames}
-use Rattle.catalog.specs.Definitions.{catalogFrames}
-use Rattle.catalog.specs.Soundness.{SoundPoint, SoundGroups, SoundDefinition, numbersOf, idsOf}
-use Rattle.catalog.proofs.AcceptedFrames.{Standing, Numbered}
-use Rattle.catalog.proofs.SoundFrames.{sound-head}
-use Rattle.catalog.proofs.TreeFrames.{contentFrames, group-frames, definition-frames, run-points, run-groups}
-use Rattle.catalog.proofs.NewNumbers.{New}
-use Rattle.catalog.proofs.NumberedModels.{usedAfter, numbered-model}
+use Rattle.model_definitions.specs.Definitions.{Groups, noGroup, group, Definition, pointFrames, groupFrames, definitionFrames}
+use Rattle.model_definitions.specs.Definitions.{catalogFrames}
+use Rattle.model_definitions.specs.Soundness.{SoundPoint, SoundGroups, SoundDefinition, numbersOf, idsOf}
+use Rattle.model_definitions.proofs.AcceptedFrames.{Standing, Numbered}
+use Rattle.model_definitions.proofs.SoundFrames.{sound-head}
+use Rattle.model_definitions.proofs.TreeFrames.{contentFrames, group-frames, definition-frames, run-points, run-groups}
+use Rattle.model_definitions.proofs.NewNumbers.{New}
+use Rattle.model_definitions.proofs.NumberedModels.{usedAfter, numbered-model}
 
 -- ---- Points
 

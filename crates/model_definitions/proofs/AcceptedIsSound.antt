@@ -5,17 +5,17 @@ use mathlib.Core.List.{List, []}
 use Prim.Native.Nat.{ℕ}
 use native.Mathlib.Omega.{arith}
 use lib.ListN.{length}
 use Rattle.catalog.specs.Frames.{frames}
 use Rattle.catalog.specs.State.{start}
 use Rattle.catalog.specs.Checking.{accepted, checked}
-use Rattle.catalog.specs.Definitions.{catalogFrames, definitions}
-use Rattle.catalog.specs.Soundness.{SoundCatalog, idsOf}
+use Rattle.model_definitions.specs.Definitions.{catalogFrames, definitions}
+use Rattle.model_definitions.specs.Soundness.{SoundCatalog, idsOf}
 use Rattle.catalog.proofs.FrameWords.{length-words}
-use Rattle.catalog.proofs.AcceptedSteps.{accepted-start}
-use Rattle.catalog.proofs.AcceptedFrames.{accepted-frames}
-use Rattle.catalog.proofs.ModelFrames.{frames-of-definitions, words-of-definitions}
-use Rattle.catalog.proofs.NewNumbers.{all-new}
-use Rattle.catalog.proofs.SoundModels.{models-sound}
+use Rattle.model_definitions.proofs.AcceptedSteps.{accepted-start}
+use Rattle.model_definitions.proofs.AcceptedFrames.{accepted-frames}
+use Rattle.model_definitions.proofs.ModelFrames.{frames-of-definitions, words-of-definitions}
+use Rattle.model_definitions.proofs.NewNumbers.{all-new}
+use Rattle.model_definitions.proofs.SoundModels.{models-sound}
 
 -- A catalog that is accepted is sound, and checking answers the number of its models.
 pub accepted-is-sound : (ws : List ℕ) (n : ℕ) → checked ws ≡ accepted n

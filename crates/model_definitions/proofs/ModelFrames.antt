@@ -8,16 +8,16 @@ use lib.Dec.{eqb}
 use Rattle.lists.specs.Each.{Each}
 use Rattle.lists.proofs.TestOutcomes.{clash}
 use Rattle.lists.proofs.TestLaws.{neither, none-broken}
 use Rattle.catalog.specs.Frames.{Point, Head, Frame, modelFrame, groupFrame, pointFrame, endFrame, malformed, fill, frames}
 use Rattle.catalog.specs.Frames.{wordsOfAll}
 use Rattle.catalog.specs.State.{OpenGroup, State, start, opened, withPoint, withGroup, closed, next}
 use Rattle.catalog.specs.Rules.{noModel, inTop, afterGroup, run, isMalformed, rules}
 use Rattle.catalog.specs.Checking.{accepted, checkFrom, checked}
-use Rattle.catalog.specs.Definitions.{Content, Definition, catalogFrames, Parsed, inFront, parsed, definitions}
-use Rattle.catalog.proofs.AcceptedSteps.{accepted-start, accepted-step}
-use Rattle.catalog.proofs.AcceptedFrames.{Standing, accepted-frames}
-use Rattle.catalog.proofs.TreeFrames.{contentFrames, group-frames, definition-frames}
+use Rattle.model_definitions.specs.Definitions.{Content, Definition, catalogFrames, Parsed, inFront, parsed, definitions}
+use Rattle.model_definitions.proofs.AcceptedSteps.{accepted-start, accepted-step}
+use Rattle.model_definitions.proofs.AcceptedFrames.{Standing, accepted-frames}
+use Rattle.model_definitions.proofs.TreeFrames.{contentFrames, group-frames, definition-frames}
 use Rattle.catalog.proofs.FrameWords.{words-frames}
 
 -- The frames of what open groups still hold, each to its end frame, the innermost first, and then the frames behind.
 abbrev pub restFrames : List Content → List Frame → List Frame

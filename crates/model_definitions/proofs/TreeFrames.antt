@@ -1,9 +1,9 @@
 -- The frames of groups and of a model, with further frames behind them.
 use mathlib.Core.Path.{_≡_, refl, ap}
 use mathlib.Core.List.{List, [], _∷_, _++_, append-assoc}
 use Rattle.catalog.specs.Frames.{Point, Head, Frame, modelFrame, groupFrame, endFrame}
 use Rattle.catalog.specs.Rules.{run}
-use Rattle.catalog.specs.Definitions.{Groups, noGroup, group, Definition, pointFrames, groupFrames, definitionFrames}
+use Rattle.model_definitions.specs.Definitions.{Groups, noGroup, group, Definition, pointFrames, groupFrames, definitionFrames}
 
 -- The frames of what a group holds, to its end frame, and those behind.
 abbrev pub contentFrames : List Point → Groups → List Frame → List Frame

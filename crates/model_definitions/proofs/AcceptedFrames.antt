@@ -11,13 +11,13 @@ use Rattle.lists.specs.Each.{Each}
 use Rattle.lists.specs.Members.{among}
 use Rattle.lists.proofs.TestOutcomes.{clash}
 use Rattle.lists.proofs.TestLaws.{none-broken}
 use Rattle.catalog.specs.Frames.{Frame, modelFrame, groupFrame, pointFrame, endFrame, malformed, fill}
 use Rattle.catalog.specs.State.{OpenGroup, State, opened, withPoint, withGroup, closed, next}
 use Rattle.catalog.specs.Rules.{noModel, inTop, afterGroup, run, inReach, lacksContent, rules}
 use Rattle.catalog.specs.Checking.{accepted, checkFrom}
-use Rattle.catalog.specs.Soundness.{SoundPoint}
-use Rattle.catalog.proofs.AcceptedSteps.{accepted-step, accepted-end}
-use Rattle.catalog.proofs.SoundFrames.{sound-point, HeadUnbroken}
+use Rattle.model_definitions.specs.Soundness.{SoundPoint}
+use Rattle.model_definitions.proofs.AcceptedSteps.{accepted-step, accepted-end}
+use Rattle.model_definitions.proofs.SoundFrames.{sound-point, HeadUnbroken}
 
 -- With these groups open, and a fill group in the top group or not, the frames break no rule but perhaps 6, and close all groups.
 abbrev pub Standing : Bool → List OpenGroup → List Frame → Type 0

@@ -3,11 +3,11 @@ use mathlib.Core.Path.{_≡_, refl}
 use mathlib.Core.List.{List}
 use Prim.Native.Nat.{ℕ}
 use Rattle.lists.specs.Each.{Each}
 use Rattle.catalog.specs.Frames.{Point, Head}
 use Rattle.catalog.specs.Checking.{accepted, checked}
-use Rattle.catalog.specs.Definitions.{Groups, definitions}
-use Rattle.catalog.specs.Soundness.{EachLowerGroup, FillsLast}
-use Rattle.catalog.proofs.EveryGroup.{of-lower-groups, of-models}
+use Rattle.model_definitions.specs.Definitions.{Groups, definitions}
+use Rattle.model_definitions.specs.Soundness.{EachLowerGroup, FillsLast}
+use Rattle.model_definitions.proofs.EveryGroup.{of-lower-groups, of-models}
 
 -- Wherever there is a fill group, it is at level 2 and no group stands behind it.
 pub fill-is-last : (ws : List ℕ) (n : ℕ) → checked ws ≡ accepted n

@@ -11,16 +11,16 @@ use Rattle.lists.specs.Members.{among, Distinct}
 use Rattle.lists.specs.Tests.{keptBy}
 use Rattle.lists.proofs.TestOutcomes.{clash}
 use Rattle.lists.proofs.TestLaws.{neither}
 use Rattle.catalog.specs.Frames.{Frame, frames, wordsOfAll}
 use Rattle.catalog.specs.Checking.{accepted, checked}
-use Rattle.catalog.specs.Definitions.{Definition, definitionFrames, catalogFrames, definitions}
-use Rattle.catalog.specs.Soundness.{SoundDefinition, SoundCatalog, idsOf}
-use Rattle.catalog.specs.Removal.{keeping, allButOne}
+use Rattle.model_definitions.specs.Definitions.{Definition, definitionFrames, catalogFrames, definitions}
+use Rattle.model_definitions.specs.Soundness.{SoundDefinition, SoundCatalog, idsOf}
+use Rattle.model_definitions.specs.Removal.{keeping, allButOne}
 use Rattle.catalog.proofs.FrameWords.{frames-words}
-use Rattle.catalog.proofs.DefinitionsBack.{definitions-back}
-use Rattle.catalog.proofs.ModelFrames.{frames-of-definitions, words-of-definitions}
-use Rattle.catalog.proofs.AcceptedIsSound.{accepted-is-sound}
-use Rattle.catalog.proofs.SoundIsAccepted.{sound-is-accepted}
+use Rattle.model_definitions.proofs.DefinitionsBack.{definitions-back}
+use Rattle.model_definitions.proofs.ModelFrames.{frames-of-definitions, words-of-definitions}
+use Rattle.model_definitions.proofs.AcceptedIsSound.{accepted-is-sound}
+use Rattle.model_definitions.proofs.SoundIsAccepted.{sound-is-accepted}
 
 -- What is left of models: not more frames, no id that was not there, none twice, and each as sound as it was.
 record Left (ds left : List Definition) : Type 0 where

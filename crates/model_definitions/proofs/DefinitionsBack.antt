@@ -1,11 +1,11 @@
 -- Reading the frames of definitions gives the definitions.
 use mathlib.Core.Path.{_≡_, refl, ap, _∙_}
 use mathlib.Core.List.{List, [], _∷_, _++_}
 use Rattle.catalog.specs.Frames.{Point, Frame, pointFrame, endFrame, wordsOfAll}
-use Rattle.catalog.specs.Definitions.{Groups, noGroup, group, Definition, pointFrames, groupFrames, definitionFrames}
-use Rattle.catalog.specs.Definitions.{catalogFrames, Parsed, inFront, parsed, definitions}
+use Rattle.model_definitions.specs.Definitions.{Groups, noGroup, group, Definition, pointFrames, groupFrames, definitionFrames}
+use Rattle.model_definitions.specs.Definitions.{catalogFrames, Parsed, inFront, parsed, definitions}
 use Rattle.catalog.proofs.FrameWords.{frames-words}
-use Rattle.catalog.proofs.TreeFrames.{group-frames, definition-frames}
+use Rattle.model_definitions.proofs.TreeFrames.{group-frames, definition-frames}
 
 -- What is read where an open group holds these points and groups, and the frames behind it are read.
 abbrev pub holding : List Point → Groups → Parsed → Parsed

@@ -6,18 +6,18 @@ use mathlib.Core.Logic.{_↔_}
 use Prim.Native.Nat.{ℕ}
 use native.Mathlib.Omega.{arith}
 use lib.ListN.{length}
 use Rattle.catalog.specs.Frames.{wordsOfAll}
 use Rattle.catalog.specs.State.{start}
 use Rattle.catalog.specs.Checking.{accepted, checked}
-use Rattle.catalog.specs.Definitions.{Definition, catalogFrames, definitions}
-use Rattle.catalog.specs.Soundness.{SoundCatalog, idsOf}
+use Rattle.model_definitions.specs.Definitions.{Definition, catalogFrames, definitions}
+use Rattle.model_definitions.specs.Soundness.{SoundCatalog, idsOf}
 use Rattle.catalog.proofs.FrameWords.{length-words, frames-words}
-use Rattle.catalog.proofs.AcceptedSteps.{accepted-start}
-use Rattle.catalog.proofs.AcceptedFrames.{accepted-frames}
-use Rattle.catalog.proofs.NewNumbers.{all-new}
-use Rattle.catalog.proofs.ModelFrames.{words-of-definitions}
-use Rattle.catalog.proofs.SoundModels.{models-sound}
-use Rattle.catalog.proofs.AcceptedIsSound.{accepted-is-sound}
+use Rattle.model_definitions.proofs.AcceptedSteps.{accepted-start}
+use Rattle.model_definitions.proofs.AcceptedFrames.{accepted-frames}
+use Rattle.model_definitions.proofs.NewNumbers.{all-new}
+use Rattle.model_definitions.proofs.ModelFrames.{words-of-definitions}
+use Rattle.model_definitions.proofs.SoundModels.{models-sound}
+use Rattle.model_definitions.proofs.AcceptedIsSound.{accepted-is-sound}
 
 -- The catalog of sound models is accepted, with their number.
 pub sound-is-accepted : (ds : List Definition) → SoundCatalog ds → checked (wordsOfAll (catalogFrames ds)) ≡ accepted (length ds)

@@ -8,12 +8,12 @@ use lib.Dec.{eqb}
 use Rattle.lists.specs.Each.{Each}
 use Rattle.lists.specs.Members.{In, first, later}
 use Rattle.lists.proofs.TestOutcomes.{clash, both}
 use Rattle.catalog.specs.Frames.{Point, Head, uint16, sunssf, readOnly}
 use Rattle.catalog.specs.Rules.{hasPoint, isScaleFactorPoint, hasScaleFactor, isCountPoint, hasCountPoint}
 use Rattle.catalog.specs.Checking.{accepted, checked}
-use Rattle.catalog.specs.Definitions.{Groups, Definition, definitions}
-use Rattle.catalog.specs.Soundness.{SoundPoint, EachLowerGroup, ScaleResolves, CountResolves}
-use Rattle.catalog.proofs.EveryGroup.{of-lower-groups, of-models}
+use Rattle.model_definitions.specs.Definitions.{Groups, Definition, definitions}
+use Rattle.model_definitions.specs.Soundness.{SoundPoint, EachLowerGroup, ScaleResolves, CountResolves}
+use Rattle.model_definitions.proofs.EveryGroup.{of-lower-groups, of-models}
 
 -- Where the test finds such a point among these, here it is.
 point-found : (such : Point → Bool) (ps : List Point) → hasPoint such ps ≡ true → (p : Point) × (In p ps) × (such p ≡ true)

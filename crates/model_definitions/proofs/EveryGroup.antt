@@ -4,11 +4,11 @@ use mathlib.Core.List.{List, [], _∷_, _++_}
 use Prim.Native.Nat.{ℕ, suc, _≤_}
 use lib.ListN.{length}
 use Rattle.lists.specs.Each.{Each}
 use Rattle.catalog.specs.Frames.{Point, Head}
 use Rattle.catalog.specs.Checking.{accepted, checked}
-use Rattle.catalog.specs.Definitions.{Groups, noGroup, group, Definition, definitions}
-use Rattle.catalog.specs.Soundness.{SoundPoint, SoundHead, SoundGroups, SoundDefinition, EachGroup, EachLowerGroup}
-use Rattle.catalog.proofs.AcceptedIsSound.{accepted-is-sound}
+use Rattle.model_definitions.specs.Definitions.{Groups, noGroup, group, Definition, definitions}
+use Rattle.model_definitions.specs.Soundness.{SoundPoint, SoundHead, SoundGroups, SoundDefinition, EachGroup, EachLowerGroup}
+use Rattle.model_definitions.proofs.AcceptedIsSound.{accepted-is-sound}
 
 module _ (P : List Point → ℕ → Head → List Point → Groups → Type 0) (top : List Point)
     (f : (enclosing : List Point) (level : ℕ) (h : Head) (ps : List Point) (behind : Groups)

@@ -12,12 +12,12 @@ use Rattle.lists.specs.Each.{Each}
 use Rattle.lists.proofs.TestOutcomes.{clash, both}
 use Rattle.point_types.specs.Rows.{TypeRow, rowOf, registersOf}
 use Rattle.point_types.proofs.Table.{one-to-64}
 use Rattle.catalog.specs.Frames.{Point, Head}
 use Rattle.catalog.specs.Rules.{isSizeOf}
 use Rattle.catalog.specs.Checking.{accepted, checked}
-use Rattle.catalog.specs.Definitions.{Groups, pointsSize, definitions}
-use Rattle.catalog.specs.Soundness.{SoundPoint, EachLowerGroup}
-use Rattle.catalog.proofs.EveryGroup.{of-lower-groups, of-models}
+use Rattle.model_definitions.specs.Definitions.{Groups, pointsSize, definitions}
+use Rattle.model_definitions.specs.Soundness.{SoundPoint, EachLowerGroup}
+use Rattle.model_definitions.proofs.EveryGroup.{of-lower-groups, of-models}
 
 -- A size of a type is 1 to 64 registers.
 pub type-size : (code size : ℕ) → isSizeOf code size ≡ true → (1 ≤ size) × (size ≤ 64)

@@ -13,13 +13,13 @@ use Rattle.lists.proofs.TestOutcomes.{clash}
 use Rattle.lists.proofs.TestLaws.{neither, excludes, clause, none-of}
 use Rattle.point_types.specs.Rows.{mayScale}
 use Rattle.values.specs.Classes.{twosComplement, isScaleFactor}
 use Rattle.catalog.specs.Frames.{Point, Head, pointFrame, noScale, fixedScale, scaleByPoint, constantCount, countByPoint}
 use Rattle.catalog.specs.Frames.{fill}
 use Rattle.catalog.specs.State.{OpenGroup}
 use Rattle.catalog.specs.Rules.{inTop, topPoints, hasScaleFactor, hasCountPoint, isSizeOf, isMistyped, scaleFaults}
 use Rattle.catalog.specs.Rules.{countFaults}
-use Rattle.catalog.specs.Definitions.{Groups, noGroup}
-use Rattle.catalog.specs.Soundness.{SoundPoint, SoundHead}
+use Rattle.model_definitions.specs.Definitions.{Groups, noGroup}
+use Rattle.model_definitions.specs.Soundness.{SoundPoint, SoundHead}
 
 -- A point frame breaks neither rule 7 nor rule 8 just where the point is sound.
 pub sound-point : (reach : List Point) (p : Point)

@@ -7,13 +7,13 @@ use native.Mathlib.Omega.{arith}
 use Rattle.lists.specs.Each.{Each}
 use Rattle.lists.specs.Members.{Distinct}
 use Rattle.registers.specs.Registers.{AreRegisters}
 use Rattle.catalog.specs.Frames.{Frame, modelFrame, groupFrame, pointFrame, endFrame, malformed, frames, wordsOf}
 use Rattle.catalog.specs.Frames.{wordsOfAll}
 use Rattle.catalog.specs.Checking.{accepted, checked}
-use Rattle.catalog.specs.Definitions.{Definition, definitionFrames, catalogFrames, parsed, definitions, modelIds}
-use Rattle.catalog.specs.Soundness.{SoundDefinition, idsOf}
-use Rattle.catalog.proofs.ModelFrames.{words-of-definitions}
-use Rattle.catalog.proofs.AcceptedIsSound.{accepted-is-sound}
+use Rattle.model_definitions.specs.Definitions.{Definition, definitionFrames, catalogFrames, parsed, definitions, modelIds}
+use Rattle.model_definitions.specs.Soundness.{SoundDefinition, idsOf}
+use Rattle.model_definitions.proofs.ModelFrames.{words-of-definitions}
+use Rattle.model_definitions.proofs.AcceptedIsSound.{accepted-is-sound}
 
 -- The ids of an accepted catalog's models are distinct.
 pub ids-distinct : (ws : List ℕ) (n : ℕ) → checked ws ≡ accepted n → Distinct (idsOf (definitions ws))

@@ -10,12 +10,12 @@ use lib.Dec.{eqb}
 use Rattle.lists.specs.Each.{Each}
 use Rattle.lists.specs.Members.{among, Distinct}
 use Rattle.lists.proofs.TestLaws.{neither}
 use Rattle.catalog.specs.Frames.{Point, Frame, modelFrame, groupFrame, pointFrame, endFrame, malformed}
-use Rattle.catalog.specs.Definitions.{Groups, noGroup, group, Definition, pointFrames, groupFrames, definitionFrames}
-use Rattle.catalog.specs.Soundness.{numbersOf}
-use Rattle.catalog.proofs.AcceptedFrames.{Numbered}
-use Rattle.catalog.proofs.TreeFrames.{group-frames}
-use Rattle.catalog.proofs.NewNumbers.{New, all-new}
+use Rattle.model_definitions.specs.Definitions.{Groups, noGroup, group, Definition, pointFrames, groupFrames, definitionFrames}
+use Rattle.model_definitions.specs.Soundness.{numbersOf}
+use Rattle.model_definitions.proofs.AcceptedFrames.{Numbered}
+use Rattle.model_definitions.proofs.TreeFrames.{group-frames}
+use Rattle.model_definitions.proofs.NewNumbers.{New, all-new}
 
 -- The frame is no model frame.
 abbrev InModel : Frame → Type 0

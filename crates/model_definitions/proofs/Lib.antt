@@ -1,0 +1,20 @@
+-- The claims
+pub mod AcceptedIsSound
+pub mod SoundIsAccepted
+pub mod ModelFrames
+pub mod ModelIds
+pub mod References
+pub mod GroupSizes
+pub mod FillGroups
+pub mod Removal
+pub mod DefinitionsBack
+-- Laws of the definitions
+pub mod TreeFrames
+pub mod NewNumbers
+pub mod AcceptedSteps
+pub mod AcceptedFrames
+pub mod SoundFrames
+pub mod NumberedModels
+pub mod SoundModels
+pub mod EveryGroup
+pub mod GroupNumbers
