@@ -8,7 +8,7 @@ use native.Mathlib.Omega.{arith}
 use lib.ListN.{take}
 use Rattle.lists.proofs.TestOutcomes.{impossible}
 use Rattle.listing.specs.Listing.{Record, Answer, refused, listed}
-use Rattle.listing.proofs.BehindTheEnd.{listed-behind}
+use Rattle.listed_records.proofs.BehindTheEnd.{listed-behind}
 use Rattle.input.specs.Parsing as Parsing
 use Rattle.input.proofs.CutWords.{Continued, cut-words}
 use Rattle.input.proofs.Refusals.{Outcome, outcome}

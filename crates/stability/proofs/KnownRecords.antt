@@ -14,8 +14,8 @@ use Rattle.layout.specs.Points.{ModelPoint}
 use Rattle.layout.specs.Reading.{points, reading}
 use Rattle.layout.proofs.ReadingSteps.{unknown-left}
 use Rattle.listing.specs.Listing.{Record, listed, listing}
-use Rattle.listing.proofs.WalksBehind.{listed-walks}
-use Rattle.listing.proofs.WalkedModels.{record-of-model}
+use Rattle.listed_records.proofs.WalksBehind.{listed-walks}
+use Rattle.listed_records.proofs.WalkedModels.{record-of-model}
 
 -- A model of which points are read has the id of a definition.
 known-model : (ds : List Definition) (m : Model) (ps : List ModelPoint) → reading ds m ≡ points ps → (b : Bool)

@@ -14,8 +14,8 @@ use Rattle.layout.specs.Reading.{Reading}
 use Rattle.layout.specs.Walks.{pointsOf}
 use Rattle.layout.proofs.PointsInside.{Inside}
 use Rattle.listing.specs.Listing.{Record, Answer, refused, listed, walk}
-use Rattle.listing.proofs.WalkHeaders.{HeadersWalked, walk-headers}
-use Rattle.listing.proofs.WalkedModels.{record-of-model}
+use Rattle.listed_records.proofs.WalkHeaders.{HeadersWalked, walk-headers}
+use Rattle.listed_records.proofs.WalkedModels.{record-of-model}
 
 -- An address lies in the model with an index, of models from address `at` on, or right behind it.
 pub record InModel (at : ℕ) (ms : List Model) (index address : ℕ) : Type 0 where

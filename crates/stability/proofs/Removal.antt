@@ -14,7 +14,7 @@ use Rattle.model_definitions.specs.Removal.{keeping}
 use Rattle.model_definitions.proofs.Removal as catalogs
 use Rattle.listing.specs.Listing.{Record, recordWidth, listed, withRoom, listing, entries, stored, listedTold, told}
 use Rattle.listing.proofs.ListingCases.{with-room, listing-walks}
-use Rattle.listing.proofs.WalksBehind.{listed-walks}
+use Rattle.listed_records.proofs.WalksBehind.{listed-walks}
 use Rattle.stability.specs.Removed.{keepsId, recordsLeft}
 use Rattle.stability.proofs.WalksLeft.{listed-left}
 

@@ -13,7 +13,7 @@ use Rattle.listing.specs.Listing.{Record, allRecords}
 use Rattle.listing.specs.Listing as Listing
 use Rattle.listing.specs.Finding.{isRecord, finding, Target, targetOf}
 use Rattle.listing.specs.Finding as Finding
-use Rattle.listing.proofs.RawValues.{record-inside}
+use Rattle.listed_records.proofs.RawValues.{record-inside}
 use Rattle.writing.specs.Writing.{refusal, rewritten, Answer, refused, written, writingTo, writing, refusedTold, writtenTold, told, mapBehind}
 
 -- ---- Writing to a point

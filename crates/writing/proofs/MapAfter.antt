@@ -23,9 +23,9 @@ use Rattle.layout.proofs.PointPlaces.{point-inside}
 use Rattle.listing.specs.Listing.{Record, recordOf, listed, walk, allRecords}
 use Rattle.listing.specs.Finding.{isRecord, targetOf}
 use Rattle.listing.proofs.ListingCases.{records-walk, walk-records}
-use Rattle.listing.proofs.WalksBehind.{headers-walked}
-use Rattle.listing.proofs.WalkedModels.{records-anew}
-use Rattle.listing.proofs.RecordSources.{record-source, read-with}
+use Rattle.listed_records.proofs.WalksBehind.{headers-walked}
+use Rattle.listed_records.proofs.WalkedModels.{records-anew}
+use Rattle.listed_records.proofs.RecordSources.{record-source, read-with}
 use Rattle.writing.specs.Writing.{refusal, rewritten}
 use Rattle.writing.specs.AfterWriting.{PointAfter, PointBecomes, RecordAfter}
 use Rattle.writing.proofs.ModelAfter.{model-after}

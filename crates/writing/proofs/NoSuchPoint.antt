@@ -13,9 +13,9 @@ use Rattle.listing.specs.Listing.{Record, listed, allRecords, listing}
 use Rattle.listing.specs.Finding.{isRecord, finding, targetOf}
 use Rattle.listing.specs.Finding as Finding
 use Rattle.listing.proofs.WalkSteps.{not-listed}
-use Rattle.listing.proofs.WalksBehind.{listed-walks}
+use Rattle.listed_records.proofs.WalksBehind.{listed-walks}
 use Rattle.listing.proofs.ListingCases.{walk-records}
-use Rattle.listing.proofs.OneRecord.{own-found}
+use Rattle.listed_records.proofs.OneRecord.{own-found}
 use Rattle.writing.specs.Writing.{Answer, refused, writing}
 use Rattle.writing.proofs.WritingCases.{Case, listingRefused, noPoint, pointRefused, pointWritten, writing-case, finding-found, records-number, refusal-number}
 

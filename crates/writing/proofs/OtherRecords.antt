@@ -20,7 +20,7 @@ use Rattle.register_map.specs.Scan.{totalSize, scan}
 use Rattle.layout.specs.Reading.{topOf}
 use Rattle.listing.specs.Listing.{Record, listed, allRecords, listing}
 use Rattle.listing.specs.Finding.{isRecord}
-use Rattle.listing.proofs.RecordSources.{record-source}
+use Rattle.listed_records.proofs.RecordSources.{record-source}
 use Rattle.writing.specs.Writing.{written, writing}
 use Rattle.writing.specs.AfterWriting.{isScaleFactorOf, Holds, rescaled, RecordAfter}
 use Rattle.writing.proofs.AfterCases.{after-elsewhere, after-here, after-scaled, after-unscaled}

@@ -12,9 +12,9 @@ use Rattle.layout.specs.Paths.{pathOf}
 use Rattle.listing.specs.Listing.{Record, listed, allRecords, listing}
 use Rattle.listing.specs.Finding.{isRecord, targetOf}
 use Rattle.listing.proofs.ListingCases.{walk-records}
-use Rattle.listing.proofs.WalksBehind.{listed-walks}
-use Rattle.listing.proofs.OneRecord.{own-found}
-use Rattle.listing.proofs.RawValues.{record-inside, record-raw}
+use Rattle.listed_records.proofs.WalksBehind.{listed-walks}
+use Rattle.listed_records.proofs.OneRecord.{own-found}
+use Rattle.listed_records.proofs.RawValues.{record-inside, record-raw}
 use Rattle.writing.specs.Writing.{rewritten, written, writing}
 use Rattle.writing.proofs.WritingCases.{accepted-write, refusal-none}
 

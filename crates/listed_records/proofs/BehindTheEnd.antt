@@ -10,9 +10,9 @@ use Rattle.register_map.specs.Headers.{opening}
 use Rattle.register_map.specs.Scan.{Model, marked, scan}
 use Rattle.register_map.proofs.BehindTheMarker.{scan-behind, opening-behind}
 use Rattle.layout.specs.Reading.{Reading, reading}
 use Rattle.listing.specs.Listing.{Record, listed, Answer, walk, recordsBy, withRoom, listing}
 use Rattle.listing.proofs.ListingCases.{catalog-refused, accepted-listed, unopened, opened}
-use Rattle.listing.proofs.WalksBehind.{headers-walked, listed-walks}
+use Rattle.listed_records.proofs.WalksBehind.{headers-walked, listed-walks}
 
 module _ (catalog map more : List ℕ) (room : ℕ) (ends : scan map .ending ≡ marked) (fits : length (map ++ more) ≤ 65536) where
   by-opening : (read : Model → Reading) (o : Option ℕ) → opening map ≡ o

@@ -14,9 +14,9 @@ use Rattle.lists.proofs.SelectedLaws.{selected-append, selected-all, selected-n
 use Rattle.register_map.specs.Scan.{Model, sizeOf, totalSize, Ending, marked, broken}
 use Rattle.layout.specs.Points.{ModelPoint}
 use Rattle.layout.specs.Reading.{Reading, unknown, faulty, points}
 use Rattle.listing.specs.Listing.{Record, recordOf, listed, walk}
-use Rattle.listing.specs.Tiling.{recordsWith}
+use Rattle.listed_records.specs.Tiling.{recordsWith}
 use Rattle.listing.proofs.WalkSteps.{not-listed, in-front-listed, walk-unknown, walk-faulty, walk-points}
 
 -- ---- Records with an index
 

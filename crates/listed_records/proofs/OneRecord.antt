@@ -21,10 +21,10 @@ use Rattle.layout.specs.Paths.{depthIn, agreeTo, pathOf}
 use Rattle.layout.proofs.Depths.{agree-itself}
 use Rattle.layout.proofs.Places.{Place}
 use Rattle.layout.proofs.PointPlaces.{point-places}
 use Rattle.listing.specs.Listing.{Record, allRecords, listed}
 use Rattle.layout.specs.Paths.{isAt, isPoint}
 use Rattle.listing.specs.Finding.{isRecord}
-use Rattle.listing.proofs.RecordSources.{record-source, Source}
+use Rattle.listed_records.proofs.RecordSources.{record-source, Source}
 
 -- A record is the one with its own index, number and path.
 own-place : (r : Record) → isRecord (r .index) (r .point .definition .number) (pathOf (r .point)) r ≡ true

@@ -22,10 +22,10 @@ use Rattle.layout.specs.Tiling.{definedPoints, Tiles, PointsTile, BodyTiled}
 use Rattle.layout.proofs.BodyTiling.{read-tiled}
 use Rattle.layout.proofs.Readings.{not-unknown}
 use Rattle.layout.proofs.ReadingSteps.{reading-here, reading-later, unknown-left}
 use Rattle.listing.specs.Listing.{Record, recordOf, listed, walk, listing}
-use Rattle.listing.specs.Tiling.{RecordsTiled, recordsWith}
-use Rattle.listing.proofs.WalksBehind.{listed-walks}
-use Rattle.listing.proofs.ModelRecords.{RecordsOf, model-records}
+use Rattle.listed_records.specs.Tiling.{RecordsTiled, recordsWith}
+use Rattle.listed_records.proofs.WalksBehind.{listed-walks}
+use Rattle.listed_records.proofs.ModelRecords.{RecordsOf, model-records}
 
 -- ---- The definition of a model
 

@@ -7,8 +7,8 @@ use Rattle.lists.specs.Members.{In}
 use Rattle.registers.specs.Registers.{shownRaw}
 use Rattle.register_map.proofs.BodyReplaced.{inside-map, registers-in-map}
 use Rattle.layout.proofs.PointPlaces.{point-inside, point-reads}
 use Rattle.listing.specs.Listing.{Record, listed, allRecords}
-use Rattle.listing.proofs.RecordSources.{record-source}
+use Rattle.listed_records.proofs.RecordSources.{record-source}
 
 module _ (catalog map : List ℕ) (rs : List Record) (headers : ℕ) (all : allRecords catalog map ≡ listed rs headers)
     (r : Record) (there : In r rs) where

@@ -15,10 +15,10 @@ use Rattle.layout.specs.Points.{ModelPoint}
 use Rattle.layout.specs.Reading.{points, readBy, topOf, reading}
 use Rattle.layout.specs.Walks.{Accepted, pointsOf}
 use Rattle.layout.proofs.AcceptedModels.{top-sound, read-known, read-unknown}
 use Rattle.listing.specs.Listing.{Record, listed, allRecords}
 use Rattle.listing.proofs.ListingCases.{records-walk}
-use Rattle.listing.proofs.WalksBehind.{headers-walked}
-use Rattle.listing.proofs.WalkedModels.{record-of-model}
+use Rattle.listed_records.proofs.WalksBehind.{headers-walked}
+use Rattle.listed_records.proofs.WalkedModels.{record-of-model}
 
 -- A model that is read as points, by the sound definition of its id.
 pub record KnownModel (catalog : List ℕ) (m : Model) (ps : List ModelPoint) : Type 0 where

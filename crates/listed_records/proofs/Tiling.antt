@@ -14,9 +14,9 @@ use Rattle.register_map.specs.Scan.{Model, sizeOf, totalSize, scan}
 use Rattle.layout.specs.Points.{ModelPoint}
 use Rattle.layout.specs.Reading.{points, reading}
 use Rattle.layout.specs.Tiling.{BodyTiled}
 use Rattle.listing.specs.Listing.{Record, listed, listing}
-use Rattle.listing.specs.Tiling.{RecordsTiled, recordsWith}
-use Rattle.listing.proofs.RecordsTiling as steps
+use Rattle.listed_records.specs.Tiling.{RecordsTiled, recordsWith}
+use Rattle.listed_records.proofs.RecordsTiling as steps
 
 module _ (catalog registers : List ℕ) (room : ℕ) (rs : List Record) (headers : ℕ)
     (accept : listing catalog registers room ≡ listed rs headers)

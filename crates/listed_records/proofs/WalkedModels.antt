@@ -12,9 +12,9 @@ use Rattle.register_map.specs.Scan.{Model, sizeOf, totalSize, Ending}
 use Rattle.layout.specs.Points.{ModelPoint}
 use Rattle.layout.specs.Reading.{Reading, unknown, faulty, points}
 use Rattle.layout.specs.Walks.{pointsOf}
 use Rattle.listing.specs.Listing.{Record, recordOf, listed, withRecords, walk}
 use Rattle.listing.proofs.WalkSteps.{not-listed, walk-no-records, walk-faulty, walk-points}
-use Rattle.listing.proofs.ModelRecords.{Listed, walk-listed, end-listed}
+use Rattle.listed_records.proofs.ModelRecords.{Listed, walk-listed, end-listed}
 
 -- One of the records of points is the record of one of them.
 in-records : (i at id : ℕ) (ps : List ModelPoint) (r : Record) → In r (map (recordOf i at id) ps)

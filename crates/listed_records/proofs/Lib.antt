@@ -1,0 +1,15 @@
+-- The claims
+pub mod Headers
+pub mod BehindTheEnd
+pub mod Tiling
+pub mod OneRecord
+pub mod RawValues
+pub mod WorkedCases
+-- Laws of the walk over the models of a map
+pub mod WalkHeaders
+pub mod RefusalNumbers
+pub mod WalksBehind
+pub mod ModelRecords
+pub mod WalkedModels
+pub mod RecordSources
+pub mod RecordsTiling
