@@ -1,5 +1,6 @@
-// What a screen shows of a number: its exact decimal text, and whether two quantities are the same amount.
-// Every public call takes any arguments and carries an equation with the definitions of specs/.
+// What a screen shows of a SunSpec point: an exact decimal number, and whether two quantities are the same
+// amount; the text of a string and the bits of an event field are passed on from crates of their own. Every
+// public call takes any arguments and carries an equation with the definitions of specs/.
 mod comparison;
 mod decimals;
 mod powers;
@@ -8,6 +9,9 @@ mod quantities;
 pub use comparison::equal_quantities;
 pub use decimals::decimal;
 pub use decimals::digits_of;
+pub use event_fields::EventBits;
+pub use event_fields::event_bits;
+pub use strings::text;
 
 // The length of the text that was written. Refused: 43 to 46.
 pub enum DecimalText {

@@ -1,7 +1,7 @@
 // The command `events CODE RAW`: how many bits of a bitfield are set, and which is the lowest.
 use crate::fields;
 use crate::output;
-use event_fields::EventBits;
+use display::EventBits;
 
 // Answers the fields from `at` on. False, with nothing written, where they are bad.
 pub(crate) fn run(line: &[u8], at: usize) -> bool {
@@ -16,7 +16,7 @@ pub(crate) fn run(line: &[u8], at: usize) -> bool {
 
 // Writes what `event_bits` answers.
 fn write_bits(type_code: u16, raw: u64) {
-    let bits = event_fields::event_bits(type_code, raw);
+    let bits = display::event_bits(type_code, raw);
     match bits {
         EventBits::Of { count, lowest } => {
             output::unsigned(count as u64);

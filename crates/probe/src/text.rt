@@ -64,6 +64,6 @@ fn text_if<'a>(
 
 // Writes what `text` answers, which is a part of one of the two slices: hence one lifetime for both.
 fn write_text<'a>(map: &'a [u16], asked: Asked, fallback: &'a [u16]) {
-    let words = strings::text(map, asked.address as usize, asked.size as usize, fallback);
+    let words = display::text(map, asked.address as usize, asked.size as usize, fallback);
     output::words(words, words.len());
 }
