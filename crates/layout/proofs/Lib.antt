@@ -21,13 +21,10 @@ pub mod Places
 pub mod PointAddresses
 pub mod PointPlaces
 -- What a record shows of a point
-pub mod PointClasses
-pub mod PointStatus
 pub mod InstanceScales
 -- The frames of a definition as a walk visits them
 pub mod Standing
 pub mod FrameRuns
-pub mod RunSteps
 pub mod AcceptedModels
 pub mod PassedFrames
 pub mod ModelSearch

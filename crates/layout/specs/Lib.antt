@@ -6,4 +6,3 @@ pub mod Paths
 pub mod Locating
 pub mod Tiling
 pub mod Walks
-pub mod Answers

@@ -16,7 +16,7 @@ use Rattle.layout.specs.Layout.{countOf, measured, fillMeasured, groupsSize, fi
 use Rattle.layout.specs.Counts.{groupsPoints, fillPoints, or0}
 use Rattle.layout.proofs.Capping.{capped-factor}
 use Rattle.listing.specs.Promises.{ExtentOf, SameExtent, WithGroup}
-use Rattle.layout.specs.declared.counts.Run.{Run}
+use Rattle.definition_frames.specs.declared.runs.Run.{Run}
 use Rattle.listing.specs.declared.extents.Extent.{Extent}
 
 -- Where a group is still to come, none that was met fills the model.

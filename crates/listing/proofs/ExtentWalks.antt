@@ -13,7 +13,7 @@ use Rattle.layout.proofs.Standing as standing
 use Rattle.layout.proofs.IntoGroups as groups
 use Rattle.layout.proofs.Sizes.{points-small}
 use Rattle.listing.specs.Promises.{RunOf, ExtentOf, SameExtent, WithGroup}
-use Rattle.layout.specs.declared.counts.Run.{Run}
+use Rattle.definition_frames.specs.declared.runs.Run.{Run}
 use Rattle.listing.specs.declared.extents.Extent.{Extent}
 use Rattle.listing.proofs.ExtentSteps.{SummedUp, all-met, one-more}
 

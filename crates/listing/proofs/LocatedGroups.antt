@@ -17,7 +17,7 @@ use Rattle.layout.proofs.LocatingSteps as steps
 use Rattle.layout.proofs.NotedPoints.{begun-all}
 use Rattle.layout.proofs.Sizes.{points-sized, lower-measure}
 use Rattle.listing.specs.Promises.{RunOf, ExtentOf, LocateAsks, ShapeOf}
-use Rattle.layout.specs.declared.counts.Run.{Run}
+use Rattle.definition_frames.specs.declared.runs.Run.{Run}
 use Rattle.listing.specs.declared.extents.Extent.{Extent}
 use Rattle.listing.specs.declared.locating.Shape.{Shape}
 use Rattle.listing.proofs.ExtentWalks.{own-end, own-few}

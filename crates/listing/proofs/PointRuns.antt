@@ -15,8 +15,8 @@ use Rattle.model_definitions.specs.Definitions.{pointsSize}
 use Rattle.layout.specs.Points.{ModelPoint, registersAt, pointAt}
 use Rattle.layout.specs.Layout.{pointsAt}
 use Rattle.layout.specs.Walks.{heldAt, pointOf, scopeIn, instanceIn, begun}
-use Rattle.layout.specs.Answers.{PointShown, shownForm, shownBy}
-use Rattle.layout.specs.declared.points.Shown.{Shown}
+use Rattle.shown_points.specs.Answers.{PointShown, shownForm, shownBy}
+use Rattle.shown_points.specs.declared.Shown.{Shown}
 use Rattle.layout.proofs.Standing as standing
 use Rattle.layout.proofs.NotedPoints.{begun-past, begun-first}
 use Rattle.listing.specs.Listing.{recordNumbers, recordWidth}

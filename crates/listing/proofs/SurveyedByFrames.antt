@@ -21,7 +21,7 @@ use Rattle.layout.proofs.NotedPoints.{noted-length, noted-scope, numbers-in-tab
 use Rattle.layout.proofs.LeftOutPad.{but-one, left-out, no-fill}
 use Rattle.listing.specs.Answers.{surveyForm}
 use Rattle.listing.specs.Promises.{RunOf, ExtentOf, fittedBy, ReadyBy}
-use Rattle.layout.specs.declared.counts.Run.{Run}
+use Rattle.definition_frames.specs.declared.runs.Run.{Run}
 use Rattle.listing.specs.declared.extents.Extent.{Extent}
 use Rattle.listing.specs.declared.surveys.Survey.{Survey}
 use Rattle.listing.proofs.SurveyedModels as models

@@ -28,7 +28,7 @@ use Rattle.layout.proofs.LeftOutPad.{but-one, left-out}
 use Rattle.layout.proofs.CountsAgree.{measures-agree, fills-agree, unimplemented-agrees}
 use Rattle.listing.specs.Answers.{surveyForm}
 use Rattle.listing.specs.Promises.{ExtentOf, fittedBy, ReadyBy}
-use Rattle.layout.specs.declared.counts.Run.{Run}
+use Rattle.definition_frames.specs.declared.runs.Run.{Run}
 use Rattle.listing.specs.declared.extents.Extent.{Extent}
 use Rattle.listing.specs.declared.surveys.Survey.{Survey}
 

@@ -15,13 +15,13 @@ use Rattle.model_definitions.specs.Definitions.{Groups, Content, pointsSize}
 use Rattle.layout.specs.Points.{ModelPoint, Scope, registersAt}
 use Rattle.layout.specs.Layout.{countOf, groupsSize, fillSize, countUnimplemented}
 use Rattle.layout.specs.Counts.{groupsPoints, fillPoints, or0}
-use Rattle.layout.specs.Answers as Layout
+use Rattle.definition_frames.specs.Answers as DefinitionFrames
 use Rattle.layout.specs.Locating.{Located, orElse, locatedOwn, locatedIn}
 use Rattle.layout.specs.Walks.{heldAt, Stands, pastEnd, Ready, begun, scopeIn, IsTable, AtGroups}
 use Rattle.listing.specs.Listing as Listing
 use Rattle.listing.specs.Finding as Finding
 use Rattle.listing.specs.declared.frames.Found.{Found}
-use Rattle.layout.specs.declared.counts.Run.{Run}
+use Rattle.definition_frames.specs.declared.runs.Run.{Run}
 use Rattle.listing.specs.declared.extents.Extent.{Extent}
 use Rattle.listing.specs.declared.surveys.Survey.{Survey}
 use Rattle.listing.specs.declared.locating.Shape.{Shape}
@@ -35,7 +35,7 @@ FoundStands ws Found.Nothing = Unit {0}
 
 -- A run is that of the points of the group at frame `first`.
 abbrev pub RunOf : List ℕ → ℕ → Run → Type 0
-RunOf ws first r = Layout.RunOf (heldAt ws first .points) first r
+RunOf ws first r = DefinitionFrames.RunOf (heldAt ws first .points) first r
 
 -- An extent is that of these groups, with counts from a scope, capped.
 pub record ExtentOf (top : Scope) (gs : Groups) (r : Extent) : Type 0 where

@@ -1,12 +1,12 @@
 // How many registers and points a model takes by its definition, before anything is written.
 use catalog::FILL;
 use catalog::Head;
-use layout::GroupOr;
-use layout::Run;
-use layout::count_of;
-use layout::group_at;
-use layout::is_unimplemented;
-use layout::run_extent;
+use definition_frames::GroupOr;
+use definition_frames::Run;
+use definition_frames::group_at;
+use definition_frames::run_extent;
+use group_instances::count_of;
+use group_instances::is_unimplemented;
 ghost use mathlib.Core.Path.{_≡_};
 ghost use Prim.Native.Nat.{_+_, _*_, _≤_, min};
 ghost use Rattle.catalog.specs.Answers.{headForm};

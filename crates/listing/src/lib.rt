@@ -9,7 +9,7 @@ mod surveys;
 
 use catalog::Checked;
 use catalog::check;
-use layout::NUMBERS;
+use group_instances::NUMBERS;
 pub use records::InstancePath;
 use records::Visit;
 pub use records::WIDTH;

@@ -1,15 +1,15 @@
 // The walk over the points of one model: their records, written into the output list.
 use crate::surveys::LOWER_LEVELS;
 use catalog::Point;
-use layout::GroupOr;
-use layout::PointOr;
-use layout::behind_group;
-use layout::count_of;
-use layout::group_at;
-use layout::note_run;
-use layout::point_at;
-use layout::show;
+use definition_frames::GroupOr;
+use definition_frames::PointOr;
+use definition_frames::behind_group;
+use definition_frames::group_at;
+use definition_frames::point_at;
+use group_instances::count_of;
+use group_instances::note_run;
 use registers::part;
+use shown_points::show;
 ghost use mathlib.Core.Path.{_≡_};
 ghost use mathlib.Core.List.{[], _∷_};
 ghost use Prim.Native.Nat.{_+_, _*_, _-_, _≤_, _<_};

@@ -10,7 +10,7 @@ use crate::survey_plant;
 use crate::surveys::Survey;
 use crate::surveys::survey_model;
 use catalog::Point;
-use layout::NUMBERS;
+use group_instances::NUMBERS;
 use register_map::FIRST_HEADER;
 use register_map::Header;
 use register_map::header_at;

@@ -12,7 +12,7 @@ use Rattle.catalog.specs.Frames.{Point, scaleByPoint, sunssf}
 use Rattle.catalog.specs.Rules.{isSizeOf}
 use Rattle.layout.specs.Points.{statusOf, scaleStatus}
 use Rattle.layout.proofs.LeftOutPad.{one-register-size}
-use Rattle.layout.proofs.PointClasses.{row-of-size}
+use Rattle.shown_points.proofs.PointClasses.{row-of-size}
 
 -- ---- Classes
 

@@ -5,9 +5,9 @@ use native.Mathlib.Omega.{arith}
 use lib.ListN.{length}
 use Rattle.layout.specs.Walks.{heldAt, scopeIn, AtGroups}
 use Rattle.layout.proofs.Standing as standing
-use Rattle.layout.proofs.RunSteps.{held-run}
+use Rattle.definition_frames.proofs.RunSteps.{held-run}
 use Rattle.layout.proofs.IntoGroups as groups
-use Rattle.layout.specs.Answers.{groupOrForm}
+use Rattle.definition_frames.specs.Answers.{groupOrForm}
 use Rattle.listing.specs.Promises.{RunOf}
 use Rattle.listing.proofs.ExtentSteps as steps
 use Rattle.listing.proofs.ExtentWalks as walks

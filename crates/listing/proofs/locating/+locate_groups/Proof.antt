@@ -14,7 +14,7 @@ use Rattle.layout.specs.Layout.{countOf}
 use Rattle.layout.specs.Walks.{heldAt, headOf, levelOf, scopeIn}
 use Rattle.layout.specs.Locating.{locatedIn}
 use Rattle.layout.proofs.Standing as standing
-use Rattle.layout.specs.Answers.{groupOrForm}
+use Rattle.definition_frames.specs.Answers.{groupOrForm}
 use Rattle.listing.specs.Answers.{locatedForm}
 use Rattle.listing.specs.Promises.{LocateAsks}
 use Rattle.listing.proofs.LocatedGroups as steps

@@ -8,7 +8,7 @@ use Rattle.layout.specs.Layout.{countOf}
 use Rattle.layout.specs.Walks.{heldAt, scopeIn}
 use Rattle.layout.specs.Locating.{Located, orElse, locatedIn}
 use Rattle.layout.proofs.Standing as standing
-use Rattle.layout.proofs.RunSteps.{held-run}
+use Rattle.definition_frames.proofs.RunSteps.{held-run}
 use Rattle.listing.specs.Answers.{locatedForm}
 use Rattle.listing.specs.Promises.{RunOf, LocateAsks}
 use Rattle.listing.proofs.locating.locate_model.Statement.{statement}

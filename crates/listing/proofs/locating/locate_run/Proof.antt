@@ -11,7 +11,7 @@ use Rattle.layout.specs.Walks.{heldAt, Stands, begun}
 use Rattle.layout.specs.Locating.{locatedAmong}
 use Rattle.layout.proofs.Standing as standing
 use Rattle.layout.proofs.LocatingSteps.{none-left, none-past, found-first, not-first}
-use Rattle.layout.specs.Answers.{pointOrForm}
+use Rattle.definition_frames.specs.Answers.{pointOrForm}
 use Rattle.listing.proofs.locating.locate_run.Statement.{statement}
 use Rattle.listing.proofs.locating.locate_run.Tie as tie
 

@@ -5,7 +5,7 @@ use native.Mathlib.Omega.{arith}
 use borrow.Author.Needs.{needs}
 use Rattle.layout.specs.Walks.{AtGroups}
 use Rattle.layout.proofs.Standing as standing
-use Rattle.layout.proofs.RunSteps.{held-run}
+use Rattle.definition_frames.proofs.RunSteps.{held-run}
 use Rattle.layout.proofs.IntoGroups as groups
 use Rattle.listing.specs.Promises.{RunOf}
 use Rattle.listing.proofs.ExtentWalks.{own-few}

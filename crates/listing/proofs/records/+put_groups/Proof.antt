@@ -9,7 +9,7 @@ use Rattle.catalog.specs.Answers.{headForm}
 use Rattle.layout.specs.Walks.{heldAt, Stands, pastEnd, levelOf}
 use Rattle.layout.proofs.Standing as standing
 use Rattle.layout.proofs.PassedFrames.{group-passed}
-use Rattle.layout.specs.Answers.{groupOrForm}
+use Rattle.definition_frames.specs.Answers.{groupOrForm}
 use Rattle.listing.specs.declared.records.Progress.{Progress}
 use Rattle.listing.proofs.InstanceSteps as steps
 use Rattle.listing.proofs.GroupsWriting.{Writing}

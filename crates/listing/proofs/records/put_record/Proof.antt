@@ -8,7 +8,7 @@ use lib.Seq.{sets}
 use Rattle.catalog.specs.Answers.{pointForm}
 use Rattle.layout.specs.Points.{pointAt}
 use Rattle.layout.specs.Walks.{scopeIn, instanceIn}
-use Rattle.layout.proofs.PointClasses.{shown-at}
+use Rattle.shown_points.proofs.PointClasses.{shown-at}
 use Rattle.listing.specs.Listing.{recordWidth}
 use Rattle.listing.proofs.PointRuns.{shown-numbers}
 use Rattle.listing.proofs.WrittenRecords.{written-one}

@@ -5,7 +5,7 @@ use native.Mathlib.Omega.{arith}
 use borrow.Author.Needs.{needs}
 use lib.ListN.{length}
 use Rattle.catalog.specs.Answers.{pointForm}
-use Rattle.layout.specs.Answers.{pointOrForm}
+use Rattle.definition_frames.specs.Answers.{pointOrForm}
 use Rattle.listing.proofs.PointRuns.{StillWrites, still-all, still-within, still-past, still-other, first-fits, still-first}
 use Rattle.listing.proofs.records.put_run.Statement.{statement}
 use Rattle.listing.proofs.records.put_run.Tie as tie

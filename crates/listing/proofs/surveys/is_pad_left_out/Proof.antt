@@ -4,7 +4,7 @@ use borrow.Author.Needs.{needs}
 use borrow.Author.Tests.{ne-eqb, not-true, not-false}
 use Rattle.layout.specs.Walks.{heldAt}
 use Rattle.layout.proofs.LeftOutPad as pads
-use Rattle.layout.specs.Answers.{groupOrForm}
+use Rattle.definition_frames.specs.Answers.{groupOrForm}
 use Rattle.listing.proofs.surveys.is_pad_left_out.Statement.{statement}
 use Rattle.listing.proofs.surveys.is_pad_left_out.Tie as tie
 

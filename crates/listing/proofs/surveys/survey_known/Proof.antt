@@ -7,7 +7,7 @@ use Rattle.catalog.specs.Rules.{run}
 use Rattle.model_definitions.specs.Definitions.{pointsSize}
 use Rattle.layout.specs.Walks.{onward, heldAt, noted, begun, begunAt}
 use Rattle.layout.proofs.FrameRuns.{held-noted}
-use Rattle.layout.proofs.RunSteps.{held-run}
+use Rattle.definition_frames.proofs.RunSteps.{held-run}
 use Rattle.layout.proofs.AcceptedModels.{accepted-few}
 use Rattle.listing.specs.Promises.{RunOf}
 use Rattle.listing.proofs.SurveyedModels as models

@@ -1,0 +1,46 @@
+-- What the code's types mean.
+use mathlib.Core.Path.{_≡_}
+use mathlib.Core.Bool.{Bool}
+use mathlib.Core.List.{List}
+use mathlib.Core.Option.{Option, none, some}
+use Prim.Native.Nat.{ℕ, _+_}
+use lib.ListN.{length}
+use Rattle.catalog.specs.Frames as Frames
+use Rattle.catalog.specs.Answers.{headForm, pointForm}
+use Rattle.model_definitions.specs.Definitions.{pointsSize}
+use Rattle.layout.specs.Reading.{endsWithPad}
+use Rattle.definition_frames.specs.declared.frames.PointOr.{PointOr}
+use Rattle.definition_frames.specs.declared.frames.GroupOr.{GroupOr}
+use Rattle.definition_frames.specs.declared.runs.Run.{Run}
+
+-- A frame's point, if it is a point frame.
+abbrev pub pointOrForm : PointOr → Option Frames.Point
+pointOrForm (PointOr.Point p) = some (pointForm p)
+pointOrForm PointOr.Other = none
+
+-- A frame's head, if it is a group frame.
+abbrev pub groupOrForm : GroupOr → Option Frames.Head
+groupOrForm (GroupOr.Group h) = some (headForm h)
+groupOrForm GroupOr.Other = none
+
+-- A run of points: its registers, its number of points, the frame after it, and whether its last point is a pad.
+pub record PointRun : Type 0 where
+  pub size : ℕ
+  pub points : ℕ
+  pub next : ℕ
+  pub pad : Bool
+
+abbrev pub runForm : Run → PointRun
+runForm r = record { size = r .size; points = r .points; next = r .next; pad = r .«ends_with_pad» }
+
+-- The run of these points from frame `first` on.
+abbrev pub runOf : List Frames.Point → ℕ → PointRun
+runOf ps first =
+    record { size = pointsSize ps; points = length ps; next = first + length ps; pad = endsWithPad ps }
+
+-- The same, part by part.
+pub record RunOf (ps : List Frames.Point) (first : ℕ) (r : Run) : Type 0 where
+  pub size : r .size ≡ pointsSize ps
+  pub points : r .points ≡ length ps
+  pub next : r .next ≡ first + length ps
+  pub pad : r .«ends_with_pad» ≡ endsWithPad ps

@@ -1,0 +1,87 @@
+// The frames of a definition, as a walk reads them.
+use catalog::Frame;
+use catalog::Head;
+use catalog::Point;
+use catalog::read_frame;
+ghost use mathlib.Core.Path.{_≡_};
+ghost use Prim.Native.Nat.{_+_, _/_, _≤_};
+ghost use lib.ListN.{length};
+ghost use Rattle.catalog.specs.Frames.{frameIn};
+ghost use Rattle.layout.specs.Walks.{pointOf, headOf, openBehind, onward, framesOfGroup};
+ghost use Rattle.definition_frames.specs.Answers.{pointOrForm, groupOrForm};
+
+// A point frame, or any other.
+pub enum PointOr {
+    Point(Point),
+    Other,
+}
+
+// A group frame, or any other.
+pub enum GroupOr {
+    Group(Head),
+    Other,
+}
+
+// Is frame i a point, and which?
+pub fn point_at(catalog: &[u16], i: usize) -> PointOr
+    ensures { λ r. ⌜ pointOrForm r ≡ pointOf (frameIn (now (catalog .entry)) i) ⌝ }
+{
+    let frame = read_frame(catalog, i);
+    match frame {
+        Frame::Model(_) => PointOr::Other,
+        Frame::Group(_) => PointOr::Other,
+        Frame::Point(point) => PointOr::Point(point),
+        Frame::End => PointOr::Other,
+        Frame::Malformed => PointOr::Other,
+    }
+}
+
+// Is frame i a group, and which?
+pub fn group_at(catalog: &[u16], i: usize) -> GroupOr
+    ensures { λ r. ⌜ groupOrForm r ≡ headOf (frameIn (now (catalog .entry)) i) ⌝ }
+{
+    let frame = read_frame(catalog, i);
+    match frame {
+        Frame::Model(_) => GroupOr::Other,
+        Frame::Group(head) => GroupOr::Group(head),
+        Frame::Point(_) => GroupOr::Other,
+        Frame::End => GroupOr::Other,
+        Frame::Malformed => GroupOr::Other,
+    }
+}
+
+// The frame after the group whose group frame is frame i, from that frame to its end frame. Where the frames end first, the
+// number of frames; where there is no frame i, i itself.
+pub fn behind_group(catalog: &[u16], i: usize) -> usize
+    ensures { λ r. ⌜ r ≡ i + framesOfGroup (onward (now (catalog .entry)) i) ⌝ }
+{
+    let frames = catalog.len() / 8;
+    if frames <= i {
+        return i;
+    }
+    let mut at = i + 1;
+    let mut depth = 1usize;
+    while at < frames {
+        if depth == 0 {
+            return at;
+        }
+        depth = depth_behind(catalog, at, depth);
+        at += 1;
+    }
+    at
+}
+
+// The number of groups that are open after frame i, given the number before it.
+fn depth_behind(catalog: &[u16], i: usize, depth: usize) -> usize
+    requires { ⌜ (1 ≤ depth) × (depth ≤ length (now catalog) / 8) ⌝ }
+    ensures { λ r. ⌜ r ≡ openBehind (frameIn (now (catalog .entry)) i) depth ⌝ }
+{
+    let frame = read_frame(catalog, i);
+    match frame {
+        Frame::Model(_) => depth,
+        Frame::Group(_) => depth + 1,
+        Frame::Point(_) => depth,
+        Frame::End => depth - 1,
+        Frame::Malformed => depth,
+    }
+}

@@ -1,0 +1,12 @@
+// The frames of a model's definition as a walk visits them: the point or group at a frame, the frame after a group, and the
+// run of points at a frame. Every public call takes any arguments.
+mod frames;
+mod runs;
+
+pub use frames::GroupOr;
+pub use frames::PointOr;
+pub use frames::behind_group;
+pub use frames::group_at;
+pub use frames::point_at;
+pub use runs::Run;
+pub use runs::run_extent;

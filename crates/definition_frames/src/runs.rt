@@ -1,0 +1,55 @@
+// The run of points at a frame: their registers, their number, and a pad at its end.
+use crate::frames::PointOr;
+use crate::frames::point_at;
+use catalog::PAD;
+ghost use mathlib.Core.Path.{_≡_};
+ghost use lib.ListN.{take};
+ghost use Rattle.catalog.specs.Rules.{run};
+ghost use Rattle.layout.specs.Walks.{onward};
+ghost use Rattle.definition_frames.specs.Answers.{runForm, runOf};
+
+// The most frames of a catalog.
+const FRAMES: usize = 4096;
+
+// A run of points: their registers, their number, the frame after them, and whether the last is a pad.
+pub struct Run {
+    pub size: usize,
+    pub points: usize,
+    pub next: usize,
+    pub ends_with_pad: bool,
+}
+
+// The run of point frames from frame `first` on. Of one that is longer than any catalog, the first 4,096 frames.
+pub fn run_extent(catalog: &[u16], first: usize) -> Run
+    ensures { λ r. ⌜ runForm r ≡ runOf (take 4096 (run (onward (now (catalog .entry)) first))) first ⌝ }
+{
+    let mut size = 0usize;
+    let mut points = 0usize;
+    let mut ends_with_pad = false;
+    let mut i = first;
+    while points < FRAMES {
+        let next = point_at(catalog, i);
+        match next {
+            PointOr::Point(point) => {
+                size += point.size as usize;
+                ends_with_pad = point.type_code == PAD;
+                points += 1;
+                i += 1;
+            }
+            PointOr::Other => {
+                return Run {
+                    size,
+                    points,
+                    next: i,
+                    ends_with_pad,
+                };
+            }
+        }
+    }
+    Run {
+        size,
+        points,
+        next: i,
+        ends_with_pad,
+    }
+}

@@ -1,0 +1,20 @@
+-- `group_instances::counts::is_unimplemented` meets its contract.
+use borrow.Author.Needs.{needs}
+use borrow.Author.Tests.{eq-eqb, ne-eqb}
+use Rattle.group_instances.proofs.counts.is_unimplemented.Statement.{statement}
+use Rattle.group_instances.proofs.counts.is_unimplemented.Tie as tie
+
+returns : tie.Need-returns
+returns c = simp (ne-eqb _ _ (c .if1 .taken))
+
+cast-entry-of : tie.Need-cast-entry-of
+cast-entry-of c = search needs
+
+entry-of-requires : tie.Need-entry-of-requires
+entry-of-requires c κs = search needs
+
+returns-2 : tie.Need-returns-2
+returns-2 c = simp (eq-eqb _ _ (c .before .before .if1 .left), ← c .entry-of .ensures)
+
+pub is-unimplemented-spec : {M : Type 1} → statement M
+is-unimplemented-spec = tie.close (tie.spec returns cast-entry-of entry-of-requires returns-2)

@@ -1,0 +1,144 @@
+-- `group_instances::tables::note_run` meets its contract: recording the points that are left gives what recording all gives.
+use mathlib.Core.Path.{_≡_, refl, sym, ap, _∙_}
+use mathlib.Core.List.{List}
+use Prim.Native.Nat.{_+_, _-_, _/_}
+use native.Mathlib.Omega.{arith}
+use borrow.Author.Needs.{needs}
+use lib.ListN.{length, getD, length-set}
+use Rattle.catalog.specs.Frames.{Point}
+use Rattle.catalog.specs.Rules.{run}
+use Rattle.catalog.specs.Answers.{pointForm}
+use Rattle.layout.specs.Walks.{onward, noted, begun}
+use Rattle.definition_frames.specs.Answers.{pointOrForm}
+use Rattle.layout.proofs.FrameRuns.{run-more, run-ends}
+use Rattle.layout.proofs.NotedPoints.{note-first, note-none, note-past}
+use Rattle.group_instances.proofs.tables.note_run.Statement.{statement}
+use Rattle.group_instances.proofs.tables.note_run.Tie as tie
+
+abbrev Inv-loop : tie.InvT-loop
+Inv-loop catalog first body offset table₀ i₀ at₀ table i at =
+    (noted body at (begun (length body) at (run (onward catalog i))) table
+    ≡ noted body offset (begun (length body) offset (run (onward catalog first))) table₀)
+    × (length table ≡ length table₀)
+
+abbrev μ-loop : tie.MeasureT-loop
+μ-loop catalog first body offset table₀ i₀ at₀ table i at = length catalog / 8 - i
+
+loop-holds : tie.Need-loop-holds Inv-loop μ-loop
+loop-holds c = (refl, refl)
+
+point-at-requires : tie.Need-point-at-requires Inv-loop μ-loop
+point-at-requires c κs = search needs
+
+enum-known-next : tie.Need-enum-known-next Inv-loop μ-loop
+enum-known-next c = search needs
+
+cast-set-entry : tie.Need-cast-set-entry Inv-loop μ-loop
+cast-set-entry c = search needs
+
+mul-set-entry : tie.Need-mul-set-entry Inv-loop μ-loop
+mul-set-entry c = search needs
+
+shared-slice-read-set-entry : tie.Need-shared-slice-read-set-entry Inv-loop μ-loop
+shared-slice-read-set-entry c = search needs
+
+set-entry-requires : tie.Need-set-entry-requires Inv-loop μ-loop
+set-entry-requires c κs = search needs
+
+cast-at : tie.Need-cast-at Inv-loop μ-loop
+cast-at c = search needs
+
+add-at : tie.Need-add-at Inv-loop μ-loop
+add-at c = search needs
+
+add-i : tie.Need-add-i Inv-loop μ-loop
+add-i c =
+    let read = c .before .before .before .before .before .before .before .before in
+    let head = read .before .before .before .before in
+    let a = head .before .before .before .before .args in
+    let l = head .loop in
+    let p = pointForm (read .next .given .0 .0) in
+    let f = sym (read .before .before .point-at .ensures) ∙ ap pointOrForm (read .next .given .1) in
+    let more = run-more (a .catalog .now) (l .i) p f in
+    omega (arith, more .0)
+
+loop-less : tie.Need-loop-less Inv-loop μ-loop
+loop-less c =
+    let read = c .before .before .before .before .before .before .before .before in
+    let head = read .before .before .before .before in
+    let a = head .before .before .before .before .args in
+    let l = head .loop in
+    let p = pointForm (read .next .given .0 .0) in
+    let f = sym (read .before .before .point-at .ensures) ∙ ap pointOrForm (read .next .given .1) in
+    let more = run-more (a .catalog .now) (l .i) p f in
+    omega (arith, more .0)
+
+loop-again : tie.Need-loop-again Inv-loop μ-loop
+loop-again c =
+    let read = c .before .before .before .before .before .before .before .before in
+    let head = read .before .before .before .before in
+    let a = head .before .before .before .before .args in
+    let l = head .loop in
+    let p = pointForm (read .next .given .0 .0) in
+    let f = sym (read .before .before .point-at .ensures) ∙ ap pointOrForm (read .next .given .1) in
+    let more = run-more (a .catalog .now) (l .i) p f in
+    let body = a .body .now in
+    let stored = c .before .before .before .set-entry .ensures in
+    let rest = begun (length body) (l .at + p .size) (run (onward (a .catalog .now) (l .i + 1))) in (
+      ap (noted body (l .at + p .size) rest) stored
+          ∙ note-first body (l .at) p (run (onward (a .catalog .now) (l .i + 1))) (l .table) (omega arith)
+          ∙ ap (λ (ps : List Point). noted body (l .at) (begun (length body) (l .at) ps) (l .table)) (sym (more .1))
+          ∙ l .inv .0,
+      ap length stored ∙ length-set (l .table) (p .number) (getD body (l .at) 0) ∙ l .inv .1,
+    )
+
+enum-told : tie.Need-enum-told Inv-loop μ-loop
+enum-told c = search needs
+
+same-length : tie.Need-same-length Inv-loop μ-loop
+same-length c = search needs
+
+returns : tie.Need-returns Inv-loop μ-loop
+returns c =
+    let head = c .before .before .before .before in
+    let a = head .before .before .before .before .args in
+    let l = head .loop in
+    let body = a .body .now in
+    let f = sym (c .before .before .point-at .ensures) ∙ ap pointOrForm (c .enum-told .given .1) in
+    sym (note-none body (l .at) (l .table))
+    ∙ ap (λ (ps : List Point). noted body (l .at) (begun (length body) (l .at) ps) (l .table))
+    (sym (run-ends (a .catalog .now) (l .i) f))
+    ∙ l .inv .0
+
+same-length-2 : tie.Need-same-length-2 Inv-loop μ-loop
+same-length-2 c = search needs
+
+returns-2 : tie.Need-returns-2 Inv-loop μ-loop
+returns-2 c =
+    let a = c .before .before .before .before .before .args in
+    let l = c .before .loop in
+    sym (note-past (a .body .now) (l .at) (run (onward (a .catalog .now) (l .i))) (l .table) (omega arith)) ∙ l .inv .0
+
+pub note-run-spec : {M : Type 1} → statement M
+note-run-spec =
+    tie.close
+    (tie.spec
+    Inv-loop
+    μ-loop
+    loop-holds
+    point-at-requires
+    enum-known-next
+    cast-set-entry
+    mul-set-entry
+    shared-slice-read-set-entry
+    set-entry-requires
+    cast-at
+    add-at
+    add-i
+    loop-less
+    loop-again
+    enum-told
+    same-length
+    returns
+    same-length-2
+    returns-2)

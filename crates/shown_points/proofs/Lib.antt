@@ -1,0 +1,2 @@
+pub mod PointClasses
+mod PointStatus
