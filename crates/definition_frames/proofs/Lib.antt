@@ -1,1 +1,2 @@
 pub mod RunSteps
+pub mod PadTests

@@ -1,9 +1,10 @@
 -- What the code's types mean.
 use mathlib.Core.Path.{_≡_}
-use mathlib.Core.Bool.{Bool}
+use mathlib.Core.Bool.{Bool, true, false, _&&_}
 use mathlib.Core.List.{List}
 use mathlib.Core.Option.{Option, none, some}
 use Prim.Native.Nat.{ℕ, _+_}
+use lib.Dec.{eqb}
 use lib.ListN.{length}
 use Rattle.catalog.specs.Frames as Frames
 use Rattle.catalog.specs.Answers.{headForm, pointForm}
@@ -44,3 +45,13 @@ pub record RunOf (ps : List Frames.Point) (first : ℕ) (r : Run) : Type 0 where
   pub points : r .points ≡ length ps
   pub next : r .next ≡ first + length ps
   pub pad : r .«ends_with_pad» ≡ endsWithPad ps
+
+-- Is there no group?
+abbrev pub isNone : Option Frames.Head → Bool
+isNone none = true
+isNone (some h) = false
+
+-- Is the last pad of a model left out, by the run of its points, the group after them and the length? Document 01 allows it in a
+-- model of id 1 that has no groups and is one register shorter than its points.
+abbrev pub lacksPad : ℕ → PointRun → Option Frames.Head → ℕ → Bool
+lacksPad id run next len = eqb id 1 && (run .pad && (eqb (len + 1) (run .size) && isNone next))

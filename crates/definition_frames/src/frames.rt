@@ -26,8 +26,8 @@ pub enum GroupOr {
 pub fn point_at(catalog: &[u16], i: usize) -> PointOr
     ensures { λ r. ⌜ pointOrForm r ≡ pointOf (frameIn (now (catalog .entry)) i) ⌝ }
 {
-    let frame = read_frame(catalog, i);
-    match frame {
+    let found = read_frame(catalog, i);
+    match found {
         Frame::Model(_) => PointOr::Other,
         Frame::Group(_) => PointOr::Other,
         Frame::Point(point) => PointOr::Point(point),
@@ -52,7 +52,7 @@ pub fn group_at(catalog: &[u16], i: usize) -> GroupOr
 
 // The frame after the group whose group frame is frame i, from that frame to its end frame. Where the frames end first, the
 // number of frames; where there is no frame i, i itself.
-pub fn behind_group(catalog: &[u16], i: usize) -> usize
+pub fn after_group(catalog: &[u16], i: usize) -> usize
     ensures { λ r. ⌜ r ≡ i + framesOfGroup (onward (now (catalog .entry)) i) ⌝ }
 {
     let frames = catalog.len() / 8;
@@ -65,18 +65,18 @@ pub fn behind_group(catalog: &[u16], i: usize) -> usize
         if depth == 0 {
             return at;
         }
-        depth = depth_behind(catalog, at, depth);
+        depth = depth_after(catalog, at, depth);
         at += 1;
     }
     at
 }
 
-// The number of groups that are open after frame i, given the number before it.
-fn depth_behind(catalog: &[u16], i: usize, depth: usize) -> usize
+// The number of groups that are open after the frame `at`, given the number before it.
+fn depth_after(catalog: &[u16], at: usize, depth: usize) -> usize
     requires { ⌜ (1 ≤ depth) × (depth ≤ length (now catalog) / 8) ⌝ }
-    ensures { λ r. ⌜ r ≡ openBehind (frameIn (now (catalog .entry)) i) depth ⌝ }
+    ensures { λ r. ⌜ r ≡ openBehind (frameIn (now (catalog .entry)) at) depth ⌝ }
 {
-    let frame = read_frame(catalog, i);
+    let frame = read_frame(catalog, at);
     match frame {
         Frame::Model(_) => depth,
         Frame::Group(_) => depth + 1,

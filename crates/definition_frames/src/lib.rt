@@ -5,8 +5,9 @@ mod runs;
 
 pub use frames::GroupOr;
 pub use frames::PointOr;
-pub use frames::behind_group;
+pub use frames::after_group;
 pub use frames::group_at;
 pub use frames::point_at;
 pub use runs::Run;
+pub use runs::is_pad_left_out;
 pub use runs::run_extent;

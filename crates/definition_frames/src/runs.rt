@@ -1,12 +1,15 @@
 // The run of points at a frame: their registers, their number, and a pad at its end.
+use crate::frames::GroupOr;
 use crate::frames::PointOr;
+use crate::frames::group_at;
 use crate::frames::point_at;
 use catalog::PAD;
 ghost use mathlib.Core.Path.{_≡_};
 ghost use lib.ListN.{take};
+ghost use Rattle.catalog.specs.Frames.{frameIn};
 ghost use Rattle.catalog.specs.Rules.{run};
-ghost use Rattle.layout.specs.Walks.{onward};
-ghost use Rattle.definition_frames.specs.Answers.{runForm, runOf};
+ghost use Rattle.layout.specs.Walks.{headOf, onward};
+ghost use Rattle.definition_frames.specs.Answers.{lacksPad, runForm, runOf};
 
 // The most frames of a catalog.
 const FRAMES: usize = 4096;
@@ -51,5 +54,29 @@ pub fn run_extent(catalog: &[u16], first: usize) -> Run
         points,
         next: i,
         ends_with_pad,
+    }
+}
+
+// Is the last pad of a model left out? Only in a model of id 1 that has no groups and is one register shorter than its
+// points, which are `run`.
+pub fn is_pad_left_out(catalog: &[u16], id: u16, run: Run, length: usize) -> bool
+    ensures { λ r. ⌜ r ≡ lacksPad id (runForm run) (headOf (frameIn (now (catalog .entry)) (run .next))) length ⌝ }
+{
+    if id != 1 {
+        return false;
+    }
+    if !run.ends_with_pad {
+        return false;
+    }
+    if run.size <= length {
+        return false;
+    }
+    if run.size - length != 1 {
+        return false;
+    }
+    let next = group_at(catalog, run.next);
+    match next {
+        GroupOr::Group(_) => false,
+        GroupOr::Other => true,
     }
 }

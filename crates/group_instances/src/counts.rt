@@ -11,6 +11,13 @@ ghost use Rattle.catalog.specs.Frames.{countByPoint};
 ghost use Rattle.catalog.specs.Answers.{headForm};
 ghost use Rattle.layout.specs.Layout.{countOf};
 ghost use Rattle.layout.specs.Walks.{scopeIn};
+ghost use Rattle.group_instances.specs.Fills.{filled, fillForm};
+
+// The count of a fill group, or that the length of the model does not fit (29).
+pub enum Fill {
+    Count(usize),
+    NoFit,
+}
 
 // The number of instances of a group. `fill` is the count of a fill group.
 pub fn count_of(table: &[u16], head: Head, fill: usize) -> usize
@@ -34,4 +41,25 @@ pub fn is_unimplemented(table: &[u16], head: Head) -> bool
         return false;
     }
     entry_of(table, head.count as usize) == 0xFFFF
+}
+
+// The count of a fill group whose instances have `size` registers, in what `rest` registers leave of a length. Where there is
+// no fill group, `size` is 0 and nothing may be left.
+pub fn fill_count(length: usize, rest: usize, size: usize) -> Fill
+    ensures { λ r. ⌜ fillForm r ≡ filled length rest size ⌝ }
+{
+    if length < rest {
+        return Fill::NoFit;
+    }
+    let left = length - rest;
+    if size == 0 {
+        if left != 0 {
+            return Fill::NoFit;
+        }
+        return Fill::Count(0);
+    }
+    if left % size != 0 {
+        return Fill::NoFit;
+    }
+    Fill::Count(left / size)
 }

@@ -1,9 +1,17 @@
-// An instance of a group: the registers of the points in its scope, and how many instances a group has.
+// An instance of a group: its path, the registers of the points in its scope, and how many instances a group has.
 // Every public call takes any arguments.
 mod counts;
+mod paths;
 mod tables;
 
+pub use counts::Fill;
 pub use counts::count_of;
+pub use counts::fill_count;
 pub use counts::is_unimplemented;
+pub use paths::InstancePath;
+pub use paths::LOWER_LEVELS;
+pub use paths::is_zero_from;
+pub use paths::number_at;
+pub use paths::with_number;
 pub use tables::NUMBERS;
 pub use tables::note_run;

@@ -102,34 +102,7 @@ no-fill c body e = go (c .groups) e
     go noGroup t = refl
     go (group h ps inside behind) t = clash (sym t)
 
--- ---- The test
-
-module _ (id : ℕ) (c : Content) (len : ℕ) where
-  -- No pad is left out of points that do not end with one,
-  pub kept-without-pad : endsWithPad (c .points) ≡ false → padLeftOut id c len ≡ false
-  kept-without-pad e =
-      let inner : endsWithPad (c .points) && eqb (len + 1) (pointsSize (c .points)) ≡ false = rw e in
-      ap (λ t. eqb id 1 && (hasNoGroup (c .groups) && t)) inner ∙ ap (λ t. eqb id 1 && t) (and-false (hasNoGroup (c .groups)))
-      ∙ and-false (eqb id 1)
-
-  -- nor at any other length,
-  pub kept-by-length : (len + 1 ≡ pointsSize (c .points) → ⊥) → padLeftOut id c len ≡ false
-  kept-by-length n =
-      ap (λ t. eqb id 1 && (hasNoGroup (c .groups) && (endsWithPad (c .points) && t)))
-      (ne-eqb (len + 1) (pointsSize (c .points)) n)
-      ∙ ap (λ t. eqb id 1 && (hasNoGroup (c .groups) && t)) (and-false (endsWithPad (c .points)))
-      ∙ ap (λ t. eqb id 1 && t) (and-false (hasNoGroup (c .groups)))
-      ∙ and-false (eqb id 1)
-
-  -- nor with groups.
-  pub kept-with-groups : hasNoGroup (c .groups) ≡ false → padLeftOut id c len ≡ false
-  kept-with-groups e =
-      ap (λ t. eqb id 1 && (t && (endsWithPad (c .points) && eqb (len + 1) (pointsSize (c .points))))) e ∙ and-false (eqb id 1)
-
-  -- In model 1 without groups, at this length, it is.
-  pub one-short : id ≡ 1 → hasNoGroup (c .groups) ≡ true → endsWithPad (c .points) ≡ true → len + 1 ≡ pointsSize (c .points)
-      → padLeftOut id c len ≡ true
-  one-short i g p l = simp (eq-eqb id 1 i, g, p, eq-eqb (len + 1) (pointsSize (c .points)) l)
+-- ---- The frame after the points
 
 module _ (ws : List ℕ) (first next : ℕ) (s : Stands ws first) (n : next ≡ first + length (heldAt ws first .points)) where
   -- Behind the points stands a group frame where there are groups,

@@ -26,18 +26,19 @@ use Rattle.listing.specs.declared.records.Progress.{Progress}
 use Rattle.listing.proofs.WrittenRecords.{written-none, written-length, written-append}
 
 -- The numbers of a record from what is shown of its point.
-pub shown-numbers : (visit : Visit) (body table path : List ℕ) (offset : ℕ) (p : Point) (shown : Shown)
+pub shown-numbers : (visit : Visit) (body table path : List ℕ) (offset address : ℕ) (p : Point) (shown : Shown)
+    → address ≡ visit .address + 2 + offset
     → shownForm shown ≡ shownBy p (classified (p .typeCode) (join (registersAt body offset p))) (registersAt body offset p)
     (scopeIn table (p .scale))
-    → visit .index ∷ visit .id ∷ p .number ∷ getD path 0 0 ∷ getD path 1 0 ∷ getD path 2 0 ∷ (visit .address + 2 + offset)
+    → visit .index ∷ visit .id ∷ p .number ∷ getD path 0 0 ∷ getD path 1 0 ∷ getD path 2 0 ∷ address
     ∷ shown .status ∷ shown .raw ∷ shown .scale ∷ []
     ≡ recordNumbers (recordAt visit (pointAt body (instanceIn table path) offset p))
 unfolding recordNumbers pointAt
-shown-numbers visit body table path offset p shown s =
+shown-numbers visit body table path offset address p shown at s =
     let status = ap (λ (x : PointShown). x .status) s in
     let raw = ap (λ (x : PointShown). x .raw) s in
     let scale = ap (λ (x : PointShown). x .scale) s in
-    rw (status, raw, scale)
+    rw (at, status, raw, scale)
 
 -- The points that are left to write.
 abbrev pub leftAt : List ℕ → List ℕ → Progress → List Point

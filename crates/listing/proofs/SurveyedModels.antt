@@ -26,8 +26,10 @@ use Rattle.layout.proofs.PointCounts.{points-counted, content-counted, groups-f
 use Rattle.layout.proofs.Capping.{capped-remainder, capped-quotient}
 use Rattle.layout.proofs.LeftOutPad.{but-one, left-out}
 use Rattle.layout.proofs.CountsAgree.{measures-agree, fills-agree, unimplemented-agrees}
+use Rattle.group_instances.specs.Fills.{filled}
+use Rattle.group_instances.proofs.FillCounts as fills
 use Rattle.listing.specs.Answers.{surveyForm}
-use Rattle.listing.specs.Promises.{ExtentOf, fittedBy, ReadyBy}
+use Rattle.listing.specs.Promises.{ExtentOf, surveyedBy, fittedBy, ReadyBy}
 use Rattle.definition_frames.specs.declared.runs.Run.{Run}
 use Rattle.listing.specs.declared.extents.Extent.{Extent}
 use Rattle.listing.specs.declared.surveys.Survey.{Survey}
@@ -69,42 +71,27 @@ extent-agrees s s′ top enclosing level g r agree e x =
 fitted-rest : (first L T N G P : ℕ) (run : Run) (groups : Extent) → L ≤ 65535 → P ≤ G
     → run .size ≡ T → run .points ≡ N → groups .size ≡ min G 65536 → groups .points ≡ min P 65536 → groups .«fill_size» ≡ 0
     → fittedBy first run groups L ≡ elim (eqb L (T + G)) [ true ↦ Survey.Points first (N + P) 0 | false ↦ Survey.Refused 29 ]
-fitted-rest first L T N G P run groups short few t n g p z =
-    go (ltb L (run .size + groups .size)) (eqb L (T + G)) refl refl
+fitted-rest first L T N G P run groups short few t n g p z = go (eqb L (T + G)) refl
   where
     rest : ℕ
     rest = run .size + groups .size
 
-    all : ℕ
-    all = run .points + groups .points
+    size : ℕ
+    size = groups .«fill_size»
 
-    go : (a b : Bool) → ltb L rest ≡ a → eqb L (T + G) ≡ b
-        → _≡_ {A = Survey} (elim a [
-          | true ↦ Survey.Refused 29
-          | false ↦ elim (eqb (groups .«fill_size») 0) [
-            | true ↦ elim (eqb L rest) [ true ↦ Survey.Points first all 0 | false ↦ Survey.Refused 29 ]
-            | false ↦ elim (eqb ((L - rest) % groups .«fill_size») 0) [
-              | true ↦ Survey.Points first (all + (L - rest) / groups .«fill_size» * groups .«fill_points»)
-                  ((L - rest) / groups .«fill_size»)
-              | false ↦ Survey.Refused 29
-            ]
-          ]
-        ]) (elim b [ true ↦ Survey.Points first (N + P) 0 | false ↦ Survey.Refused 29 ])
-    go true true x y =
-        let u = ltb-true L rest x in
+    go : (b : Bool) → eqb L (T + G) ≡ b
+        → fittedBy first run groups L ≡ elim b [ true ↦ Survey.Points first (N + P) 0 | false ↦ Survey.Refused 29 ]
+    go true y =
         let v = eqb-true L (T + G) y in
-        absurd (omega arith)
-    go true false x y = refl
-    go false true x y =
-        let v = eqb-true L (T + G) y in
-        let r : L ≡ rest = omega arith in
-        let k : all ≡ N + P = omega arith in
-        rw (eq-eqb (groups .«fill_size») 0 z, eq-eqb L rest r) (ap (λ m. Survey.Points first m 0) k)
-    go false false x y =
-        let u = ltb-false L rest x in
+        let k : run .points + groups .points + 0 * groups .«fill_points» ≡ N + P = omega arith in
+        ap (surveyedBy first run groups) (fills.rest-alone L rest size z (omega arith)) ∙ ap (λ m. Survey.Points first m 0) k
+    go false y =
         let v = eqb-false L (T + G) y in
-        let r : L ≡ rest → ⊥ = λ q. v (omega arith) in
-        rw (eq-eqb (groups .«fill_size») 0 z, ne-eqb L rest r)
+        ap (surveyedBy first run groups) (none-fits (decLe rest L) (λ q. v (omega arith)))
+      where
+        none-fits : Dec (rest ≤ L) → (L ≡ rest → ⊥) → filled L rest size ≡ none
+        none-fits (yes h) r = fills.more-than-the-rest L rest size z r h
+        none-fits (no h) r = fills.too-short L rest size (omega arith)
 
 -- As many points as fill the rest of the model, held at the bound or not.
 filled-points : (l size Q : ℕ) → l ≤ 65535 → Q ≤ size → l / min size 65536 * min Q 65536 ≡ l / size * Q
@@ -132,11 +119,27 @@ module _ (l size fs : ℕ) (short : l ≤ 65535) (z : fs ≡ min size 65536) whe
       ap (λ n. l / n * fp) z ∙ ap (λ n. l / min size 65536 * n) q ∙ filled-points l size Q short few
 
 -- The points and the fill, if nothing is left over.
-filled : ℕ → ℕ → ℕ → ℕ → Survey
-filled first over number f = elim (eqb over 0) [ true ↦ Survey.Points first number f | false ↦ Survey.Refused 29 ]
+by-remainder : (first over often : ℕ) (run : Run) (groups : Extent)
+    → surveyedBy first run groups (elim (eqb over 0) [ true ↦ some often | false ↦ none ])
+    ≡ elim (eqb over 0) [
+      | true ↦ Survey.Points first (run .points + groups .points + often * groups .«fill_points») often
+      | false ↦ Survey.Refused 29
+    ]
+by-remainder first over often run groups = go (eqb over 0)
+  where
+    go : (b : Bool) → surveyedBy first run groups (elim b [ true ↦ some often | false ↦ none ])
+        ≡ elim b [
+          | true ↦ Survey.Points first (run .points + groups .points + often * groups .«fill_points») often
+          | false ↦ Survey.Refused 29
+        ]
+    go true = refl
+    go false = refl
 
-filled-same : (first m n p q f g : ℕ) → m ≡ n → p ≡ q → f ≡ g → filled first m p f ≡ filled first n q g
-filled-same first m n p q f g a b c = rw (a, b, c)
+same-survey : (first m n p q f g : ℕ) → m ≡ n → p ≡ q → f ≡ g
+    → _≡_ {A = Survey} (elim (eqb m 0) [ true ↦ Survey.Points first p f | false ↦ Survey.Refused 29 ])
+    (elim (eqb n 0) [ true ↦ Survey.Points first q g | false ↦ Survey.Refused 29 ])
+same-survey first m n p q f g a b c k =
+    elim (eqb (a k) 0) [ true ↦ Survey.Points first (b k) (c k) | false ↦ Survey.Refused 29 ]
 
 -- A model with a fill group.
 fitted-fill : (first L T N G P size Q : ℕ) (run : Run) (groups : Extent) → L ≤ 65535 → P ≤ G → 1 ≤ size → Q ≤ size
@@ -147,7 +150,6 @@ fitted-fill : (first L T N G P size Q : ℕ) (run : Run) (groups : Extent) → L
       | true ↦ Survey.Points first (N + (P + (L - (T + G)) / size * Q)) ((L - (T + G)) / size)
       | false ↦ Survey.Refused 29
     ]
-unfolding filled
 fitted-fill first L T N G P size Q run groups short few one fewer t n g p z q = go (leb (T + G) L) refl
   where
     rest : ℕ
@@ -176,13 +178,14 @@ fitted-fill first L T N G P size Q run groups short few one fewer t n g p z q = 
         let b = often (L - rest) size fs small z ∙ ap (λ k. k / size) d in
         let w = often-points (L - rest) size fs small z Q (groups .«fill_points») q fewer ∙ ap (λ k. k / size * Q) d in
         let x : all + (L - rest) / fs * groups .«fill_points» ≡ N + (P + left / size * Q) = omega arith in
-        rw (le-ltb L rest r, fittedBy) (rw (ne-eqb (groups .«fill_size») 0 nonzero)
-        (filled-same first ((L - rest) % fs) (left % size) (all + (L - rest) / fs * groups .«fill_points»)
-        (N + (P + left / size * Q)) ((L - rest) / fs) (left / size) a x b))
+        ap (surveyedBy first run groups) (fills.by-remainder L rest fs nonzero r)
+        ∙ by-remainder first ((L - rest) % fs) ((L - rest) / fs) run groups
+        ∙ same-survey first ((L - rest) % fs) (left % size) (all + (L - rest) / fs * groups .«fill_points»)
+        (N + (P + left / size * Q)) ((L - rest) / fs) (left / size) a x b
     go false e =
         let l = leb-false (T + G) L e in
         let r : L < rest = omega arith in
-        rw (lt-ltb L rest r, fittedBy)
+        ap (surveyedBy first run groups) (fills.too-short L rest (groups .«fill_size») r)
 
 -- ---- By the definition
 

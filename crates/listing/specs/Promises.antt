@@ -16,6 +16,7 @@ use Rattle.layout.specs.Points.{ModelPoint, Scope, registersAt}
 use Rattle.layout.specs.Layout.{countOf, groupsSize, fillSize, countUnimplemented}
 use Rattle.layout.specs.Counts.{groupsPoints, fillPoints, or0}
 use Rattle.definition_frames.specs.Answers as DefinitionFrames
+use Rattle.group_instances.specs.Fills.{filled}
 use Rattle.layout.specs.Locating.{Located, orElse, locatedOwn, locatedIn}
 use Rattle.layout.specs.Walks.{heldAt, Stands, pastEnd, Ready, begun, scopeIn, IsTable, AtGroups}
 use Rattle.listing.specs.Listing as Listing
@@ -66,21 +67,15 @@ pub record WithGroup (sum : Extent) (top : Scope) (h : Frames.Head) (run : Run) 
       || (inside .unimplemented || (eqb (h .countKind) Frames.countByPoint && eqb (top (h .count)) 0xFFFF)))
   pub next : r .next ≡ inside .next
 
--- 29 by the sizes, or the points.
+-- What a survey returns by the count of the fill group: 29 where the length does not fit, or the points.
+abbrev pub surveyedBy : ℕ → Run → Extent → Option ℕ → Survey
+surveyedBy first run groups none = Survey.Refused 29
+surveyedBy first run groups (some count) =
+    Survey.Points first (run .points + groups .points + count * groups .«fill_points») count
+
+-- The same by the sizes.
 abbrev pub fittedBy : ℕ → Run → Extent → ℕ → Survey
-fittedBy first run groups len =
-    let rest = run .size + groups .size in
-    let points = run .points + groups .points in
-    elim (ltb len rest) [
-      | true ↦ Survey.Refused 29
-      | false ↦ elim (eqb (groups .«fill_size») 0) [
-        | true ↦ elim (eqb len rest) [ true ↦ Survey.Points first points 0 | false ↦ Survey.Refused 29 ]
-        | false ↦ elim (eqb ((len - rest) % groups .«fill_size») 0) [
-          | true ↦ Survey.Points first (points + (len - rest) / groups .«fill_size» * groups .«fill_points») ((len - rest) / groups .«fill_size»)
-          | false ↦ Survey.Refused 29
-        ]
-      ]
-    ]
+fittedBy first run groups len = surveyedBy first run groups (filled len (run .size + groups .size) (groups .«fill_size»))
 
 -- Where a survey finds points, their definition is ready to be written by.
 abbrev pub ReadyBy : List ℕ → ℕ → List ℕ → List ℕ → Survey → Type 0

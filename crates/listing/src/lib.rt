@@ -9,14 +9,15 @@ mod surveys;
 
 use catalog::Checked;
 use catalog::check;
+pub use group_instances::InstancePath;
 use group_instances::NUMBERS;
-pub use records::InstancePath;
 use records::Visit;
 pub use records::WIDTH;
 use records::put_model;
 use register_map::FIRST_HEADER;
 use register_map::Header;
 use register_map::Opening;
+use register_map::body_address;
 use register_map::header_at;
 use register_map::opened;
 use registers::part;
@@ -128,7 +129,7 @@ fn survey_map(catalog: &[u16], map: &[u16], table: &mut [u16]) -> Listing
                     }
                     Survey::Points { points: more, .. } => points += more,
                 }
-                at = behind_model(at, length);
+                at = after_model(at, length);
                 headers += 1;
             }
             Header::End => {
@@ -145,12 +146,12 @@ fn survey_map(catalog: &[u16], map: &[u16], table: &mut [u16]) -> Listing
     refused(22, at, headers)
 }
 
-// The address of the header behind a model, whose own header is two registers.
-fn behind_model(at: usize, length: u16) -> usize
+// The address of the header after a model.
+fn after_model(at: usize, length: u16) -> usize
     requires { ⌜ at ≤ 65538 ⌝ }
     ensures { λ r. ⌜ r ≡ at + (2 + length) ⌝ }
 {
-    at + 2 + length as usize
+    body_address(at as u32, length as u32)
 }
 
 // A refusal.
@@ -185,7 +186,7 @@ fn put_map(catalog: &[u16], map: &[u16], table: &mut [u16], out: &mut [u64])
                     address: at,
                 };
                 records = put_known(catalog, map, table, out, visit, length as usize, records);
-                at = behind_model(at, length);
+                at = after_model(at, length);
                 index += 1;
             }
             Header::End => return,

@@ -1,7 +1,5 @@
 // Finds one point of a model by arithmetic on its definition: each frame is read a few times, and no instance is walked.
 use crate::extents::groups_extent;
-use crate::records::InstancePath;
-use crate::surveys::LOWER_LEVELS;
 use catalog::Head;
 use catalog::Point;
 use definition_frames::GroupOr;
@@ -9,14 +7,16 @@ use definition_frames::PointOr;
 use definition_frames::group_at;
 use definition_frames::point_at;
 use definition_frames::run_extent;
+use group_instances::InstancePath;
+use group_instances::LOWER_LEVELS;
 use group_instances::count_of;
-use registers::all_zero;
+use group_instances::is_zero_from;
+use group_instances::number_at;
 ghost use mathlib.Core.Path.{_≡_};
 ghost use mathlib.Core.Option.{some};
 ghost use Prim.Native.Nat.{_+_, _-_, _/_, _≤_};
 ghost use lib.ListN.{length, drop, getD};
 ghost use lib.ListN as Lists;
-ghost use Rattle.registers.specs.Registers as Registers;
 ghost use Rattle.catalog.specs.Frames.{frameIn};
 ghost use Rattle.catalog.specs.Answers.{headForm};
 ghost use Rattle.layout.specs.Layout.{countOf};
@@ -110,7 +110,7 @@ fn locate_groups(
         match next {
             GroupOr::Group(head) => {
                 let shape = shape_of(catalog, table, fill, levels, at.frame, head);
-                let j = number_at(key.path, levels);
+                let j = number_at(key.path, LOWER_LEVELS - levels);
                 if j < shape.count {
                     let own = Position {
                         frame: at.frame + 1,
@@ -165,15 +165,6 @@ fn shape_of(
     }
 }
 
-// The number of a path at the level of the groups in a group that may hold groups of `levels` levels.
-fn number_at(path: InstancePath, levels: usize) -> usize
-    requires { ⌜ (1 ≤ levels) × (levels ≤ 3) × (length (path .instances) ≡ 3) ⌝ }
-    ensures { λ r. ⌜ r ≡ getD (path .instances) (levelOf levels - 2) 0 ⌝ }
-{
-    let numbers = path.instances;
-    numbers[LOWER_LEVELS - levels] as usize
-}
-
 // Looks for the point among the own points of an instance that may hold groups of `levels` levels. They have the instance
 // number 0 at every deeper level.
 fn locate_own(catalog: &[u16], start: Position, limit: usize, levels: usize, key: Key) -> Located
@@ -185,15 +176,6 @@ fn locate_own(catalog: &[u16], start: Position, limit: usize, levels: usize, key
         return locate_run(catalog, start, limit, key.number);
     }
     Located::Nothing
-}
-
-// Are all numbers of a path from index `first` on 0?
-fn is_zero_from(path: InstancePath, first: usize) -> bool
-    requires { ⌜ (first ≤ 3) × (length (path .instances) ≡ 3) ⌝ }
-    ensures { λ r. ⌜ r ≡ Registers.allZero (drop first (path .instances)) ⌝ }
-{
-    let numbers = path.instances;
-    all_zero(&numbers[first..])
 }
 
 // Looks for the point with a number among the points from a frame on. Ends at offset `limit`, so that a pad that is

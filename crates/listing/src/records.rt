@@ -1,13 +1,16 @@
 // The walk over the points of one model: their records, written into the output list.
-use crate::surveys::LOWER_LEVELS;
 use catalog::Point;
 use definition_frames::GroupOr;
 use definition_frames::PointOr;
-use definition_frames::behind_group;
+use definition_frames::after_group;
 use definition_frames::group_at;
 use definition_frames::point_at;
+use group_instances::InstancePath;
+use group_instances::LOWER_LEVELS;
 use group_instances::count_of;
 use group_instances::note_run;
+use group_instances::with_number;
+use register_map::body_address;
 use registers::part;
 use shown_points::show;
 ghost use mathlib.Core.Path.{_≡_};
@@ -26,11 +29,6 @@ ghost use Rattle.listing.specs.Promises.{written, PointFits, RunAsks, Be
 
 // The numbers of a record.
 pub const WIDTH: usize = 10;
-
-// The instance numbers at levels 2, 3 and 4, 0 where absent.
-pub struct InstancePath {
-    pub instances: [u16; 3],
-}
 
 // A model that is walked: its index, its id, and the address of its header.
 pub(crate) struct Visit {
@@ -172,7 +170,7 @@ fn put_groups(
                     at = at_frame(end, at.frame);
                     j += 1;
                 } else {
-                    at = at_frame(at, behind_group(catalog, at.frame));
+                    at = at_frame(at, after_group(catalog, at.frame));
                     j = 0;
                 }
             }
@@ -225,10 +223,8 @@ fn enter(around: Instance, levels: usize, j: u16) -> Instance
     requires { ⌜ length (around .path .instances) ≡ 3 ⌝ }
     ensures { λ r. ⌜ r .path .instances ≡ set (around .path .instances) (levelOf levels - 2) j ⌝ }
 {
-    let mut instances = around.path.instances;
-    instances[LOWER_LEVELS - levels] = j;
     Instance {
-        path: InstancePath { instances },
+        path: with_number(around.path, LOWER_LEVELS - levels, j),
     }
 }
 
@@ -257,7 +253,7 @@ fn put_record(
         path[0] as u64,
         path[1] as u64,
         path[2] as u64,
-        (visit.address + 2 + at.offset) as u64,
+        body_address(visit.address as u32, at.offset as u32) as u64,
         shown.status,
         shown.raw,
         shown.scale,

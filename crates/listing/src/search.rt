@@ -1,18 +1,19 @@
 // Finds one point of a register map, by the index of its model, its number and its path.
 use crate::Listing;
-use crate::behind_model;
+use crate::after_model;
 use crate::locating::Key;
 use crate::locating::Located;
 use crate::locating::Location;
 use crate::locating::locate_model;
-use crate::records::InstancePath;
 use crate::survey_plant;
 use crate::surveys::Survey;
 use crate::surveys::survey_model;
 use catalog::Point;
+use group_instances::InstancePath;
 use group_instances::NUMBERS;
 use register_map::FIRST_HEADER;
 use register_map::Header;
+use register_map::body_address;
 use register_map::header_at;
 use registers::part;
 use registers::raw_value;
@@ -82,7 +83,7 @@ fn search_map(catalog: &[u16], map: &[u16], table: &mut [u16], model: usize, key
                     let body = part(map, at + 2, length as usize);
                     return search_model(catalog, table, id, body, key, at);
                 }
-                at = behind_model(at, length);
+                at = after_model(at, length);
                 index += 1;
             }
             Header::End => return Finding::Nothing,
@@ -131,7 +132,7 @@ fn target_at(at: usize, body: &[u16], location: Location) -> Target
 {
     let point = location.point;
     Target {
-        address: at + 2 + location.offset,
+        address: body_address(at as u32, location.offset as u32),
         point,
         raw: raw_value(part(body, location.offset, point.size as usize)),
     }

@@ -3,23 +3,22 @@ use crate::extents::Extent;
 use crate::extents::groups_extent;
 use crate::frames::Found;
 use crate::frames::find_model;
-use definition_frames::GroupOr;
 use definition_frames::Run;
-use definition_frames::group_at;
+use definition_frames::is_pad_left_out;
 use definition_frames::run_extent;
+use group_instances::Fill;
+use group_instances::LOWER_LEVELS;
+use group_instances::fill_count;
 use group_instances::note_run;
 ghost use mathlib.Core.Path.{_≡_};
 ghost use mathlib.Core.Option.{some};
 ghost use Prim.Native.Nat.{_+_, _/_, _≤_};
 ghost use lib.ListN.{length};
 ghost use Rattle.model_definitions.specs.Definitions.{definitions};
-ghost use Rattle.layout.specs.Reading.{readBy, padLeftOut, topOf};
+ghost use Rattle.layout.specs.Reading.{readBy, topOf};
 ghost use Rattle.layout.specs.Walks.{heldAt, Stands, Accepted, IsTable, surveyed, readIn};
 ghost use Rattle.listing.specs.Answers.{surveyForm};
-ghost use Rattle.listing.specs.Promises.{RunOf, ReadyBy, fittedBy};
-
-// The levels of groups below the top group.
-pub(crate) const LOWER_LEVELS: usize = 3;
+ghost use Rattle.listing.specs.Promises.{ReadyBy, fittedBy};
 
 // What a catalog says of a model: nothing where it lacks the id; a refusal (27 to 29); or the frame where its
 // definition begins, the number of its points and the count of its fill group.
@@ -58,7 +57,7 @@ fn survey_known(catalog: &[u16], table: &mut [u16], id: u16, body: &[u16], first
     ensures { λ _. ⌜ IsTable (now (table .exit)) ⌝ }
 {
     let run = run_extent(catalog, first);
-    if is_pad_left_out(catalog, id, first, run, body.len()) {
+    if is_pad_left_out(catalog, id, run, body.len()) {
         note_run(catalog, first, body, 0, table);
         return Survey::Points {
             first,
@@ -77,29 +76,6 @@ fn survey_known(catalog: &[u16], table: &mut [u16], id: u16, body: &[u16], first
     fitted(first, run, groups, body.len())
 }
 
-// May the last pad be missing? Only in a model of id 1 that has no groups and is one register shorter than its
-// points.
-fn is_pad_left_out(catalog: &[u16], id: u16, first: usize, run: Run, length: usize) -> bool
-    requires { ⌜ Stands (now catalog) first × RunOf (now catalog) first run ⌝ }
-    requires { ⌜ length ≤ 65535 ⌝ }
-    ensures { λ r. ⌜ r ≡ padLeftOut id (heldAt (now (catalog .entry)) first) length ⌝ }
-{
-    if id != 1 {
-        return false;
-    }
-    if !run.ends_with_pad {
-        return false;
-    }
-    if length + 1 != run.size {
-        return false;
-    }
-    let next = group_at(catalog, run.next);
-    match next {
-        GroupOr::Group(_) => false,
-        GroupOr::Other => true,
-    }
-}
-
 // 29 by the sizes, or the points: the length is the size; with a fill group it is not below the rest and leaves
 // no remainder.
 fn fitted(first: usize, run: Run, groups: Extent, length: usize) -> Survey
@@ -107,29 +83,14 @@ fn fitted(first: usize, run: Run, groups: Extent, length: usize) -> Survey
     requires { ⌜ (groups .size ≤ 65536) × (groups .points ≤ 65536) × (groups .«fill_points» ≤ 65536) ⌝ }
     ensures { λ r. ⌜ r ≡ fittedBy first run groups length ⌝ }
 {
-    let rest = run.size + groups.size;
-    if length < rest {
-        return Survey::Refused(29);
-    }
-    let left = length - rest;
     let points = run.points + groups.points;
-    if groups.fill_size == 0 {
-        if left != 0 {
-            return Survey::Refused(29);
-        }
-        return Survey::Points {
+    let filled = fill_count(length, run.size + groups.size, groups.fill_size);
+    match filled {
+        Fill::Count(fill) => Survey::Points {
             first,
-            points,
-            fill: 0,
-        };
-    }
-    if left % groups.fill_size != 0 {
-        return Survey::Refused(29);
-    }
-    let fill = left / groups.fill_size;
-    Survey::Points {
-        first,
-        points: points + fill * groups.fill_points,
-        fill,
+            points: points + fill * groups.fill_points,
+            fill,
+        },
+        Fill::NoFit => Survey::Refused(29),
     }
 }

@@ -1,5 +1,6 @@
 // The headers of a register map (refusals 20 to 26), without any catalog.
 ghost use mathlib.Core.Path.{_≡_};
+ghost use Prim.Native.Nat.{_+_};
 ghost use lib.Dec.{eqb};
 ghost use lib.ListN.{drop};
 ghost use Rattle.register_map.specs.Headers as Headers;
@@ -92,4 +93,12 @@ fn header_of(first: bool, id: u16, length: u16, behind: usize) -> Header
         return Header::Refused(26);
     }
     Header::Model { id, length }
+}
+
+// The address of a register of a model's body, by its offset and the address of the model's header. At the offset of the
+// length, that of the next header.
+pub fn body_address(header: u32, offset: u32) -> usize
+    ensures { λ r. ⌜ r ≡ header + 2 + offset ⌝ }
+{
+    header as usize + 2 + offset as usize
 }

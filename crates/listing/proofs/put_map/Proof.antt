@@ -50,8 +50,8 @@ put-known-requires c κs =
     let ends = model-ends (eqb (l .at) 2) (s .args .map .now) (l .at) h in
     (s .pre .0, (l .inv .1, ((omega (arith, ends), omega (arith, ends, short), short), next .0)))
 
-behind-model-requires : tie.Need-behind-model-requires Inv-loop μ-loop
-behind-model-requires c κs = search needs
+after-model-requires : tie.Need-after-model-requires Inv-loop μ-loop
+after-model-requires c κs = search needs
 
 add-index : tie.Need-add-index Inv-loop μ-loop
 add-index c = search needs
@@ -71,8 +71,8 @@ loop-again c =
     let p = c .before .before .before .before .before .put-known in
     let read = reading (definitions (s .args .catalog .now)) in
     let Goes : List ℕ → ℕ → Type 0 =
-    λ out n. WalkingMap read (s .args .map .now) (s .args .out .now) out (c .behind-model .result) (l .index + 1) n in
-    let on = subst (Goes _) (sym (p .ensures .0)) (walking-at (c .behind-model .ensures) (next .1)) in
+    λ out n. WalkingMap read (s .args .map .now) (s .args .out .now) out (c .after-model .result) (l .index + 1) n in
+    let on = subst (Goes _) (sym (p .ensures .0)) (walking-at (c .after-model .ensures) (next .1)) in
     (subst (λ out. Goes out (p .result)) (sym (p .ensures .1 .0)) on, p .ensures .1 .1)
 
 enum-told : tie.Need-enum-told Inv-loop μ-loop
@@ -123,7 +123,7 @@ put-map-spec =
     enum-known-header
     cast-put-known
     put-known-requires
-    behind-model-requires
+    after-model-requires
     add-index
     loop-less
     loop-again

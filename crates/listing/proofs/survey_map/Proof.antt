@@ -104,8 +104,8 @@ add-points c =
     let more = more-fit (l .inv .0) short h (points-few (s .args .catalog .now) (s .pre .0)) e in
     record { fits = omega (arith, more) }
 
-behind-model-requires : tie.Need-behind-model-requires Inv-loop μ-loop
-behind-model-requires c κs = search needs
+after-model-requires : tie.Need-after-model-requires Inv-loop μ-loop
+after-model-requires c κs = search needs
 
 add-headers : tie.Need-add-headers Inv-loop μ-loop
 add-headers c = search needs
@@ -133,7 +133,7 @@ loop-again c =
     (λ w. subst Goes (sym (w .3)) (survey-points (l .inv .0) short h few (sym (ap surveyForm (w .1 .given .1)) ∙ seen)))
     (c .before .match2 .came) in
     let Reached : ℕ → Type 0 = λ at. Surveying read (s .args .map .now) at (l .headers + 1) (c .before .match2 .points) in
-    (subst Reached (sym (c .behind-model .ensures)) next, m .survey-model .ensures .1 .1)
+    (subst Reached (sym (c .after-model .ensures)) next, m .survey-model .ensures .1 .1)
 
 enum-told-2 : tie.Need-enum-told-2 Inv-loop μ-loop
 enum-told-2 c = search needs
@@ -196,7 +196,7 @@ survey-map-spec =
     returns
     enum-known-survey-2
     add-points
-    behind-model-requires
+    after-model-requires
     add-headers
     loop-less
     loop-again

@@ -15,8 +15,8 @@ enum-told c = search needs
 enum-told-2 : tie.Need-enum-told-2
 enum-told-2 c = search needs
 
-enum-known-frame : tie.Need-enum-known-frame
-enum-known-frame c = search needs
+enum-known-found : tie.Need-enum-known-found
+enum-known-found c = search needs
 
 enum-told-3 : tie.Need-enum-told-3
 enum-told-3 c = search needs
@@ -31,7 +31,7 @@ returns-2 : tie.Need-returns-2
 returns-2 c = ap pointOf (sym (ap frameForm (c .enum-told2 .given .1)) ∙ c .before .before .read-frame .ensures)
 
 returns-3 : tie.Need-returns-3
-returns-3 c = ap pointOf (sym (ap frameForm (c .before .frame .given .1)) ∙ c .before .before .before .read-frame .ensures)
+returns-3 c = ap pointOf (sym (ap frameForm (c .before .found .given .1)) ∙ c .before .before .before .read-frame .ensures)
 
 returns-4 : tie.Need-returns-4
 returns-4 c = ap pointOf (sym (ap frameForm (c .enum-told3 .given .1)) ∙ c .before .before .read-frame .ensures)
@@ -46,7 +46,7 @@ point-at-spec =
     read-frame-requires
     enum-told
     enum-told-2
-    enum-known-frame
+    enum-known-found
     enum-told-3
     enum-told-4
     returns

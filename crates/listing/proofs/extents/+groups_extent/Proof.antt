@@ -15,9 +15,9 @@ use Rattle.listing.proofs.extents.groups_extent.Reads as reads
 use Rattle.listing.proofs.extents.groups_extent.Kinds as kinds
 use Rattle.listing.proofs.extents.+groups_extent.Lts-groups_extent as lts
 use Rattle.listing.proofs.extents.at_end.Reads as at-end-reads
-use Rattle.layout.proofs.run_extent.Reads as run-extent-reads
+use Rattle.definition_frames.proofs.run_extent.Reads as run-extent-reads
 use Rattle.listing.proofs.extents.with_group.Reads as with-group-reads
-use Rattle.layout.proofs.group_at.Reads as group-at-reads
+use Rattle.definition_frames.proofs.group_at.Reads as group-at-reads
 use Rattle.listing.proofs.extents.+groups_extent.{statement}
 use Rattle.listing.proofs.extents.+groups_extent.Tie.{close}
 use borrow.Author.Needs.{needs}

@@ -7,7 +7,7 @@ use native.Mathlib.Omega.{arith}
 use borrow.Author.Needs.{needs}
 use borrow.Fn.Kinds.{In}
 use borrow.Fn.PlainCycle.{Measures, is, falls, and}
-use lib.ListN.{length}
+use lib.ListN.{length, getD}
 use Rattle.catalog.specs.Frames.{frameIn}
 use Rattle.catalog.specs.Answers.{headForm}
 use Rattle.layout.specs.Layout.{countOf}
@@ -21,9 +21,9 @@ use Rattle.listing.proofs.LocatedGroups as steps
 use Rattle.listing.proofs.locating.locate_groups.Reads as reads
 use Rattle.listing.proofs.locating.locate_groups.Kinds as kinds
 use Rattle.listing.proofs.locating.+locate_groups.Lts-locate_groups as lts
-use Rattle.layout.proofs.group_at.Reads as group-at-reads
+use Rattle.definition_frames.proofs.group_at.Reads as group-at-reads
 use Rattle.listing.proofs.locating.locate_own.Reads as locate-own-reads
-use Rattle.listing.proofs.locating.number_at.Reads as number-at-reads
+use Rattle.group_instances.proofs.number_at.Reads as number-at-reads
 use Rattle.listing.proofs.locating.shape_of.Reads as shape-of-reads
 use Rattle.listing.proofs.locating.+locate_groups.{statement}
 use Rattle.listing.proofs.locating.+locate_groups.Tie.{close}
@@ -96,10 +96,21 @@ module _ (t : ℕ) where
         ),
       )
 
+  sub-number-at : lts.Need-sub-number-at (known t) (asked t) reads.Post Inv-loop μ-loop
+  sub-number-at c = omega (arith, c .before .before .before .before .before .before .before .loop .inv .0 .atMost3)
+
   number-at-requires : lts.Need-number-at-requires (known t) (asked t) reads.Post Inv-loop μ-loop
-  number-at-requires c κs =
-      let asks = c .before .before .before .before .before .before .before .loop .inv .0 in
-      (steps.level-left asks (head-there c) (c .shape-of .ensures), asks .atMost3, c .before .before .before .before .before .before .before .before .before .before .pre .1 .1)
+  number-at-requires c κs = search needs
+
+  -- The levels count down, the places of a path up.
+  at-number : (c : AtNumber)
+      → c .number-at .result
+      ≡ getD (c .before .before .before .before .before .before .before .before .before .before .before .args .key .path .instances)
+      (levelOf (c .before .before .before .before .before .before .before .before .before .before .before .args .levels) - 2) 0
+  at-number c =
+      let a = c .before .before .before .before .before .before .before .before .before .before .before .args in
+      let e : 3 - a .levels ≡ levelOf (a .levels) - 2 = omega (arith, c .before .before .before .before .before .before .before .before .loop .inv .0 .atMost3) in
+      c .number-at .ensures ∙ ap (λ k. getD (a .key .path .instances) k 0) e
 
   add-locate-groups : lts.Need-add-locate-groups (known t) (asked t) reads.Post Inv-loop μ-loop
   add-locate-groups c = search needs
@@ -111,7 +122,7 @@ module _ (t : ℕ) where
       omega (
         arith,
         steps.instance-within (c .before .before .before .before .before .before .before .before .before .before .before .before .loop .inv .0) (head-there (c .before .before .before .before .before)) (c .before .before .before .before .before .shape-of .ensures) (a .key .number) (a .key .path .instances)
-            (c .before .before .before .before .number-at .ensures) l,
+            (at-number (c .before .before .before .before)) l,
       )
 
   add-locate-own : lts.Need-add-locate-own (known t) (asked t) reads.Post Inv-loop μ-loop
@@ -121,7 +132,7 @@ module _ (t : ℕ) where
       omega (
         arith,
         steps.instance-within (c .before .before .before .before .before .before .before .before .before .before .before .before .before .loop .inv .0) (head-there (c .before .before .before .before .before .before)) (c .before .before .before .before .before .before .shape-of .ensures) (a .key .number) (a .key .path .instances)
-            (c .before .before .before .before .before .number-at .ensures) l,
+            (at-number (c .before .before .before .before .before)) l,
       )
 
   add-locate-groups-2 : lts.Need-add-locate-groups-2 (known t) (asked t) reads.Post Inv-loop μ-loop
@@ -131,7 +142,7 @@ module _ (t : ℕ) where
       omega (
         arith,
         steps.own-within (c .before .before .before .before .before .before .before .before .before .before .before .before .before .before .before .loop .inv .0) (head-there (c .before .before .before .before .before .before .before .before)) (c .before .before .before .before .before .before .before .before .shape-of .ensures) (a .key .number) (a .key .path .instances)
-            (c .before .before .before .before .before .before .before .number-at .ensures) l,
+            (at-number (c .before .before .before .before .before .before .before)) l,
       )
 
   sub-locate-own : lts.Need-sub-locate-own (known t) (asked t) reads.Post Inv-loop μ-loop
@@ -146,7 +157,7 @@ module _ (t : ℕ) where
         (steps.own-stands (c .before .before .before .before .before .before .before .before .before .before .before .before .before .before .before .loop .inv .0) (head-there (c .before .before .before .before .before .before .before .before)) (c .before .before .before .before .before .before .before .before .shape-of .ensures), asks .standing .few),
         (
           steps.own-within (c .before .before .before .before .before .before .before .before .before .before .before .before .before .before .before .loop .inv .0) (head-there (c .before .before .before .before .before .before .before .before)) (c .before .before .before .before .before .before .before .before .shape-of .ensures) (a .key .number) (a .key .path .instances)
-              (c .before .before .before .before .before .before .before .number-at .ensures) l,
+              (at-number (c .before .before .before .before .before .before .before)) l,
           omega (arith, asks .atMost3),
           c .before .before .before .before .before .before .before .before .before .before .before .before .before .before .before .before .before .before .pre .1 .1,
         ),
@@ -161,7 +172,7 @@ module _ (t : ℕ) where
       let l : c .before .before .before .before .before .before .before .before .before .before .before .number-at .result < c .before .before .before .before .before .before .before .before .before .before .before .before .shape-of .result .count = omega (arith, c .before .before .before .before .before .before .before .before .before .if2) in
       let e = sym (c .before .before .before .locate-own .ensures) ∙ ap locatedForm (c .before .found .given .1) in
       steps.found-own (c .before .before .before .before .before .before .before .before .before .before .before .before .before .before .before .before .before .before .before .loop .inv .0) (head-there (c .before .before .before .before .before .before .before .before .before .before .before .before)) (c .before .before .before .before .before .before .before .before .before .before .before .before .shape-of .ensures) (a .key .number) (a .key .path .instances)
-      (c .before .before .before .before .before .before .before .before .before .before .before .number-at .ensures) l e ∙ c .before .before .before .before .before .before .before .before .before .before .before .before .before .before .before .before .before .before .before .loop .inv .1
+      (at-number (c .before .before .before .before .before .before .before .before .before .before .before)) l e ∙ c .before .before .before .before .before .before .before .before .before .before .before .before .before .before .before .before .before .before .before .loop .inv .1
 
   enum-told : lts.Need-enum-told (known t) (asked t) reads.Post Inv-loop μ-loop
   enum-told c = search needs
@@ -178,7 +189,7 @@ module _ (t : ℕ) where
         omega (arith, z, c .before .before .before .before .before .before .before .before .before .before .before .before .before .before .before .before .before .before .before .before .before .pre .0),
         (
           steps.lower-asks (c .before .before .before .before .before .before .before .before .before .before .before .before .before .before .before .before .before .before .loop .inv .0) (head-there (c .before .before .before .before .before .before .before .before .before .before .before)) (c .before .before .before .before .before .before .before .before .before .before .before .shape-of .ensures) (a .key .number) (a .key .path .instances)
-              (c .before .before .before .before .before .before .before .before .before .before .number-at .ensures) l,
+              (at-number (c .before .before .before .before .before .before .before .before .before .before)) l,
           c .before .before .before .before .before .before .before .before .before .before .before .before .before .before .before .before .before .before .before .before .before .pre .1 .1,
         ),
       )
@@ -193,13 +204,13 @@ module _ (t : ℕ) where
       let e = sym (c .before .before .before .before .before .before .locate-own .ensures) ∙ ap locatedForm (c .before .before .before .before .enum-told .given .1) in
       let f = sym (c .before .before .before .locate-groups .ensures) ∙ ap locatedForm (c .before .found2 .given .1) in
       steps.found-lower (c .before .before .before .before .before .before .before .before .before .before .before .before .before .before .before .before .before .before .before .before .before .before .loop .inv .0) (head-there (c .before .before .before .before .before .before .before .before .before .before .before .before .before .before .before)) (c .before .before .before .before .before .before .before .before .before .before .before .before .before .before .before .shape-of .ensures) (a .key .number) (a .key .path .instances)
-      (c .before .before .before .before .before .before .before .before .before .before .before .before .before .before .number-at .ensures) l e f ∙ c .before .before .before .before .before .before .before .before .before .before .before .before .before .before .before .before .before .before .before .before .before .before .loop .inv .1
+      (at-number (c .before .before .before .before .before .before .before .before .before .before .before .before .before .before)) l e f ∙ c .before .before .before .before .before .before .before .before .before .before .before .before .before .before .before .before .before .before .before .before .before .before .loop .inv .1
 
   enum-told-2 : lts.Need-enum-told-2 (known t) (asked t) reads.Post Inv-loop μ-loop
   enum-told-2 c = search needs
 
-  mul-t25 : lts.Need-mul-t25 (known t) (asked t) reads.Post Inv-loop μ-loop
-  mul-t25 c =
+  mul-t21 : lts.Need-mul-t21 (known t) (asked t) reads.Post Inv-loop μ-loop
+  mul-t21 c =
       omega (arith, steps.past-asks (c .before .before .before .before .before .before .before .before .before .before .before .loop .inv .0) (head-there (c .before .before .before .before)) (c .before .before .before .before .shape-of .ensures) .inside)
 
   add-t26 : lts.Need-add-t26 (known t) (asked t) reads.Post Inv-loop μ-loop
@@ -218,11 +229,11 @@ module _ (t : ℕ) where
       (λ w.
       let l : c .before .before .before .before .number-at .result < c .before .before .before .before .before .shape-of .result .count = omega (arith, w .0) in
       steps.found-neither (c .before .before .before .before .before .before .before .before .before .before .before .before .loop .inv .0) (head-there (c .before .before .before .before .before)) (c .before .before .before .before .before .shape-of .ensures) (a .key .number) (a .key .path .instances)
-      (c .before .before .before .before .number-at .ensures) l
+      (at-number (c .before .before .before .before)) l
       (sym (w .6 .ensures) ∙ ap locatedForm (w .8 .given .1))
       (sym (w .9 .ensures) ∙ ap locatedForm (w .11 .given .1)))
       (λ w. steps.goes-past (c .before .before .before .before .before .before .before .before .before .before .before .before .loop .inv .0) (head-there (c .before .before .before .before .before)) (c .before .before .before .before .before .shape-of .ensures) (a .key .number) (a .key .path .instances)
-      (c .before .before .before .before .number-at .ensures) (omega (arith, w)))
+      (at-number (c .before .before .before .before)) (omega (arith, w)))
       (c .before .before .if2 .came) in
       (steps.past-asks (c .before .before .before .before .before .before .before .before .before .before .before .before .loop .inv .0) (head-there (c .before .before .before .before .before)) (c .before .before .before .before .before .shape-of .ensures), sym same ∙ c .before .before .before .before .before .before .before .before .before .before .before .before .loop .inv .1, refl)
 
@@ -248,6 +259,7 @@ pub +locate-groups-spec : {M : Type 1} → statement M
     (group-at-requires t)
     (enum-known-next t)
     (shape-of-requires t)
+    (sub-number-at t)
     (number-at-requires t)
     (add-locate-groups t)
     (mul-locate-own t)
@@ -263,7 +275,7 @@ pub +locate-groups-spec : {M : Type 1} → statement M
     (enum-known-found-2 t)
     (returns-2 t)
     (enum-told-2 t)
-    (mul-t25 t)
+    (mul-t21 t)
     (add-t26 t)
     (loop-less t)
     (loop-again t)

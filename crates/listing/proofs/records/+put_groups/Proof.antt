@@ -16,9 +16,9 @@ use Rattle.listing.proofs.GroupsWriting.{Writing}
 use Rattle.listing.proofs.records.put_groups.Reads as reads
 use Rattle.listing.proofs.records.put_groups.Kinds as kinds
 use Rattle.listing.proofs.records.+put_groups.Lts-put_groups as lts
-use Rattle.layout.proofs.count_of.Reads as count-of-reads
-use Rattle.layout.proofs.behind_group.Reads as behind-group-reads
-use Rattle.layout.proofs.group_at.Reads as group-at-reads
+use Rattle.group_instances.proofs.count_of.Reads as count-of-reads
+use Rattle.definition_frames.proofs.after_group.Reads as after-group-reads
+use Rattle.definition_frames.proofs.group_at.Reads as group-at-reads
 use Rattle.listing.proofs.records.at_frame.Reads as at-frame-reads
 use Rattle.listing.proofs.records.enter.Reads as enter-reads
 use Rattle.listing.proofs.records.put_own.Reads as put-own-reads
@@ -52,8 +52,8 @@ known t = (
   reads.Post,
   at-frame-reads.Asked,
   at-frame-reads.Learnt,
-  behind-group-reads.Asked,
-  behind-group-reads.Learnt,
+  after-group-reads.Asked,
+  after-group-reads.Learnt,
 )
 
 abbrev Inv-loop : lts.InvT-loop
@@ -199,8 +199,8 @@ module _ (t : ℕ) where
       (sym (c .at-frame .ensures))
       (on, inv .1, inv .2, inv .3, omega (arith, at-count-of .count-of .ensures .1, a .filling, at-if2 .if2))
 
-  behind-group-requires : lts.Need-behind-group-requires (known t) (asked t) reads.Post Inv-loop μ-loop
-  behind-group-requires c κs = search needs
+  after-group-requires : lts.Need-after-group-requires (known t) (asked t) reads.Post Inv-loop μ-loop
+  after-group-requires c κs = search needs
 
   at-frame-requires-2 : lts.Need-at-frame-requires-2 (known t) (asked t) reads.Post Inv-loop μ-loop
   at-frame-requires-2 c κs = search needs
@@ -221,7 +221,7 @@ module _ (t : ℕ) where
       omega (
         arith,
         f,
-        c .before .behind-group .ensures ∙ group-passed (v .catalog .now) (l .at .frame) s,
+        c .before .after-group .ensures ∙ group-passed (v .catalog .now) (l .at .frame) s,
         standing.past-end-within (v .catalog .now) (l .at .frame + 1) s,
         l .inv .3,
         at-if1 .if1,
@@ -242,7 +242,7 @@ module _ (t : ℕ) where
       let w = steps.passes a (l .inv .0) (l .inv .1) (l .inv .2) e
       (omega (arith, c .before .before .before .count-of .ensures .0, c .before .before .if2)) in
       let at-frame : ℕ → Progress = λ k. record { records = l .at .records; offset = l .at .offset; frame = k } in
-      let past = c .before .behind-group .ensures ∙ group-passed (v .catalog .now) (l .at .frame) opened in
+      let past = c .before .after-group .ensures ∙ group-passed (v .catalog .now) (l .at .frame) opened in
       let f : c .at-frame2 .result ≡ at-frame (pastEnd (v .catalog .now) (l .at .frame + 1)) =
       c .at-frame2 .ensures ∙ ap at-frame past in
       subst (λ x. Inv-loop (v .catalog .now) (v .table .now) (v .out .now) (v .model) (v .body .now) (v .levels) (v .instance)
@@ -298,7 +298,7 @@ pub +put-groups-spec : {M : Type 1} → statement M
     (add-j t)
     (loop-less t)
     (loop-again t)
-    (behind-group-requires t)
+    (after-group-requires t)
     (at-frame-requires-2 t)
     (loop-less-2 t)
     (loop-again-2 t)

@@ -66,32 +66,35 @@ array-read-t28 c = search needs
 cast-t29 : tie.Need-cast-t29
 cast-t29 c = instance-fits (c .before .before .before .before .before .before .before .before .before .before .before) 2
 
-add-t12 : tie.Need-add-t12
-add-t12 c = omega (arith, c .before .before .before .before .before .before .before .before .before .before .before .before .pre .1 .0 .address)
+cast-body-address : tie.Need-cast-body-address
+cast-body-address c = omega (arith, c .before .before .before .before .before .before .before .before .before .before .before .before .pre .1 .0 .address)
 
-add-t13 : tie.Need-add-t13
-add-t13 c =
+cast-body-address-2 : tie.Need-cast-body-address-2
+cast-body-address-2 c =
     let asked = c .before .before .before .before .before .before .before .before .before .before .before .before .before .pre .1 .0 in
-    omega (arith, asked .inside, asked .short, asked .address)
+    omega (arith, asked .inside, asked .short)
+
+body-address-requires : tie.Need-body-address-requires
+body-address-requires c κs = search needs
 
 mul-put : tie.Need-mul-put
 mul-put c =
-    let s = c .before .before .before .before .before .before .before .before .before .before .before .before .before .before .before in
+    let s = c .before .before .before .before .before .before .before .before .before .before .before .before .before .before .before .before in
     omega (arith, s .pre .1 .1, s .good .1 .0 .0)
 
 slice-aggregate-put : tie.Need-slice-aggregate-put
 slice-aggregate-put c = search needs
 
 put-requires : tie.Need-put-requires
-put-requires c κs = omega (arith, c .before .before .before .before .before .before .before .before .before .before .before .before .before .before .before .before .pre .1 .1)
+put-requires c κs = omega (arith, c .before .before .before .before .before .before .before .before .before .before .before .before .before .before .before .before .before .pre .1 .1)
 
 same-length : tie.Need-same-length
 same-length c = search needs
 
 returns : tie.Need-returns
 returns c =
-    let show = c .before .before .before .before .before .before .before .before .before .before in
-    let a = c .before .before .before .before .before .before .before .before .before .before .before .before .before .before .before .before .before .before .before .args in
+    let show = c .before .before .before .before .before .before .before .before .before .before .before in
+    let a = c .before .before .before .before .before .before .before .before .before .before .before .before .before .before .before .before .before .before .before .before .args in
     let p = pointForm (a .point) in
     let register = scopeIn (a .table .now) (p .scale) in
     let shown = show .show .result in
@@ -102,7 +105,8 @@ returns c =
     (fits .inside) (part .result .now) (part .ensures) register shown (show .show .ensures) in
     c .before .before .put .ensures
     ∙ ap (λ (ns : List ℕ). sets (a .out .now) (recordWidth * a .at .records) ns)
-    (shown-numbers (a .visit) (a .body .now) (a .table .now) (a .instance .path .instances) (a .at .offset) p shown is)
+    (shown-numbers (a .visit) (a .body .now) (a .table .now) (a .instance .path .instances) (a .at .offset)
+    (c .before .before .before .before .before .before .body-address .result) p shown (c .before .before .before .before .before .before .body-address .ensures) is)
     ∙ written-one (a .visit) (a .at .records)
     (pointAt (a .body .now) (instanceIn (a .table .now) (a .instance .path .instances)) (a .at .offset) p) (a .out .now)
 
@@ -124,8 +128,9 @@ put-record-spec =
     cast-t25
     array-read-t28
     cast-t29
-    add-t12
-    add-t13
+    cast-body-address
+    cast-body-address-2
+    body-address-requires
     mul-put
     slice-aggregate-put
     put-requires

@@ -80,8 +80,8 @@ returns c =
     ∙ ap found (c .before .before .before .before .part .ensures)
     ∙ search-own (l .inv .0) h (omega (arith, c .before .before .before .before .before .if1))
 
-behind-model-requires : tie.Need-behind-model-requires Inv-loop μ-loop
-behind-model-requires c κs = search needs
+after-model-requires : tie.Need-after-model-requires Inv-loop μ-loop
+after-model-requires c κs = search needs
 
 add-index : tie.Need-add-index Inv-loop μ-loop
 add-index c = search needs
@@ -95,7 +95,7 @@ loop-again c =
     let l = c .before .before .before .before .before .before .before .loop in
     let h = sym (c .before .before .before .before .before .header-at .ensures) ∙ ap headerForm (c .before .before .before .header .given .1) in
     let short = opening-none (s .args .map .now) (s .pre .1 .0) .0 in
-    (search-at (c .behind-model .ensures) (search-other (l .inv .0) h short (c .before .if1 .left)), l .inv .1)
+    (search-at (c .after-model .ensures) (search-other (l .inv .0) h short (c .before .if1 .left)), l .inv .1)
 
 enum-told : tie.Need-enum-told Inv-loop μ-loop
 enum-told c = search needs
@@ -140,7 +140,7 @@ search-map-spec =
     search-model-requires
     same-length
     returns
-    behind-model-requires
+    after-model-requires
     add-index
     loop-less
     loop-again

@@ -1,17 +1,19 @@
 -- `listing::search::target_at` meets its contract: the raw value is that of the point's registers.
 use mathlib.Core.Path.{ap, _∙_}
-use Prim.Native.Nat.{_+_}
 use borrow.Author.Needs.{needs}
 use Rattle.registers.specs.Registers.{shownRaw}
 use Rattle.catalog.specs.Answers.{pointForm}
 use Rattle.listing.proofs.search.target_at.Statement.{statement}
 use Rattle.listing.proofs.search.target_at.Tie as tie
 
-add-t5 : tie.Need-add-t5
-add-t5 c = search needs
+cast-body-address : tie.Need-cast-body-address
+cast-body-address c = search needs
 
-add-t6 : tie.Need-add-t6
-add-t6 c = search needs
+cast-body-address-2 : tie.Need-cast-body-address-2
+cast-body-address-2 c = search needs
+
+body-address-requires : tie.Need-body-address-requires
+body-address-requires c κs = search needs
 
 cast-part : tie.Need-cast-part
 cast-part c = search needs
@@ -24,10 +26,10 @@ raw-value-requires c κs = search needs
 
 returns : tie.Need-returns
 returns c =
-    let a = c .before .before .before .before .before .before .args in
+    let a = c .before .before .before .before .before .before .before .args in
     let raw = c .raw-value .ensures .0 ∙ ap shownRaw (c .before .part .ensures) in
     λ k. record {
-      address = a .at + 2 + a .location .offset;
+      address = c .before .before .before .body-address .ensures k;
       definition = pointForm (a .location .point);
       raw = raw k;
     }
@@ -35,4 +37,4 @@ returns c =
 pub target-at-spec : {M : Type 1} → statement M
 target-at-spec =
     tie.close
-    (tie.spec add-t5 add-t6 cast-part part-requires raw-value-requires returns)
+    (tie.spec cast-body-address cast-body-address-2 body-address-requires cast-part part-requires raw-value-requires returns)

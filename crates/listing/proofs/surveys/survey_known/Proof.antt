@@ -5,9 +5,11 @@ use native.Mathlib.Omega.{arith}
 use lib.ListN.{length, getD}
 use Rattle.catalog.specs.Rules.{run}
 use Rattle.model_definitions.specs.Definitions.{pointsSize}
+use Rattle.layout.specs.Reading.{padLeftOut}
 use Rattle.layout.specs.Walks.{onward, heldAt, noted, begun, begunAt}
 use Rattle.layout.proofs.FrameRuns.{held-noted}
 use Rattle.definition_frames.proofs.RunSteps.{held-run}
+use Rattle.definition_frames.proofs.PadTests.{held-pad}
 use Rattle.layout.proofs.AcceptedModels.{accepted-few}
 use Rattle.listing.specs.Promises.{RunOf}
 use Rattle.listing.proofs.SurveyedModels as models
@@ -29,7 +31,17 @@ top-run c =
     (c .run-extent .ensures)
 
 is-pad-left-out-requires : tie.Need-is-pad-left-out-requires
-is-pad-left-out-requires c κs = let b = c .before .before .before .before in ((b .pre .1 .1 .0, top-run c), b .pre .1 .0 .1)
+is-pad-left-out-requires c κs = search needs
+
+-- So the test of the pad is that of the definition.
+pad-test : (c : tie.After-is-pad-left-out) → let a = c .before .before .before .before .before .args in
+    c .is-pad-left-out .result ≡ padLeftOut (a .id) (heldAt (a .catalog .now) (a .first)) (length (a .body .now))
+pad-test c =
+    let b = c .before .before .before .before .before in
+    let a = b .args in
+    c .is-pad-left-out .ensures
+    ∙ held-pad (a .catalog .now) (a .first) (b .pre .1 .1 .0) (c .before .run-extent .result) (top-run (c .before)) (a .id)
+    (length (a .body .now))
 
 -- Where the definition is found, the points recorded are those of its top group.
 top-noted : (b : tie.Start) → let a = b .args in
@@ -48,7 +60,7 @@ sub-t13 c =
     let at-run-extent = at-is-pad-left-out .before in
     let b = at-run-extent .before .before .before .before in
     let a = b .args in
-    let e = sym (at-is-pad-left-out .is-pad-left-out .ensures) ∙ c .before .before .before .before .before .if1 .taken in
+    let e = sym (pad-test at-is-pad-left-out) ∙ c .before .before .before .before .before .if1 .taken in
     laws.has-point (a .id) (b .pre .0) (b .pre .1 .1 .0) (b .pre .1 .1 .1) (length (a .body .now))
     (top-run at-run-extent) e
 
@@ -61,7 +73,7 @@ returns c =
     let at-run-extent = at-is-pad-left-out .before in
     let b = at-run-extent .before .before .before .before in
     let a = b .args in
-    let e = sym (at-is-pad-left-out .is-pad-left-out .ensures) ∙ c .before .before .before .before .before .if1 .taken in
+    let e = sym (pad-test at-is-pad-left-out) ∙ c .before .before .before .before .before .if1 .taken in
     laws.pad-left-out (a .id) (b .pre .0) (b .pre .1 .1 .0) (b .pre .1 .1 .1) (a .body .now) (a .table .now) (b .pre .1 .0 .0)
     (c .before .before .before .note-run .ensures ∙ top-noted b) (top-run at-run-extent) e
 
@@ -71,7 +83,7 @@ returns-2 c =
     let a = b .args in
     let ws = a .catalog .now in
     let r = top-run (c .before .before .before .before) in
-    let e = sym (c .before .before .before .is-pad-left-out .ensures) ∙ c .before .before .if1 .left in
+    let e = sym (pad-test (c .before .before .before)) ∙ c .before .before .if1 .left in
     let short : length (a .body .now) < pointsSize (heldAt ws (a .first) .points) =
     omega (arith, c .if2 .taken, r .size) in
     (models.below-surveyed (a .id) (heldAt ws (a .first)) (a .body .now) e short, (tt, b .pre .1 .0 .0))
@@ -108,7 +120,7 @@ returns-3 c =
     let ws = a .catalog .now in
     let words : (k : ℕ) → getD ws k 0 < 65536 = λ k. omega (arith, at-slices .shared-slice-known .given k) in
     let r = top-run at-run-extent in
-    let e = sym (at-is-pad-left-out .is-pad-left-out .ensures) ∙ at-if1 .if1 .left in
+    let e = sym (pad-test at-is-pad-left-out) ∙ at-if1 .if1 .left in
     let n = c .before .before .before .before .before .note-run2 in
     let long : pointsSize (heldAt ws (a .first) .points) ≤ length (a .body .now) =
     omega (arith, at-if2 .if2 .left, r .size) in
@@ -148,7 +160,7 @@ returns-4 c =
     let ws = a .catalog .now in
     let words : (k : ℕ) → getD ws k 0 < 65536 = λ k. omega (arith, at-slices .shared-slice-known .given k) in
     let r = top-run at-run-extent in
-    let e = sym (at-is-pad-left-out .is-pad-left-out .ensures) ∙ at-if1 .if1 .left in
+    let e = sym (pad-test at-is-pad-left-out) ∙ at-if1 .if1 .left in
     let n = at-note-run2 .note-run2 in
     let long : pointsSize (heldAt ws (a .first) .points) ≤ length (a .body .now) =
     omega (arith, at-if2 .if2 .left, r .size) in

@@ -1,4 +1,4 @@
--- `definition_frames::frames::behind_group` meets its contract: the frames passed and those still to the end are those of the group.
+-- `definition_frames::frames::after_group` meets its contract: the frames passed and those still to the end are those of the group.
 use mathlib.Core.Path.{_≡_, refl, ap, _∙_}
 use Prim.Native.Nat.{ℕ, _+_, _-_, _/_, _≤_}
 use native.Mathlib.Omega.{arith}
@@ -6,8 +6,8 @@ use lib.ListN.{length}
 use Rattle.catalog.specs.Frames.{frameIn}
 use Rattle.layout.specs.Walks.{onward, framesToEnd, framesOfGroup}
 use Rattle.layout.proofs.PassedFrames as passed
-use Rattle.definition_frames.proofs.frames.behind_group.Statement.{statement}
-use Rattle.definition_frames.proofs.frames.behind_group.Tie as tie
+use Rattle.definition_frames.proofs.frames.after_group.Statement.{statement}
+use Rattle.definition_frames.proofs.frames.after_group.Tie as tie
 
 abbrev Inv-loop : tie.InvT-loop
 Inv-loop catalog i frames at₀ depth₀ at depth =
@@ -39,8 +39,8 @@ returns-2 c =
     let done = ap (λ (d : ℕ). framesToEnd (onward ws (l .at)) d) (c .if2 .taken) ∙ passed.at-the-end (onward ws (l .at)) in
     omega (arith, done, l .inv .0)
 
-depth-behind-requires : tie.Need-depth-behind-requires Inv-loop μ-loop
-depth-behind-requires c κs = (omega arith, omega arith)
+depth-after-requires : tie.Need-depth-after-requires Inv-loop μ-loop
+depth-after-requires c κs = (omega arith, omega arith)
 
 add-at-2 : tie.Need-add-at-2 Inv-loop μ-loop
 add-at-2 c = omega arith
@@ -52,10 +52,10 @@ loop-again : tie.Need-loop-again Inv-loop μ-loop
 loop-again c =
     let ws = c .before .before .before .before .before .before .args .catalog .now in
     let l = c .before .before .before .loop in
-    let rest = ap (framesToEnd (onward ws (l .at + 1))) (c .depth-behind .ensures) in
+    let rest = ap (framesToEnd (onward ws (l .at + 1))) (c .depth-after .ensures) in
     let nearer = passed.one-frame-nearer ws (l .at) (l .depth) (omega arith) (omega arith) in (
       omega (arith, rest, nearer, l .inv .0),
-      omega (arith, passed.opens-one (frameIn ws (l .at)) (l .depth), c .depth-behind .ensures),
+      omega (arith, passed.opens-one (frameIn ws (l .at)) (l .depth), c .depth-after .ensures),
       omega arith,
       refl,
     )
@@ -66,8 +66,8 @@ returns-3 c =
     let l = c .before .loop in
     omega (arith, passed.no-frame-left ws (l .at) (l .depth) (omega arith), l .inv .0)
 
-pub behind-group-spec : {M : Type 1} → statement M
-behind-group-spec =
+pub after-group-spec : {M : Type 1} → statement M
+after-group-spec =
     tie.close
     (tie.spec
     Inv-loop
@@ -76,7 +76,7 @@ behind-group-spec =
     add-at
     loop-holds
     returns-2
-    depth-behind-requires
+    depth-after-requires
     add-at-2
     loop-less
     loop-again

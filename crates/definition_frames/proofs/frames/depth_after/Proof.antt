@@ -1,10 +1,10 @@
--- `definition_frames::frames::depth_behind` meets its contract: a group frame opens a group, an end frame ends one.
+-- `definition_frames::frames::depth_after` meets its contract: a group frame opens a group, an end frame ends one.
 use mathlib.Core.Path.{sym, ap, _∙_}
 use borrow.Author.Needs.{needs}
 use Rattle.catalog.specs.Answers.{frameForm}
 use Rattle.layout.specs.Walks.{openBehind}
-use Rattle.definition_frames.proofs.frames.depth_behind.Statement.{statement}
-use Rattle.definition_frames.proofs.frames.depth_behind.Tie as tie
+use Rattle.definition_frames.proofs.frames.depth_after.Statement.{statement}
+use Rattle.definition_frames.proofs.frames.depth_after.Tie as tie
 
 read-frame-requires : tie.Need-read-frame-requires
 read-frame-requires c κs = search needs
@@ -55,8 +55,8 @@ returns-5 c =
     let frame = sym (ap frameForm (c .enum-told5 .given .1)) ∙ c .before .before .read-frame .ensures in
     ap (λ f. openBehind f (c .before .before .before .before .args .depth)) frame
 
-pub depth-behind-spec : {M : Type 1} → statement M
-depth-behind-spec =
+pub depth-after-spec : {M : Type 1} → statement M
+depth-after-spec =
     tie.close
     (tie.spec
     read-frame-requires
