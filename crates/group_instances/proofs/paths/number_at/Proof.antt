@@ -1,11 +1,14 @@
 -- `group_instances::paths::number_at` meets its contract: past the three numbers it is 0.
-use mathlib.Core.Path.{_≡_, sym}
+use mathlib.Core.Path.{_≡_, refl, sym}
 use Prim.Native.Nat.{_≤_}
 use native.Mathlib.Omega.{arith}
 use borrow.Author.Needs.{needs}
 use lib.ListN.{length, List·getD-eq-default}
 use Rattle.group_instances.proofs.paths.number_at.Statement.{statement}
 use Rattle.group_instances.proofs.paths.number_at.Tie as tie
+
+returns-2 : tie.Need-returns-2
+returns-2 c = refl
 
 returns : tie.Need-returns
 returns c =
@@ -22,9 +25,6 @@ array-read-result c = search needs
 
 cast-result : tie.Need-cast-result
 cast-result c = search needs
-
-returns-2 : tie.Need-returns-2
-returns-2 c = search needs
 
 pub number-at-spec : {M : Type 1} → statement M
 number-at-spec = tie.close (tie.spec returns mul-result array-read-result cast-result returns-2)

@@ -1,5 +1,5 @@
 -- `group_instances::paths::with_number` meets its contract: past the three numbers nothing is set.
-use mathlib.Core.Path.{_≡_, sym}
+use mathlib.Core.Path.{_≡_, refl, sym}
 use Prim.Native.Nat.{_≤_}
 use native.Mathlib.Omega.{arith}
 use borrow.Author.Needs.{needs}
@@ -8,14 +8,14 @@ use lib.Seq.{set-out}
 use Rattle.group_instances.proofs.paths.with_number.Statement.{statement}
 use Rattle.group_instances.proofs.paths.with_number.Tie as tie
 
+returns : tie.Need-returns
+returns c = refl
+
 mul-instances : tie.Need-mul-instances
 mul-instances c = search needs
 
 array-write-instances : tie.Need-array-write-instances
 array-write-instances c = search needs
-
-returns : tie.Need-returns
-returns c = search needs
 
 returns-2 : tie.Need-returns-2
 returns-2 c =
