@@ -1,8 +1,11 @@
 -- `digits_of` stores the digits at the start of twenty zeros.
-use mathlib.Core.Path.{_≡_}
+use mathlib.Core.Path.{_≡_, ap, _∙_}
+use mathlib.Core.List.{_++_}
+use Prim.Native.Nat.{_-_}
 use native.Mathlib.Omega.{arith}
 use borrow.Author.Needs.{needs}
-use Rattle.display.specs.Decimals.{digitCount}
+use lib.ListN.{replicate}
+use Rattle.display.specs.Decimals.{digitCount, digitsOf}
 use Rattle.display.proofs.DigitTexts.{number-length}
 use Rattle.display.proofs.StoredTexts.{put-length, put-on-zeros}
 use Rattle.display.proofs.decimals.digits_of.Statement.{statement}
@@ -13,7 +16,8 @@ returns c =
     let put = c .before .put-number .ensures .0 in
     let n = c .before .before .before .args .n in
     let count : c .before .put-number .result ≡ digitCount n = omega (arith, put .behind, number-length n) in
-    (rw (put-on-zeros {n = 20} put (omega arith), number-length n, count), omega (arith, put-length put))
+    let bytes = put-on-zeros {n = 20} put (omega arith) ∙ ap (λ k. digitsOf n ++ replicate (20 - k) 0) (number-length n) in
+    (λ k. record { bytes = bytes k; count = count k }, omega (arith, put-length put))
 
 pub digits-of-spec : {M : Type 1} → statement M
 digits-of-spec = tie.close (tie.spec (λ c. search needs) (λ c κs. search needs) returns)
