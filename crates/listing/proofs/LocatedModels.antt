@@ -28,7 +28,7 @@ use Rattle.layout.proofs.LeftOutPad as pads
 use Rattle.layout.proofs.LocatingSteps.{no-sibling}
 use Rattle.layout.proofs.LocatedPoints.{or-none, top-found, groups-found, content-found}
 use Rattle.listing.specs.Finding.{nothingTold, foundTold}
-use Rattle.listing.specs.Promises.{ModelAsks, locatedWithin, targetAt, toldAt}
+use Rattle.listing.specs.Promises.{ModelAsks, locatedWithin, targetAt, resultAt}
 use Rattle.listing.proofs.ReadyModels as model
 
 -- A reading with points is its points.
@@ -138,21 +138,21 @@ module _ {ws : List ℕ} {id : ℕ} {body table : List ℕ} {first fill : ℕ} (
     it = isPoint number path
 
     -- None is located, and none is found.
-    pub none-told : (at : ℕ) → locatedWithin count number path (length body) top ≡ none → nothingTold ≡ toldAt at (firstWith it all)
-    none-told at e = go (firstWith it all) (sym (model-located number path long) ∙ e)
+    pub none-found : (at : ℕ) → locatedWithin count number path (length body) top ≡ none → nothingTold ≡ resultAt at (firstWith it all)
+    none-found at e = go (firstWith it all) (sym (model-located number path long) ∙ e)
       where
         go : (o : Option ModelPoint) → _≡_ {A = Option Located} (elim o [ none ↦ none | some p ↦ some (locationOf p) ]) none
-            → nothingTold ≡ toldAt at o
+            → nothingTold ≡ resultAt at o
         go none q = refl
         go (some p) q = not-none (sym q)
 
     -- One is located, and it is the one that is found.
-    pub one-told : (at : ℕ) {l : Located} → locatedWithin count number path (length body) top ≡ some l
-        → (l .offset ≤ length body) × (foundTold (targetAt at body l) ≡ toldAt at (firstWith it all))
-    one-told at {l} e = go (firstWith it all) refl (sym (model-located number path long) ∙ e)
+    pub one-found : (at : ℕ) {l : Located} → locatedWithin count number path (length body) top ≡ some l
+        → (l .offset ≤ length body) × (foundTold (targetAt at body l) ≡ resultAt at (firstWith it all))
+    one-found at {l} e = go (firstWith it all) refl (sym (model-located number path long) ∙ e)
       where
         go : (o : Option ModelPoint) → firstWith it all ≡ o → elim o [ none ↦ none | some p ↦ some (locationOf p) ] ≡ some l
-            → (l .offset ≤ length body) × (foundTold (targetAt at body l) ≡ toldAt at o)
+            → (l .offset ≤ length body) × (foundTold (targetAt at body l) ≡ resultAt at o)
         go none q f = not-none f
         go (some p) q f =
             let same : locationOf p ≡ l = cc in

@@ -21,7 +21,7 @@ use Rattle.listing.specs.Listing as Listing
 use Rattle.listing.specs.Listing.{Record, recordOf, Answer, listed, withRecords, walked}
 use Rattle.listing.specs.Finding as Finding
 use Rattle.listing.specs.Finding.{isRecord, findingIn, Told, nothingTold, told}
-use Rattle.listing.specs.Promises.{toldAt, IsListed}
+use Rattle.listing.specs.Promises.{resultAt, IsListed}
 use Rattle.listing.proofs.Searches.{passed-over, own-records, none-later}
 use Rattle.listing.proofs.MapSteps.{walkAt, modelAt, walk-starts, walk-at-end, walk-at-refused, walk-at-late, walk-at-unknown, walk-at-faulty, walk-at-points}
 
@@ -41,10 +41,10 @@ module _ (target number : ℕ) (path : List ℕ) where
   toFinding o = elim o [ none ↦ Finding.nothing | some r ↦ Finding.found r ]
 
   -- Where no record of an answer is the one, nothing is found.
-  none-told : (a : Answer) → IsListed a → ((ss : List Record) (headers : ℕ) → a ≡ listed ss headers → firstWith (isRecord target number path) ss ≡ none)
+  none-found : (a : Answer) → IsListed a → ((ss : List Record) (headers : ℕ) → a ≡ listed ss headers → firstWith (isRecord target number path) ss ≡ none)
       → told (find a) ≡ nothingTold
-  none-told (Listing.refused n place headers) l f = absurd l
-  none-told (listed ss headers) l f = ap (λ o. told (toFinding o)) (f ss headers refl)
+  none-found (Listing.refused n place headers) l f = absurd l
+  none-found (listed ss headers) l f = ap (λ o. told (toFinding o)) (f ss headers refl)
 
   -- The records of another model do not count.
   others-skipped : (i at id : ℕ) → eqb i target ≡ false → (ps : List ModelPoint) (a : Answer)
@@ -53,30 +53,30 @@ module _ (target number : ℕ) (path : List ℕ) where
   others-skipped i at id n ps (listed ss headers) = ap toFinding (passed-over target number path i at id n ps ss)
 
   -- Of the records of one model the first is that of the first point.
-  first-told : (i at id : ℕ) (ps : List ModelPoint)
+  first-found : (i at id : ℕ) (ps : List ModelPoint)
       → told (toFinding (firstWith (λ r. isPoint number path (r .point)) (Lists.map (recordOf i at id) ps)))
-      ≡ toldAt at (firstWith it ps)
+      ≡ resultAt at (firstWith it ps)
   unfolding firstWith
-  first-told i at id [] = refl
-  first-told i at id (p ∷ ps) = go (it p) (first-told i at id ps)
+  first-found i at id [] = refl
+  first-found i at id (p ∷ ps) = go (it p) (first-found i at id ps)
     where
       f : ModelPoint → Record
       f = recordOf i at id
 
       go : (b : Bool)
-          → told (toFinding (firstWith (λ r. isPoint number path (r .point)) (Lists.map f ps))) ≡ toldAt at (firstWith it ps)
+          → told (toFinding (firstWith (λ r. isPoint number path (r .point)) (Lists.map f ps))) ≡ resultAt at (firstWith it ps)
           → told (toFinding (elim b [ true ↦ some (f p) | false ↦ firstWith (λ r. isPoint number path (r .point)) (Lists.map f ps) ]))
-          ≡ toldAt at (elim b [ true ↦ some p | false ↦ firstWith it ps ])
+          ≡ resultAt at (elim b [ true ↦ some p | false ↦ firstWith it ps ])
       go true e = refl
       go false e = e
 
   -- The records of the model itself decide.
   own-decides : (i at id : ℕ) → eqb i target ≡ true → (ps : List ModelPoint) (a : Answer) → IsListed a
       → ((ss : List Record) (headers : ℕ) → a ≡ listed ss headers → firstWith (isRecord target number path) ss ≡ none)
-      → told (find (withRecords (Lists.map (recordOf i at id) ps) a)) ≡ toldAt at (firstWith it ps)
+      → told (find (withRecords (Lists.map (recordOf i at id) ps) a)) ≡ resultAt at (firstWith it ps)
   own-decides i at id y ps (Listing.refused m place headers) l f = absurd l
   own-decides i at id y ps (listed ss headers) l f =
-      ap (λ o. told (toFinding o)) (own-records target number path i at id y ps ss (f ss headers refl)) ∙ first-told i at id ps
+      ap (λ o. told (toFinding o)) (own-records target number path i at id y ps ss (f ss headers refl)) ∙ first-found i at id ps
 
 -- ---- Header by header
 
@@ -163,7 +163,7 @@ module _ {read : Model → Reading} {map : List ℕ} {target number : ℕ} {path
             (under-records (Lists.map (recordOf index at id) ps) next (subst IsListed w (here .isListed)))
 
     -- The model itself decides.
-    pub search-own : index ≡ target → toldAt at (firstWith (isPoint number path) (pointsOf (read own))) ≡ result
+    pub search-own : index ≡ target → resultAt at (firstWith (isPoint number path) (pointsOf (read own))) ≡ result
     unfolding firstWith
     search-own y = go (read own) refl ∙ ap told (here .same)
       where
@@ -171,12 +171,12 @@ module _ {read : Model → Reading} {map : List ℕ} {target number : ℕ} {path
         later ss headers q = none-later target number path read _ (index + 1) (at + (2 + len)) _ ss headers q (omega arith)
 
         go : (r : Reading) → read own ≡ r
-            → toldAt at (firstWith (isPoint number path) (pointsOf r))
+            → resultAt at (firstWith (isPoint number path) (pointsOf r))
             ≡ told (findingIn target number path (walkAt read map index at))
         go unknown e =
             let w = walk-at-unknown read map index at id len (here .low) h e in
             sym (ap (λ a. told (findingIn target number path a)) w
-            ∙ none-told target number path next (subst IsListed w (here .isListed)) later)
+            ∙ none-found target number path next (subst IsListed w (here .isListed)) later)
         go (faulty fault) e = not-faulty e
         go (points ps) e =
             let w = walk-at-points read map index at id len (here .low) h e in

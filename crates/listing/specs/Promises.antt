@@ -124,9 +124,9 @@ targetAt at body l =
     }
 
 -- What a search in the model whose header has an address returns of the point that it finds, if any.
-abbrev pub toldAt : ℕ → Option ModelPoint → Finding.Told
-toldAt at none = Finding.nothingTold
-toldAt at (some p) = Finding.foundTold (record { address = at + 2 + p .offset; definition = p .definition; raw = p .raw })
+abbrev pub resultAt : ℕ → Option ModelPoint → Finding.Told
+resultAt at none = Finding.nothingTold
+resultAt at (some p) = Finding.foundTold (record { address = at + 2 + p .offset; definition = p .definition; raw = p .raw })
 
 -- The record of a point of a model that is walked.
 abbrev pub recordAt : Visit → ModelPoint → Listing.Record

@@ -31,7 +31,7 @@ ghost use Rattle.layout.specs.Walks.{Accepted, IsTable, pointsOf, readIn};
 ghost use Rattle.listing.specs.Listing as Listings;
 ghost use Rattle.listing.specs.Finding as Findings;
 ghost use Rattle.listing.specs.Answers.{targetForm, findingForm};
-ghost use Rattle.listing.specs.Promises.{targetAt, toldAt, IsListed};
+ghost use Rattle.listing.specs.Promises.{targetAt, resultAt, IsListed};
 
 // A point: its address, its definition in the catalog, and its raw value (0 if it takes over four registers).
 pub struct Target {
@@ -105,7 +105,7 @@ fn search_model(
     requires { ⌜ Accepted (now catalog) ⌝ }
     requires { ⌜ IsTable (now table) × (length (key .path .instances) ≡ 3) ⌝ }
     requires { ⌜ (length (now body) ≤ 65535) × (at ≤ 65536) ⌝ }
-    ensures { λ r. ⌜ findingForm r ≡ toldAt at (firstWith (isPoint (key .number) (key .path .instances)) (pointsOf (readIn (now (catalog .entry)) id (now (body .entry))))) ⌝ }
+    ensures { λ r. ⌜ findingForm r ≡ resultAt at (firstWith (isPoint (key .number) (key .path .instances)) (pointsOf (readIn (now (catalog .entry)) id (now (body .entry))))) ⌝ }
 {
     let survey = survey_model(catalog, table, id, body);
     match survey {

@@ -100,7 +100,7 @@ pub(crate) fn decimal_field(line: &[u8], at: usize, bound: u64) -> Number
     let mut i = field.start;
     while i < end {
         let digit = decimal_digit(line[i]);
-        if !has_room(value, digit, bound) {
+        if !digit_fits(value, digit, bound) {
             return Number {
                 value: 0,
                 next: NOWHERE,
@@ -117,7 +117,7 @@ pub(crate) fn decimal_field(line: &[u8], at: usize, bound: u64) -> Number
 
 // Is `digit` a digit that keeps the number within the bound when it is put after `value`? So no number of digits
 // overflows.
-fn has_room(value: u64, digit: u64, bound: u64) -> bool
+fn digit_fits(value: u64, digit: u64, bound: u64) -> bool
     ensures { λ r. ⌜ (r ≡ true → value * 10 + digit ≤ bound) ⌝ }
 {
     if 9 < digit || bound < digit {

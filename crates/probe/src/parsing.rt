@@ -10,7 +10,7 @@ use input::Parsed;
 const BYTE_DIGITS: usize = 2;
 
 // The room for the words of the catalog, and for the registers of the map.
-const PARSED_ROOM: usize = 8192;
+const PARSED_CAPACITY: usize = 8192;
 
 // Answers the fields from `at` on. False, with nothing written, where they are bad.
 pub(crate) fn run(line: &[u8], at: usize) -> bool {
@@ -56,18 +56,18 @@ fn parse_part(bytes: &[u8], count: usize) {
 
 // Writes what `parse` answers.
 fn parse_in(text: &[u8]) {
-    let mut catalog = [0u16; PARSED_ROOM];
-    let mut map = [0u16; PARSED_ROOM];
+    let mut catalog = [0u16; PARSED_CAPACITY];
+    let mut map = [0u16; PARSED_CAPACITY];
     let parsed = input::parse(text, &mut catalog, &mut map);
     write_parsed(parsed, &catalog, &map);
 }
 
 // Writes an answer of `parse`, with what it stored.
-fn write_parsed(parsed: Parsed, catalog: &[u16; PARSED_ROOM], map: &[u16; PARSED_ROOM]) {
+fn write_parsed(parsed: Parsed, catalog: &[u16; PARSED_CAPACITY], map: &[u16; PARSED_CAPACITY]) {
     match parsed {
         Parsed::Of { frames, registers } => {
             // The frames fit the room, so the remainder is their number. It shows that the product fits.
-            let words = frames % PARSED_ROOM * FRAME_WORDS;
+            let words = frames % PARSED_CAPACITY * FRAME_WORDS;
             output::say(output::PARSED);
             output::words(catalog, words);
             output::say(output::SPACE);

@@ -15,7 +15,7 @@ use Rattle.layout.specs.Paths.{isPoint}
 use Rattle.layout.specs.Reading.{reading}
 use Rattle.layout.specs.Walks.{IsTable, pointsOf, readIn}
 use Rattle.listing.specs.Finding.{Told}
-use Rattle.listing.specs.Promises.{toldAt}
+use Rattle.listing.specs.Promises.{resultAt}
 use Rattle.listing.proofs.MapSteps.{body-length}
 use Rattle.listing.proofs.MapSearch.{Searching, search-starts, search-at, search-ends, search-refused, search-late, search-other, search-own}
 use Rattle.listing.proofs.search.search_map.Statement.{statement}
@@ -75,7 +75,7 @@ returns c =
     let g = c .before .before .before .before .before .before .before .header .given in
     let h = sym (c .before .before .before .before .before .before .before .before .before .header-at .ensures) ∙ ap headerForm (g .1) in
     let found : List ℕ → Told = λ body.
-    toldAt (l .at) (firstWith (isPoint (v .key .number) (v .key .path .instances)) (pointsOf (readIn (v .catalog .now) (g .0 .0) body))) in
+    resultAt (l .at) (firstWith (isPoint (v .key .number) (v .key .path .instances)) (pointsOf (readIn (v .catalog .now) (g .0 .0) body))) in
     c .before .before .search-model .ensures
     ∙ ap found (c .before .before .before .before .part .ensures)
     ∙ search-own (l .inv .0) h (omega (arith, c .before .before .before .before .before .if1))

@@ -12,7 +12,7 @@ use Rattle.layout.specs.Reading.{Reading}
 use Rattle.layout.specs.Walks.{readIn}
 use Rattle.listing.specs.Finding.{nothingTold, foundTold}
 use Rattle.listing.specs.Answers.{surveyForm, locatedForm}
-use Rattle.listing.specs.Promises.{ReadyBy, toldAt}
+use Rattle.listing.specs.Promises.{ReadyBy, resultAt}
 use Rattle.listing.proofs.MapSurvey.{no-points-unknown, no-points-refused, has-points}
 use Rattle.listing.proofs.LocatedModels as model
 use Rattle.listing.proofs.search.search_model.Statement.{statement}
@@ -23,10 +23,10 @@ abbrev read : tie.Start → Reading
 read s = readIn (s .args .catalog .now) (s .args .id) (s .args .body .now)
 
 -- Without points none is found.
-nothing-told : (s : tie.Start) {ps : List ModelPoint} → ps ≡ []
-    → nothingTold ≡ toldAt (s .args .at) (firstWith (isPoint (s .args .key .number) (s .args .key .path .instances)) ps)
+nothing-found : (s : tie.Start) {ps : List ModelPoint} → ps ≡ []
+    → nothingTold ≡ resultAt (s .args .at) (firstWith (isPoint (s .args .key .number) (s .args .key .path .instances)) ps)
 unfolding firstWith
-nothing-told s e = sym (ap (λ qs. toldAt (s .args .at) (firstWith (isPoint (s .args .key .number) (s .args .key .path .instances)) qs)) e)
+nothing-found s e = sym (ap (λ qs. resultAt (s .args .at) (firstWith (isPoint (s .args .key .number) (s .args .key .path .instances)) qs)) e)
 
 survey-model-requires : tie.Need-survey-model-requires
 survey-model-requires c κs = search needs
@@ -66,7 +66,7 @@ target-at-requires c κs =
     (m .survey-model .ensures .1 .0) in
     let has = has-points (read s) (sym (ap surveyForm (c .before .before .before .before .before .before .survey .given .1)) ∙ m .survey-model .ensures .0) in
     let e = sym (c .before .before .before .locate-model .ensures) ∙ ap locatedForm (c .before .located .given .1) in
-    (s .pre .1 .1 .1, omega (arith, model.one-told (s .pre .0) ready (words m) has (s .pre .1 .1 .0) (v .key .number) (v .key .path .instances) (s .pre .1 .0 .1) (v .at) e .0, s .pre .1 .1 .0))
+    (s .pre .1 .1 .1, omega (arith, model.one-found (s .pre .0) ready (words m) has (s .pre .1 .1 .0) (v .key .number) (v .key .path .instances) (s .pre .1 .0 .1) (v .at) e .0, s .pre .1 .1 .0))
 
 enum-told-3 : tie.Need-enum-told-3
 enum-told-3 c = search needs
@@ -77,7 +77,7 @@ same-length c = search needs
 returns : tie.Need-returns
 returns c =
     let s = c .before .before .before .before .before .before .before .before .before in
-    nothing-told s (no-points-unknown (read s) (sym (ap surveyForm (c .enum-told .given .1)) ∙ c .before .before .before .before .survey-model .ensures .0))
+    nothing-found s (no-points-unknown (read s) (sym (ap surveyForm (c .enum-told .given .1)) ∙ c .before .before .before .before .survey-model .ensures .0))
 
 same-length-2 : tie.Need-same-length-2
 same-length-2 c = search needs
@@ -85,7 +85,7 @@ same-length-2 c = search needs
 returns-2 : tie.Need-returns-2
 returns-2 c =
     let s = c .before .before .before .before .before .before .before .before .before in
-    nothing-told s (no-points-refused (read s) (sym (ap surveyForm (c .enum-told2 .given .1)) ∙ c .before .before .before .before .survey-model .ensures .0))
+    nothing-found s (no-points-refused (read s) (sym (ap surveyForm (c .enum-told2 .given .1)) ∙ c .before .before .before .before .survey-model .ensures .0))
 
 same-length-3 : tie.Need-same-length-3
 same-length-3 c = search needs
@@ -99,7 +99,7 @@ returns-3 c =
     (m .survey-model .ensures .1 .0) in
     let has = has-points (read s) (sym (ap surveyForm (c .before .before .before .before .before .before .before .survey .given .1)) ∙ m .survey-model .ensures .0) in
     let e = sym (c .before .before .before .before .locate-model .ensures) ∙ ap locatedForm (c .before .before .located .given .1) in
-    ap foundTold (c .target-at .ensures) ∙ model.one-told (s .pre .0) ready (words m) has (s .pre .1 .1 .0) (v .key .number) (v .key .path .instances) (s .pre .1 .0 .1) (v .at) e .1
+    ap foundTold (c .target-at .ensures) ∙ model.one-found (s .pre .0) ready (words m) has (s .pre .1 .1 .0) (v .key .number) (v .key .path .instances) (s .pre .1 .0 .1) (v .at) e .1
 
 same-length-4 : tie.Need-same-length-4
 same-length-4 c = search needs
@@ -113,7 +113,7 @@ returns-4 c =
     (m .survey-model .ensures .1 .0) in
     let has = has-points (read s) (sym (ap surveyForm (c .before .before .before .before .before .survey .given .1)) ∙ m .survey-model .ensures .0) in
     let e = sym (c .before .before .locate-model .ensures) ∙ ap locatedForm (c .enum-told3 .given .1) in
-    model.none-told (s .pre .0) ready (words m) has (s .pre .1 .1 .0) (v .key .number) (v .key .path .instances) (s .pre .1 .0 .1) (v .at) e
+    model.none-found (s .pre .0) ready (words m) has (s .pre .1 .1 .0) (v .key .number) (v .key .path .instances) (s .pre .1 .0 .1) (v .at) e
 
 pub search-model-spec : {M : Type 1} → statement M
 search-model-spec =

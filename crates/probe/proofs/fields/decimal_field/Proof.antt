@@ -24,17 +24,17 @@ shared-slice-read-decimal-digit c = search needs
 decimal-digit-requires : tie.Need-decimal-digit-requires Inv-loop μ-loop
 decimal-digit-requires c κs = search needs
 
-has-room-requires : tie.Need-has-room-requires Inv-loop μ-loop
-has-room-requires c κs = search needs
+digit-fits-requires : tie.Need-digit-fits-requires Inv-loop μ-loop
+digit-fits-requires c κs = search needs
 
 returns : tie.Need-returns Inv-loop μ-loop
 returns c = search needs
 
 mul-value : tie.Need-mul-value Inv-loop μ-loop
-mul-value c = record { fits = omega (arith, c .before .has-room .ensures (not-false _ (c .if1 .left))) }
+mul-value c = record { fits = omega (arith, c .before .digit-fits .ensures (not-false _ (c .if1 .left))) }
 
 add-value : tie.Need-add-value Inv-loop μ-loop
-add-value c = record { fits = omega (arith, c .before .has-room .ensures (not-false _ (c .if1 .left))) }
+add-value c = record { fits = omega (arith, c .before .digit-fits .ensures (not-false _ (c .if1 .left))) }
 
 add-i : tie.Need-add-i Inv-loop μ-loop
 add-i c = search needs
@@ -43,7 +43,7 @@ loop-less : tie.Need-loop-less Inv-loop μ-loop
 loop-less c = search needs
 
 loop-again : tie.Need-loop-again Inv-loop μ-loop
-loop-again c = c .before .has-room .ensures (not-false _ (c .if1 .left))
+loop-again c = c .before .digit-fits .ensures (not-false _ (c .if1 .left))
 
 returns-2 : tie.Need-returns-2 Inv-loop μ-loop
 returns-2 c = search needs
@@ -58,7 +58,7 @@ decimal-field-spec =
     loop-holds
     shared-slice-read-decimal-digit
     decimal-digit-requires
-    has-room-requires
+    digit-fits-requires
     returns
     mul-value
     add-value

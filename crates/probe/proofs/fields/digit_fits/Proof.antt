@@ -1,11 +1,11 @@
--- `probe::fields::has_room` meets its contract.
+-- `probe::fields::digit_fits` meets its contract.
 use mathlib.Core.Path.{_≡_}
 use Prim.Native.Nat.{ℕ}
 use native.Mathlib.Omega.{arith}
 use borrow.Author.Needs.{needs}
 use borrow.Author.Tests.{leb-true, ltb-false}
-use Rattle.probe.proofs.fields.has_room.Statement.{statement}
-use Rattle.probe.proofs.fields.has_room.Tie as tie
+use Rattle.probe.proofs.fields.digit_fits.Statement.{statement}
+use Rattle.probe.proofs.fields.digit_fits.Tie as tie
 
 returns : tie.Need-returns
 returns c = λ t. let z : _≡_ {A = ℕ} 0 1 = cc in absurd (omega arith)
@@ -16,5 +16,5 @@ sub-result c = search needs
 returns-2 : tie.Need-returns-2
 returns-2 c = λ t. omega (arith, leb-true, ltb-false)
 
-pub has-room-spec : {M : Type 1} → statement M
-has-room-spec = tie.close (tie.spec returns sub-result returns-2)
+pub digit-fits-spec : {M : Type 1} → statement M
+digit-fits-spec = tie.close (tie.spec returns sub-result returns-2)
