@@ -29,7 +29,7 @@ zero-first : (n : ℕ) → eqb 0 n ≡ eqb n 0
 zero-first zero = refl
 zero-first (suc n) = ne-eqb 0 (suc n) (λ e. absurd (omega arith)) ∙ sym (ne-eqb (suc n) 0 (λ e. absurd (omega arith)))
 
--- A number that is 0 is another just where that is 0.
+-- A number that is 0 is another if and only if that is 0.
 absent : (x a : ℕ) → x ≡ 0 → eqb x a ≡ eqb a 0
 absent x a e = ap (λ n. eqb n a) e ∙ zero-first a
 

@@ -28,7 +28,7 @@ pub nothing-written : (visit : Visit) (k : ℕ) (ps : List ModelPoint) (out : Li
 nothing-written visit k ps out e =
     (omega (arith, ap length e), sym (ap (λ qs. written visit k qs out) e ∙ written-none visit k out))
 
--- The walk is at a header, with so many records written: what is left has room after them, and leads to the whole.
+-- The walk is at a header, with `records` written: what is left fits after them, and leads to the whole.
 pub record WalkingMap (read : Model → Reading) (map before out : List ℕ) (at index records : ℕ) : Type 0 where
   pub left : List Record
   pub headers : ℕ
@@ -98,7 +98,7 @@ module _ {read : Model → Reading} {map before out : List ℕ} {at index record
     abbrev next : Answer
     next = walkAt read map (index + 1) (at + (2 + len))
 
-    -- So many points have room, and after them the walk goes on.
+    -- The points fit, and after them the walk goes on.
     abbrev Onward : List ModelPoint → Type 0
     Onward ps =
         (recordWidth * (records + length ps) ≤ length out)
@@ -135,7 +135,7 @@ module _ {read : Model → Reading} {map before out : List ℕ} {at index record
           },
         )
 
-    -- The points of a model have room, and after them the walk goes on.
+    -- The points of a model fit, and after them the walk goes on.
     pub walking-goes-on : Onward (pointsOf (read own))
     walking-goes-on = go (read own) refl
       where

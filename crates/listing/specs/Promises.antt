@@ -136,7 +136,7 @@ recordAt visit = Listing.recordOf (visit .index) (visit .address) (visit .id)
 abbrev pub bodyAt : List ℕ → Visit → ℕ → List ℕ
 bodyAt registers visit len = take len (drop (visit .address + 2) registers)
 
--- A list behind points of a model that is walked, the first of them as record number `count`: consecutive records.
+-- A list after the points of a model that is walked are written, the first of them as record number `count`.
 abbrev pub written : Visit → ℕ → List ModelPoint → List ℕ → List ℕ
 written visit count ps out = sets out (Listing.recordWidth * count) (Listing.entries (map (recordAt visit) ps))
 

@@ -80,7 +80,7 @@ pub record SoundCatalog (ds : List Definition) : Type 0 where
 -- ---- What follows for every group and point
 
 -- A fact about each of these groups and each group in them: about the points of the groups around it, its level, its head, its
--- own points and the groups behind it.
+-- own points and the groups after it.
 abbrev pub EachGroup : (List Point → ℕ → Head → List Point → Groups → Type 0) → List Point → ℕ → Groups → Type 0
 EachGroup P enclosing level noGroup = Unit {0}
 EachGroup P enclosing level (group h ps inside behind) =

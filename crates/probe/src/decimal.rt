@@ -21,7 +21,7 @@ pub(crate) fn run(line: &[u8], at: usize) -> bool {
     is_good
 }
 
-// Writes what `decimal` answers in a buffer of so many bytes.
+// Writes what `decimal` returns for a buffer of `length` bytes.
 fn write_in(triple: Triple, length: usize)
     requires { ⌜ length ≤ 64 ⌝ }
 {

@@ -32,14 +32,14 @@ pub(crate) struct Stored {
     pub(crate) next: usize,
 }
 
-// The position after a bad field. No field stands there, so what is read on from a bad field is bad too, and the line
+// The position after a bad field. No field is there, so what is read on from a bad field is bad too, and the line
 // is never read to its end.
 const NOWHERE: usize = usize::MAX;
 
 // The hexadecimal digits of a word.
 pub(crate) const WORD_DIGITS: usize = 4;
 
-// The room for the words of a field. It is one number for all, so that one function can fill it as an array: where an
+// The capacity for the words of a field. It is one number for all, so that one function can fill it as an array: where an
 // array is made and lent as a slice, the prover counts its elements.
 pub(crate) const ROOM: usize = 81920;
 
@@ -143,7 +143,7 @@ fn decimal_digit(b: u8) -> u64 {
     }
 }
 
-// Stores the words of the field at `at`, of so many digits each and at most `limit` of them, at the start of `out`; `-`
+// Stores the words of the field at `at`, of `digits` digits each and at most `limit` of them, at the start of `out`; `-`
 // is no words. A word of fewer than four digits is stored with what stood in `out` before its digits. Where the field is
 // bad, some words may have been stored.
 pub(crate) fn words_field(

@@ -44,7 +44,7 @@ fn list_if(plant: Plant, catalog: &[u16; ROOM], map: &[u16; ROOM], entries: usiz
     plant.is_whole
 }
 
-// Writes what `list` answers when it is given so many entries.
+// Writes what `list` returns when it is given `entries` entries.
 fn list_in(catalog: &[u16], map: &[u16], entries: usize)
     requires { ⌜ entries ≤ 20000 ⌝ }
 {
@@ -89,7 +89,7 @@ fn write_records(list: &[u64], points: usize) {
     }
 }
 
-// What stands before a number of a record.
+// What is written before a number of a record.
 fn gap_before(field: usize) -> usize {
     match field {
         0 => output::SLASH,

@@ -52,7 +52,7 @@ fn main() {
     answer_input(&mut input);
 }
 
-// Answers the input, round by round. Once it has ended, or where a line is longer than the buffer, the
+// Processes the input, round by round. Once it has ended, or where a line is longer than the buffer, the
 // rounds that are left answer nothing.
 fn answer_input(input: &mut [u8]) {
     let mut kept = 0;
@@ -63,7 +63,7 @@ fn answer_input(input: &mut [u8]) {
     }
 }
 
-// Fills the buffer after the bytes that were kept, and answers its whole lines. The line that is cut
+// Fills the buffer after the bytes that were kept, and processes its whole lines. The line that is cut
 // moves to the front, so that each round begins with a line's first byte. Returns how much is kept.
 fn answer_round(input: &mut [u8], kept: usize) -> usize
     requires { ⌜ kept ≤ length (now input) ⌝ }

@@ -4,7 +4,7 @@ use crate::fields;
 use libc::STDOUT_FILENO;
 ghost use Prim.Native.Nat.{_<_};
 
-// The texts of answers, by their number in `say`. (A byte string where each is written costs the prover six times as
+// The texts of results, by their number in `say`. (A byte string where each is written costs the prover six times as
 // much as a number.)
 pub(crate) const MODELS: usize = 0;
 
@@ -54,7 +54,7 @@ pub(crate) fn say(number: usize) {
     );
 }
 
-// Writes the part of `texts` with so many bars before it, up to the next bar.
+// Writes the part of `texts` with `bars` bars before it, up to the next bar.
 fn say_part(texts: &[u8], bars: usize) {
     let mut start = 0;
     let mut i = 0;
@@ -72,7 +72,7 @@ pub(crate) fn text(s: &[u8]) {
     io::write_all(STDOUT_FILENO, s);
 }
 
-// The first bytes of `s`, where it has so many.
+// Writes the first `count` bytes of `s`; nothing where it has fewer.
 pub(crate) fn text_of(s: &[u8], count: usize) {
     if count <= s.len() {
         text(&s[0..count]);

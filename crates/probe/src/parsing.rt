@@ -5,7 +5,7 @@ use crate::output;
 use input::FRAME_WORDS;
 use input::Parsed;
 
-// The hexadecimal digits of a byte. A line can give as many bytes as there is room: more than any input that is not
+// The hexadecimal digits of a byte. A line can fill the capacity: more than any input that is not
 // refused.
 const BYTE_DIGITS: usize = 2;
 
@@ -47,7 +47,7 @@ fn parse_bytes(bytes: &[u8; ROOM], count: usize) {
     parse_part(bytes, count);
 }
 
-// The same, where there are so many.
+// The same of the first `count` bytes; nothing where there are fewer.
 fn parse_part(bytes: &[u8], count: usize) {
     if count <= bytes.len() {
         parse_in(&bytes[0..count]);
@@ -66,7 +66,7 @@ fn parse_in(text: &[u8]) {
 fn write_parsed(parsed: Parsed, catalog: &[u16; PARSED_CAPACITY], map: &[u16; PARSED_CAPACITY]) {
     match parsed {
         Parsed::Of { frames, registers } => {
-            // The frames fit the room, so the remainder is their number. It shows that the product fits.
+            // The frames fit the capacity, so the remainder is their number. It shows that the product fits.
             let words = frames % PARSED_CAPACITY * FRAME_WORDS;
             output::say(output::PARSED);
             output::words(catalog, words);

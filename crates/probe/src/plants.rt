@@ -17,7 +17,7 @@ pub(crate) struct Plant {
     pub(crate) is_whole: bool,
 }
 
-// Stores the words of the field at `at` and those of the next, at most so many of each.
+// Stores the words of the field at `at` and those of the next, at most `most` and `most_registers`.
 pub(crate) fn plant_at(
     line: &[u8],
     at: usize,

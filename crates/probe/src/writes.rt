@@ -84,14 +84,14 @@ fn write_if(plant: Plant, catalog: &[u16; ROOM], map: &mut [u16; ROOM], asked: W
     plant.is_whole
 }
 
-// The same in the first registers of `map`, where it has so many.
+// The same in the first `registers` of `map`; nothing where it has fewer.
 fn write_part(catalog: &[u16], map: &mut [u16], registers: usize, asked: Write) {
     if registers <= map.len() {
         write_in(catalog, &mut map[0..registers], asked);
     }
 }
 
-// Writes what `write` answers, and the map after it.
+// Writes what `write` returns, and the map after it.
 fn write_in(catalog: &[u16], map: &mut [u16], asked: Write) {
     let path = asked.path;
     let written = writing::write(

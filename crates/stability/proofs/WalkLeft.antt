@@ -70,7 +70,7 @@ module _ (choice : List Bool) (ds : List Definition) where
           selected-none (λ r. keepsId choice ds (r .id)) (own ps)
           (each-map T (recordOf index at (m .id)) ps (each-all (λ p. T (recordOf index at (m .id) p)) (λ p. e) ps))
 
-      -- What is in front of them.
+      -- What is before them.
       in-front : (rs ss : List Record) → recordsLeft choice ds rs ≡ ss → Leaves (index + 1) ms all left
           → walk read ending index at (m ∷ ms) ≡ withRecords rs all → walk less ending index at (m ∷ ms) ≡ withRecords ss left
           → Leaves index (m ∷ ms) (walk read ending index at (m ∷ ms)) (walk less ending index at (m ∷ ms))

@@ -1,4 +1,4 @@
--- `probe::main` is safe. That a buffer of so many zeros has that length is said by the lemma, since `search` would count them.
+-- `probe::main` is safe. That a buffer of n zeros has length n is said by the lemma, since `search` would count them.
 use Prim.Native.Nat.{ℕ}
 use mathlib.Core.Path.{sym}
 use borrow.Author.Needs.{needs}
