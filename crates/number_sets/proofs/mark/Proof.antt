@@ -6,12 +6,6 @@ use borrow.Author.Needs.{needs}
 use Rattle.number_sets.proofs.mark.Statement.{statement}
 use Rattle.number_sets.proofs.mark.Tie as tie
 
-put-in-requires : tie.Need-put-in-requires
-put-in-requires c κs = search needs
-
-take-out-requires : tie.Need-take-out-requires
-take-out-requires c κs = search needs
-
 returns : tie.Need-returns
 returns c =
     let a = c .before .before .before .args in
@@ -25,4 +19,4 @@ returns-2 c =
     rw (c .before .before .if1 .left, c .take-out .ensures) (refl, m)
 
 pub mark-spec : {M : Type 1} → statement M
-mark-spec = tie.close (tie.spec put-in-requires take-out-requires returns returns-2)
+mark-spec = tie.close (tie.spec (λ c κs. search needs) (λ c κs. search needs) returns returns-2)

@@ -8,12 +8,6 @@ use Rattle.shown_points.proofs.PointClasses.{few-class, zero-class, oth
 use Rattle.shown_points.proofs.class_of.Statement.{statement}
 use Rattle.shown_points.proofs.class_of.Tie as tie
 
-raw-value-requires : tie.Need-raw-value-requires
-raw-value-requires c κs = search needs
-
-classify-requires : tie.Need-classify-requires
-classify-requires c κs = search needs
-
 returns : tie.Need-returns
 returns c =
     let a = c .before .before .before .before .args in
@@ -22,20 +16,11 @@ returns c =
     c .before .raw-value .ensures .0 ∙ shown (a .registers .now) few in
     c .classify .ensures ∙ ap (classified (a .type-code)) raw ∙ sym (few-class (a .type-code) (a .registers .now) few)
 
-all-zero-requires : tie.Need-all-zero-requires
-all-zero-requires c κs = search needs
-
-classify-requires-2 : tie.Need-classify-requires-2
-classify-requires-2 c κs = search needs
-
 returns-2 : tie.Need-returns-2
 returns-2 c =
     let a = c .before .before .before .before .before .args in
     let zero = sym (c .before .before .all-zero .ensures) ∙ c .before .if2 .taken in
     c .classify2 .ensures ∙ sym (zero-class (a .type-code) (a .registers .now) (c .before .before .before .if1 .left) zero)
-
-classify-requires-3 : tie.Need-classify-requires-3
-classify-requires-3 c κs = search needs
 
 returns-3 : tie.Need-returns-3
 returns-3 c =
@@ -47,11 +32,11 @@ pub class-of-spec : {M : Type 1} → statement M
 class-of-spec =
     tie.close
     (tie.spec
-    raw-value-requires
-    classify-requires
+    (λ c κs. search needs)
+    (λ c κs. search needs)
     returns
-    all-zero-requires
-    classify-requires-2
+    (λ c κs. search needs)
+    (λ c κs. search needs)
     returns-2
-    classify-requires-3
+    (λ c κs. search needs)
     returns-3)

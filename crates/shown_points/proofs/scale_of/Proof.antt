@@ -11,9 +11,6 @@ returns c =
     let a = c .before .args in
     sym (no-value (pointForm (a .point)) (a .scale-register) (a .status) (c .if1 .taken))
 
-cast-result : tie.Need-cast-result
-cast-result c = search needs
-
 returns-2 : tie.Need-returns-2
 returns-2 c =
     let a = c .before .before .before .args in
@@ -32,4 +29,4 @@ returns-4 c =
     sym (no-scale (pointForm (a .point)) (a .scale-register) (a .status) (c .before .if1 .left) (n .0 .1) (n .1))
 
 pub scale-of-spec : {M : Type 1} → statement M
-scale-of-spec = tie.close (tie.spec returns cast-result returns-2 returns-3 returns-4)
+scale-of-spec = tie.close (tie.spec returns (λ c. search needs) returns-2 returns-3 returns-4)

@@ -8,18 +8,6 @@ use Rattle.layout.specs.Points.{statusOf, scaleOf}
 use Rattle.shown_points.proofs.show.Statement.{statement}
 use Rattle.shown_points.proofs.show.Tie as tie
 
-class-of-requires : tie.Need-class-of-requires
-class-of-requires c κs = search needs
-
-status-of-requires : tie.Need-status-of-requires
-status-of-requires c κs = search needs
-
-raw-value-requires : tie.Need-raw-value-requires
-raw-value-requires c κs = search needs
-
-scale-of-requires : tie.Need-scale-of-requires
-scale-of-requires c κs = search needs
-
 returns : tie.Need-returns
 returns c =
     let classed = c .before .before .before in
@@ -34,4 +22,4 @@ returns c =
 pub show-spec : {M : Type 1} → statement M
 show-spec =
     tie.close
-    (tie.spec class-of-requires status-of-requires raw-value-requires scale-of-requires returns)
+    (tie.spec (λ c κs. search needs) (λ c κs. search needs) (λ c κs. search needs) (λ c κs. search needs) returns)

@@ -15,20 +15,11 @@ returns c =
     let told = c .before .before .enum-told .given .1 in
     rw told (sym (value-alone (pointForm (a .point)) (a .scale-register) (c .if1 .taken)))
 
-scale-status-requires : tie.Need-scale-status-requires
-scale-status-requires c κs = search needs
-
-enum-told-2 : tie.Need-enum-told-2
-enum-told-2 c = search needs
-
 returns-2 : tie.Need-returns-2
 returns-2 c =
     let a = c .before .before .before .before .args in
     let told = c .before .before .enum-told2 .given .1 in
     rw told (sym (missing-mandatory (pointForm (a .point)) (a .scale-register) (c .if2 .taken)))
-
-enum-told-3 : tie.Need-enum-told-3
-enum-told-3 c = search needs
 
 returns-3 : tie.Need-returns-3
 returns-3 c =
@@ -42,19 +33,16 @@ returns-4 c =
     let told = c .before .before .enum-told2 .given .1 in
     rw told (sym (missing-optional (pointForm (a .point)) (a .scale-register) (c .if2 .left)))
 
-returns-5 : tie.Need-returns-5
-returns-5 c = search needs
-
 pub status-of-class-spec : {M : Type 1} → statement M
 status-of-class-spec =
     tie.close
     (tie.spec
     enum-told
     returns
-    scale-status-requires
-    enum-told-2
+    (λ c κs. search needs)
+    (λ c. search needs)
     returns-2
-    enum-told-3
+    (λ c. search needs)
     returns-3
     returns-4
-    returns-5)
+    (λ c. search needs))

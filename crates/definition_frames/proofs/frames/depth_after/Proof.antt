@@ -6,29 +6,8 @@ use Rattle.layout.specs.Walks.{openBehind}
 use Rattle.definition_frames.proofs.frames.depth_after.Statement.{statement}
 use Rattle.definition_frames.proofs.frames.depth_after.Tie as tie
 
-read-frame-requires : tie.Need-read-frame-requires
-read-frame-requires c κs = search needs
-
 enum-told : tie.Need-enum-told
 enum-told c = search needs
-
-enum-told-2 : tie.Need-enum-told-2
-enum-told-2 c = search needs
-
-add-result : tie.Need-add-result
-add-result c = search needs
-
-enum-told-3 : tie.Need-enum-told-3
-enum-told-3 c = search needs
-
-enum-told-4 : tie.Need-enum-told-4
-enum-told-4 c = search needs
-
-sub-result : tie.Need-sub-result
-sub-result c = search needs
-
-enum-told-5 : tie.Need-enum-told-5
-enum-told-5 c = search needs
 
 returns : tie.Need-returns
 returns c =
@@ -59,14 +38,14 @@ pub depth-after-spec : {M : Type 1} → statement M
 depth-after-spec =
     tie.close
     (tie.spec
-    read-frame-requires
+    (λ c κs. search needs)
     enum-told
-    enum-told-2
-    add-result
-    enum-told-3
-    enum-told-4
-    sub-result
-    enum-told-5
+    (λ c. search needs)
+    (λ c. search needs)
+    (λ c. search needs)
+    (λ c. search needs)
+    (λ c. search needs)
+    (λ c. search needs)
     returns
     returns-2
     returns-3

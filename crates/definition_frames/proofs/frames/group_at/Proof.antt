@@ -6,23 +6,8 @@ use Rattle.layout.specs.Walks.{headOf}
 use Rattle.definition_frames.proofs.frames.group_at.Statement.{statement}
 use Rattle.definition_frames.proofs.frames.group_at.Tie as tie
 
-read-frame-requires : tie.Need-read-frame-requires
-read-frame-requires c κs = search needs
-
 enum-told : tie.Need-enum-told
 enum-told c = search needs
-
-enum-known-frame : tie.Need-enum-known-frame
-enum-known-frame c = search needs
-
-enum-told-2 : tie.Need-enum-told-2
-enum-told-2 c = search needs
-
-enum-told-3 : tie.Need-enum-told-3
-enum-told-3 c = search needs
-
-enum-told-4 : tie.Need-enum-told-4
-enum-told-4 c = search needs
 
 returns : tie.Need-returns
 returns c = ap headOf (sym (ap frameForm (c .enum-told .given .1)) ∙ c .before .before .read-frame .ensures)
@@ -43,12 +28,12 @@ pub group-at-spec : {M : Type 1} → statement M
 group-at-spec =
     tie.close
     (tie.spec
-    read-frame-requires
+    (λ c κs. search needs)
     enum-told
-    enum-known-frame
-    enum-told-2
-    enum-told-3
-    enum-told-4
+    (λ c. search needs)
+    (λ c. search needs)
+    (λ c. search needs)
+    (λ c. search needs)
     returns
     returns-2
     returns-3

@@ -29,9 +29,6 @@ returns-3 c =
     sym (pads.another-length (a .id) (runForm (a .run)) (headOf (frameIn (a .catalog .now) (a .run .next))) (a .length) (c .before .before .before .before .if1 .left)
     (not-false (a .run .«ends_with_pad») (c .before .before .if2 .left)) longer)
 
-sub-if4 : tie.Need-sub-if4
-sub-if4 c = search needs
-
 returns-4 : tie.Need-returns-4
 returns-4 c =
     let a = c .before .before .before .before .before .before .before .before .args in
@@ -39,14 +36,8 @@ returns-4 c =
     sym (pads.another-length (a .id) (runForm (a .run)) (headOf (frameIn (a .catalog .now) (a .run .next))) (a .length) (c .before .before .before .before .before .before .if1 .left)
     (not-false (a .run .«ends_with_pad») (c .before .before .before .before .if2 .left)) shorter)
 
-group-at-requires : tie.Need-group-at-requires
-group-at-requires c κs = search needs
-
 enum-told : tie.Need-enum-told
 enum-told c = search needs
-
-enum-told-2 : tie.Need-enum-told-2
-enum-told-2 c = search needs
 
 -- One register short, the group decides.
 by-group : (c : tie.After-group-at) → let a = c .before .before .before .before .before .before .before .before .before .args in
@@ -72,10 +63,10 @@ is-pad-left-out-spec =
     returns
     returns-2
     returns-3
-    sub-if4
+    (λ c. search needs)
     returns-4
-    group-at-requires
+    (λ c κs. search needs)
     enum-told
-    enum-told-2
+    (λ c. search needs)
     returns-5
     returns-6)

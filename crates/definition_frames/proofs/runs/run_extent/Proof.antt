@@ -28,20 +28,8 @@ loop-holds c =
     let a = c .before .args in
     (run-begins (take 4096 (run (onward (a .catalog .now) (a .first)))) (a .first), omega arith)
 
-point-at-requires : tie.Need-point-at-requires Inv-loop μ-loop
-point-at-requires c κs = search needs
-
-enum-known-next : tie.Need-enum-known-next Inv-loop μ-loop
-enum-known-next c = search needs
-
-cast-size : tie.Need-cast-size Inv-loop μ-loop
-cast-size c = search needs
-
 add-size : tie.Need-add-size Inv-loop μ-loop
 add-size c = let l = c .before .before .before .before .before .before .loop in omega (arith, l .inv .0 .bounded)
-
-add-points : tie.Need-add-points Inv-loop μ-loop
-add-points c = search needs
 
 add-i : tie.Need-add-i Inv-loop μ-loop
 add-i c =
@@ -53,9 +41,6 @@ add-i c =
     let f = sym (read .before .before .point-at .ensures) ∙ ap pointOrForm (read .next .given .1) in
     let more = run-more (a .catalog .now) (l .i) p f in
     omega (arith, more .0)
-
-loop-less : tie.Need-loop-less Inv-loop μ-loop
-loop-less c = search needs
 
 loop-again : tie.Need-loop-again Inv-loop μ-loop
 loop-again c =
@@ -102,13 +87,13 @@ run-extent-spec =
     Inv-loop
     μ-loop
     loop-holds
-    point-at-requires
-    enum-known-next
-    cast-size
+    (λ c κs. search needs)
+    (λ c. search needs)
+    (λ c. search needs)
     add-size
-    add-points
+    (λ c. search needs)
     add-i
-    loop-less
+    (λ c. search needs)
     loop-again
     enum-told
     returns

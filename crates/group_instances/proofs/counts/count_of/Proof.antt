@@ -23,18 +23,6 @@ fills s f h a b = go (eqb (h .countKind) constantCount) (eqb (h .countKind) coun
         → f ≡ elim x [ true ↦ h .count | false ↦ elim y [ true ↦ s (h .count) | false ↦ f ] ]
     go x y e q = rw (e, q)
 
-cast-result : tie.Need-cast-result
-cast-result c = search needs
-
-cast-entry-of : tie.Need-cast-entry-of
-cast-entry-of c = search needs
-
-entry-of-requires : tie.Need-entry-of-requires
-entry-of-requires c κs = search needs
-
-cast-result-2 : tie.Need-cast-result-2
-cast-result-2 c = search needs
-
 returns : tie.Need-returns
 returns c = (rw (c .before .match .keys1), omega arith)
 
@@ -51,10 +39,10 @@ pub count-of-spec : {M : Type 1} → statement M
 count-of-spec =
     tie.close
     (tie.spec
-    cast-result
-    cast-entry-of
-    entry-of-requires
-    cast-result-2
+    (λ c. search needs)
+    (λ c. search needs)
+    (λ c κs. search needs)
+    (λ c. search needs)
     returns
     returns-2
     returns-3)

@@ -23,16 +23,10 @@ returns-3 c =
     let same : a .length ≡ a .rest = omega (arith, c .if3 .left, long) in
     sym (fills.rest-alone (a .length) (a .rest) (a .size) (c .before .if2 .taken) same)
 
-rem-if4 : tie.Need-rem-if4
-rem-if4 c = search needs
-
 returns-4 : tie.Need-returns-4
 returns-4 c =
     let a = c .before .before .before .args in
     sym (fills.left-over (a .length) (a .rest) (a .size) (c .before .if2 .left) (c .before .before .if1 .left) (c .if4 .taken))
-
-div-t7 : tie.Need-div-t7
-div-t7 c = search needs
 
 returns-5 : tie.Need-returns-5
 returns-5 c =
@@ -41,4 +35,4 @@ returns-5 c =
 
 pub fill-count-spec : {M : Type 1} → statement M
 fill-count-spec =
-    tie.close (tie.spec returns returns-2 returns-3 rem-if4 returns-4 div-t7 returns-5)
+    tie.close (tie.spec returns returns-2 returns-3 (λ c. search needs) returns-4 (λ c. search needs) returns-5)

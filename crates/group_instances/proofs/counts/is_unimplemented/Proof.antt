@@ -7,14 +7,8 @@ use Rattle.group_instances.proofs.counts.is_unimplemented.Tie as tie
 returns : tie.Need-returns
 returns c = simp (ne-eqb _ _ (c .if1 .taken))
 
-cast-entry-of : tie.Need-cast-entry-of
-cast-entry-of c = search needs
-
-entry-of-requires : tie.Need-entry-of-requires
-entry-of-requires c κs = search needs
-
 returns-2 : tie.Need-returns-2
 returns-2 c = simp (eq-eqb _ _ (c .before .before .if1 .left), ← c .entry-of .ensures)
 
 pub is-unimplemented-spec : {M : Type 1} → statement M
-is-unimplemented-spec = tie.close (tie.spec returns cast-entry-of entry-of-requires returns-2)
+is-unimplemented-spec = tie.close (tie.spec returns (λ c. search needs) (λ c κs. search needs) returns-2)

@@ -9,15 +9,6 @@ use Rattle.registers.specs.Registers.{allZero}
 use Rattle.group_instances.proofs.paths.is_zero_from.Statement.{statement}
 use Rattle.group_instances.proofs.paths.is_zero_from.Tie as tie
 
-slice-aggregate-part : tie.Need-slice-aggregate-part
-slice-aggregate-part c = search needs
-
-part-requires : tie.Need-part-requires
-part-requires c κs = search needs
-
-all-zero-requires : tie.Need-all-zero-requires
-all-zero-requires c κs = search needs
-
 returns : tie.Need-returns
 returns c =
     let a = c .before .before .before .before .args in
@@ -28,4 +19,4 @@ returns c =
 
 pub is-zero-from-spec : {M : Type 1} → statement M
 is-zero-from-spec =
-    tie.close (tie.spec slice-aggregate-part part-requires all-zero-requires returns)
+    tie.close (tie.spec (λ c. search needs) (λ c κs. search needs) (λ c κs. search needs) returns)

@@ -17,14 +17,5 @@ returns c =
     let past : length (a .path .instances) ≤ a .place = omega (arith, three, c .if1 .taken) in
     sym (List·getD-eq-default (a .path .instances) 0 {n = a .place} past)
 
-mul-result : tie.Need-mul-result
-mul-result c = search needs
-
-array-read-result : tie.Need-array-read-result
-array-read-result c = search needs
-
-cast-result : tie.Need-cast-result
-cast-result c = search needs
-
 pub number-at-spec : {M : Type 1} → statement M
-number-at-spec = tie.close (tie.spec returns mul-result array-read-result cast-result returns-2)
+number-at-spec = tie.close (tie.spec returns (λ c. search needs) (λ c. search needs) (λ c. search needs) returns-2)

@@ -11,12 +11,6 @@ use Rattle.group_instances.proofs.paths.with_number.Tie as tie
 returns : tie.Need-returns
 returns c = refl
 
-mul-instances : tie.Need-mul-instances
-mul-instances c = search needs
-
-array-write-instances : tie.Need-array-write-instances
-array-write-instances c = search needs
-
 returns-2 : tie.Need-returns-2
 returns-2 c =
     let a = c .before .before .args in
@@ -25,4 +19,4 @@ returns-2 c =
     sym (set-out (a .path .instances) (a .place) (a .number) past)
 
 pub with-number-spec : {M : Type 1} → statement M
-with-number-spec = tie.close (tie.spec mul-instances array-write-instances returns returns-2)
+with-number-spec = tie.close (tie.spec (λ c. search needs) (λ c. search needs) returns returns-2)

@@ -10,14 +10,5 @@ returns c =
     let a = c .before .args in
     sym (List·getD-eq-default (a .table .now) 0 {n = a .number} (c .if1 .taken))
 
-mul-result : tie.Need-mul-result
-mul-result c = search needs
-
-shared-slice-read-result : tie.Need-shared-slice-read-result
-shared-slice-read-result c = search needs
-
-returns-2 : tie.Need-returns-2
-returns-2 c = search needs
-
 pub entry-of-spec : {M : Type 1} → statement M
-entry-of-spec = tie.close (tie.spec returns mul-result shared-slice-read-result returns-2)
+entry-of-spec = tie.close (tie.spec returns (λ c. search needs) (λ c. search needs) (λ c. search needs))

@@ -27,30 +27,6 @@ abbrev μ-loop : tie.MeasureT-loop
 loop-holds : tie.Need-loop-holds Inv-loop μ-loop
 loop-holds c = (refl, refl)
 
-point-at-requires : tie.Need-point-at-requires Inv-loop μ-loop
-point-at-requires c κs = search needs
-
-enum-known-next : tie.Need-enum-known-next Inv-loop μ-loop
-enum-known-next c = search needs
-
-cast-set-entry : tie.Need-cast-set-entry Inv-loop μ-loop
-cast-set-entry c = search needs
-
-mul-set-entry : tie.Need-mul-set-entry Inv-loop μ-loop
-mul-set-entry c = search needs
-
-shared-slice-read-set-entry : tie.Need-shared-slice-read-set-entry Inv-loop μ-loop
-shared-slice-read-set-entry c = search needs
-
-set-entry-requires : tie.Need-set-entry-requires Inv-loop μ-loop
-set-entry-requires c κs = search needs
-
-cast-at : tie.Need-cast-at Inv-loop μ-loop
-cast-at c = search needs
-
-add-at : tie.Need-add-at Inv-loop μ-loop
-add-at c = search needs
-
 add-i : tie.Need-add-i Inv-loop μ-loop
 add-i c =
     let read = c .before .before .before .before .before .before .before .before in
@@ -95,9 +71,6 @@ loop-again c =
 enum-told : tie.Need-enum-told Inv-loop μ-loop
 enum-told c = search needs
 
-same-length : tie.Need-same-length Inv-loop μ-loop
-same-length c = search needs
-
 returns : tie.Need-returns Inv-loop μ-loop
 returns c =
     let head = c .before .before .before .before in
@@ -109,9 +82,6 @@ returns c =
     ∙ ap (λ (ps : List Point). noted body (l .at) (begun (length body) (l .at) ps) (l .table))
     (sym (run-ends (a .catalog .now) (l .i) f))
     ∙ l .inv .0
-
-same-length-2 : tie.Need-same-length-2 Inv-loop μ-loop
-same-length-2 c = search needs
 
 returns-2 : tie.Need-returns-2 Inv-loop μ-loop
 returns-2 c =
@@ -126,19 +96,19 @@ note-run-spec =
     Inv-loop
     μ-loop
     loop-holds
-    point-at-requires
-    enum-known-next
-    cast-set-entry
-    mul-set-entry
-    shared-slice-read-set-entry
-    set-entry-requires
-    cast-at
-    add-at
+    (λ c κs. search needs)
+    (λ c. search needs)
+    (λ c. search needs)
+    (λ c. search needs)
+    (λ c. search needs)
+    (λ c κs. search needs)
+    (λ c. search needs)
+    (λ c. search needs)
     add-i
     loop-less
     loop-again
     enum-told
-    same-length
+    (λ c. search needs)
     returns
-    same-length-2
+    (λ c. search needs)
     returns-2)

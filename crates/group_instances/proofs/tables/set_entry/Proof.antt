@@ -5,22 +5,10 @@ use lib.Seq.{set-out}
 use Rattle.group_instances.proofs.tables.set_entry.Statement.{statement}
 use Rattle.group_instances.proofs.tables.set_entry.Tie as tie
 
-mul-table : tie.Need-mul-table
-mul-table c = search needs
-
-slice-write-table : tie.Need-slice-write-table
-slice-write-table c = search needs
-
-same-length : tie.Need-same-length
-same-length c = search needs
-
-returns : tie.Need-returns
-returns c = search needs
-
 returns-2 : tie.Need-returns-2
 returns-2 c =
     let a = c .before .args in
     sym (set-out (a .table .now) (a .number) (a .register) (c .if1 .left))
 
 pub set-entry-spec : {M : Type 1} → statement M
-set-entry-spec = tie.close (tie.spec mul-table slice-write-table same-length returns returns-2)
+set-entry-spec = tie.close (tie.spec (λ c. search needs) (λ c. search needs) (λ c. search needs) (λ c. search needs) returns-2)
