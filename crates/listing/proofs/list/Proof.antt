@@ -31,15 +31,6 @@ survey-walk catalog registers out points headers e room =
 slice-aggregate-survey-plant : tie.Need-slice-aggregate-survey-plant
 slice-aggregate-survey-plant c = sym (length-replicate {A = ℕ} 65536 0)
 
-survey-plant-requires : tie.Need-survey-plant-requires
-survey-plant-requires c κs = search needs
-
-enum-known-survey : tie.Need-enum-known-survey
-enum-known-survey c = search needs
-
-refused-requires : tie.Need-refused-requires
-refused-requires c κs = search needs
-
 returns : tie.Need-returns
 returns c =
     let m = c .before .before .before .before .before .before in
@@ -51,9 +42,6 @@ returns c =
     let n = no-room out a (g .0 .0) (g .0 .1 .0) e (omega arith) in
     answered-by out (listing-records (v .catalog .now) (v .map .now) (length out)) (c .refused .ensures ∙ n .0, n .1)
 
-slice-aggregate-put-map : tie.Need-slice-aggregate-put-map
-slice-aggregate-put-map c = search needs
-
 put-map-requires : tie.Need-put-map-requires
 put-map-requires c κs =
     let m = c .before .before .before .before .before .before .before in
@@ -62,15 +50,6 @@ put-map-requires c κs =
     let e = sym (ap answer (g .1)) ∙ m .survey-plant .ensures .0 in
     let w = survey-walk (v .catalog .now) (v .map .now) (v .out .now) (g .0 .0) (g .0 .1 .0) e (omega arith) in
     ((w .0 .models, w .0 .accepted), (w .0 .opens, (m .survey-plant .ensures .1, w .1)))
-
-enum-known-survey-2 : tie.Need-enum-known-survey-2
-enum-known-survey-2 c = search needs
-
-refused-requires-2 : tie.Need-refused-requires-2
-refused-requires-2 c κs = search needs
-
-same-length : tie.Need-same-length
-same-length c = search needs
 
 returns-2 : tie.Need-returns-2
 returns-2 c =
@@ -101,14 +80,14 @@ list-spec =
     tie.close
     (tie.spec
     slice-aggregate-survey-plant
-    survey-plant-requires
-    enum-known-survey
-    refused-requires
+    (λ c κs. search needs)
+    (λ c. search needs)
+    (λ c κs. search needs)
     returns
-    slice-aggregate-put-map
+    (λ c. search needs)
     put-map-requires
-    enum-known-survey-2
-    refused-requires-2
-    same-length
+    (λ c. search needs)
+    (λ c κs. search needs)
+    (λ c. search needs)
     returns-2
     returns-3)

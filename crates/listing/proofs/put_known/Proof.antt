@@ -29,12 +29,6 @@ long s =
     length-take-le (s .args .length) (registers s)
     (omega (arith, s .pre .1 .1 .0 .0, length-drop (s .args .visit .address + 2) (s .args .map .now)))
 
-add-part : tie.Need-add-part
-add-part c = search needs
-
-part-requires : tie.Need-part-requires
-part-requires c κs = search needs
-
 survey-model-requires : tie.Need-survey-model-requires
 survey-model-requires c κs =
     let s = c .before .before .before .before .before .before .before in
@@ -42,12 +36,6 @@ survey-model-requires c κs =
 
 enum-told : tie.Need-enum-told
 enum-told c = search needs
-
-enum-told-2 : tie.Need-enum-told-2
-enum-told-2 c = search needs
-
-enum-known-survey : tie.Need-enum-known-survey
-enum-known-survey c = search needs
 
 put-model-requires : tie.Need-put-model-requires
 put-model-requires c κs =
@@ -63,9 +51,6 @@ put-model-requires c κs =
     (sym (ap surveyForm (c .before .before .before .survey .given .1)) ∙ m .survey-model .ensures .0) in
     (s .pre .0, (ready, (has, ((omega (arith, ap length (part .ensures), long s, s .pre .1 .1 .0 .1), omega arith), room))))
 
-same-length : tie.Need-same-length
-same-length c = search needs
-
 returns : tie.Need-returns
 returns c =
     let m = c .before .before .before .before in
@@ -77,9 +62,6 @@ returns c =
     let w = nothing-written (v .visit) (v .records) (pointsOf (read s (take (v .length) (registers s)))) (v .out .now) none in
     (w .0, (w .1, m .survey-model .ensures .1 .1))
 
-same-length-2 : tie.Need-same-length-2
-same-length-2 c = search needs
-
 returns-2 : tie.Need-returns-2
 returns-2 c =
     let m = c .before .before .before .before in
@@ -90,12 +72,6 @@ returns-2 c =
     let none = ap (λ b. pointsOf (read s b)) (sym (part .ensures)) ∙ no-points-refused (read s (part .result .now)) seen in
     let w = nothing-written (v .visit) (v .records) (pointsOf (read s (take (v .length) (registers s)))) (v .out .now) none in
     (w .0, (w .1, m .survey-model .ensures .1 .1))
-
-same-length-3 : tie.Need-same-length-3
-same-length-3 c = search needs
-
-same-length-4 : tie.Need-same-length-4
-same-length-4 c = search needs
 
 returns-3 : tie.Need-returns-3
 returns-3 c =
@@ -112,17 +88,17 @@ pub put-known-spec : {M : Type 1} → statement M
 put-known-spec =
     tie.close
     (tie.spec
-    add-part
-    part-requires
+    (λ c. search needs)
+    (λ c κs. search needs)
     survey-model-requires
     enum-told
-    enum-told-2
-    enum-known-survey
+    (λ c. search needs)
+    (λ c. search needs)
     put-model-requires
-    same-length
+    (λ c. search needs)
     returns
-    same-length-2
+    (λ c. search needs)
     returns-2
-    same-length-3
-    same-length-4
+    (λ c. search needs)
+    (λ c. search needs)
     returns-3)

@@ -29,15 +29,6 @@ loop-holds c =
     let v = s .args in
     (walking-starts (reading (definitions (v .catalog .now))) (v .map .now) (v .out .now) (s .pre .1 .1 .1), s .pre .1 .1 .0)
 
-header-at-requires : tie.Need-header-at-requires Inv-loop μ-loop
-header-at-requires c κs = search needs
-
-enum-known-header : tie.Need-enum-known-header Inv-loop μ-loop
-enum-known-header c = search needs
-
-cast-put-known : tie.Need-cast-put-known Inv-loop μ-loop
-cast-put-known c = search needs
-
 put-known-requires : tie.Need-put-known-requires Inv-loop μ-loop
 put-known-requires c κs =
     let k = c .before .before .before in
@@ -49,15 +40,6 @@ put-known-requires c κs =
     let next = walking-goes-on (l .inv .0) short h in
     let ends = model-ends (eqb (l .at) 2) (s .args .map .now) (l .at) h in
     (s .pre .0, (l .inv .1, ((omega (arith, ends), omega (arith, ends, short), short), next .0)))
-
-after-model-requires : tie.Need-after-model-requires Inv-loop μ-loop
-after-model-requires c κs = search needs
-
-add-index : tie.Need-add-index Inv-loop μ-loop
-add-index c = search needs
-
-loop-less : tie.Need-loop-less Inv-loop μ-loop
-loop-less c = search needs
 
 loop-again : tie.Need-loop-again Inv-loop μ-loop
 loop-again c =
@@ -78,9 +60,6 @@ loop-again c =
 enum-told : tie.Need-enum-told Inv-loop μ-loop
 enum-told c = search needs
 
-same-length : tie.Need-same-length Inv-loop μ-loop
-same-length c = search needs
-
 same-length-2 : tie.Need-same-length-2 Inv-loop μ-loop
 same-length-2 c = c .before .before .before .before .loop .inv .0 .sameLength
 
@@ -89,12 +68,6 @@ returns c =
     let h = sym (c .before .before .header-at .ensures) ∙ ap headerForm (c .enum-told .given .1) in
     walking-ends (c .before .before .before .before .loop .inv .0) (omega arith) h
 
-enum-told-2 : tie.Need-enum-told-2 Inv-loop μ-loop
-enum-told-2 c = search needs
-
-same-length-3 : tie.Need-same-length-3 Inv-loop μ-loop
-same-length-3 c = search needs
-
 same-length-4 : tie.Need-same-length-4 Inv-loop μ-loop
 same-length-4 c = c .before .before .before .before .loop .inv .0 .sameLength
 
@@ -102,9 +75,6 @@ returns-2 : tie.Need-returns-2 Inv-loop μ-loop
 returns-2 c =
     let h = sym (c .before .before .header-at .ensures) ∙ ap headerForm (c .enum-told2 .given .1) in
     walking-refused (c .before .before .before .before .loop .inv .0) (omega arith) h
-
-same-length-5 : tie.Need-same-length-5 Inv-loop μ-loop
-same-length-5 c = search needs
 
 same-length-6 : tie.Need-same-length-6 Inv-loop μ-loop
 same-length-6 c = c .before .loop .inv .0 .sameLength
@@ -119,22 +89,22 @@ put-map-spec =
     Inv-loop
     μ-loop
     loop-holds
-    header-at-requires
-    enum-known-header
-    cast-put-known
+    (λ c κs. search needs)
+    (λ c. search needs)
+    (λ c. search needs)
     put-known-requires
-    after-model-requires
-    add-index
-    loop-less
+    (λ c κs. search needs)
+    (λ c. search needs)
+    (λ c. search needs)
     loop-again
     enum-told
-    same-length
+    (λ c. search needs)
     same-length-2
     returns
-    enum-told-2
-    same-length-3
+    (λ c. search needs)
+    (λ c. search needs)
     same-length-4
     returns-2
-    same-length-5
+    (λ c. search needs)
     same-length-6
     returns-3)

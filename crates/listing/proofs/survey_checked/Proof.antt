@@ -9,9 +9,6 @@ use Rattle.listing.proofs.survey_checked.Statement.{statement}
 use Rattle.listing.proofs.survey_checked.Tie as tie
 use borrow.Author.Needs.{needs}
 
-opened-requires : tie.Need-opened-requires
-opened-requires c κs = search needs
-
 enum-told : tie.Need-enum-told
 enum-told c = search needs
 
@@ -20,15 +17,6 @@ survey-map-requires c κs =
     let t = c .before in
     let e = sym (t .before .before .opened .ensures) ∙ ap openingForm (t .enum-told .given .1) in
     (c .before .before .before .before .before .before .before .pre .0, (e, c .before .before .before .before .before .before .before .pre .1))
-
-enum-known-opening : tie.Need-enum-known-opening
-enum-known-opening c = search needs
-
-refused-requires : tie.Need-refused-requires
-refused-requires c κs = search needs
-
-same-length : tie.Need-same-length
-same-length c = search needs
 
 returns : tie.Need-returns
 returns c =
@@ -48,11 +36,11 @@ pub survey-checked-spec : {M : Type 1} → statement M
 survey-checked-spec =
     tie.close
     (tie.spec
-    opened-requires
+    (λ c κs. search needs)
     enum-told
     survey-map-requires
-    enum-known-opening
-    refused-requires
-    same-length
+    (λ c. search needs)
+    (λ c κs. search needs)
+    (λ c. search needs)
     returns
     returns-2)

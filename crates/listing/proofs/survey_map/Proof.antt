@@ -31,21 +31,6 @@ loop-holds c =
     let s = c .before .before .before in
     (survey-starts (reading (definitions (s .args .catalog .now))) (s .args .map .now), s .pre .1 .1)
 
-header-at-requires : tie.Need-header-at-requires Inv-loop μ-loop
-header-at-requires c κs = search needs
-
-enum-known-header : tie.Need-enum-known-header Inv-loop μ-loop
-enum-known-header c = search needs
-
-add-part : tie.Need-add-part Inv-loop μ-loop
-add-part c = search needs
-
-cast-part : tie.Need-cast-part Inv-loop μ-loop
-cast-part c = search needs
-
-part-requires : tie.Need-part-requires Inv-loop μ-loop
-part-requires c κs = search needs
-
 survey-model-requires : tie.Need-survey-model-requires Inv-loop μ-loop
 survey-model-requires c κs =
     let k = c .before .before .before in
@@ -57,18 +42,6 @@ survey-model-requires c κs =
     let ends = model-ends (eqb (l .at) 2) (s .args .map .now) (l .at) h in
     let all = ap length (c .part .ensures) ∙ body-length (s .args .map .now) (l .at) (g .0 .0) (g .0 .1 .0) h in
     (s .pre .0, (l .inv .1, omega (arith, all, short, ends)))
-
-enum-told : tie.Need-enum-told Inv-loop μ-loop
-enum-told c = search needs
-
-enum-known-survey : tie.Need-enum-known-survey Inv-loop μ-loop
-enum-known-survey c = search needs
-
-same-length : tie.Need-same-length Inv-loop μ-loop
-same-length c = search needs
-
-refused-requires : tie.Need-refused-requires Inv-loop μ-loop
-refused-requires c κs = search needs
 
 returns : tie.Need-returns Inv-loop μ-loop
 returns c =
@@ -85,9 +58,6 @@ returns c =
     let e = sym (ap surveyForm (c .before .before .survey .given .1)) ∙ seen in
     (c .refused .ensures ∙ survey-faulty (l .inv .0) short h e, m .survey-model .ensures .1 .1)
 
-enum-known-survey-2 : tie.Need-enum-known-survey-2 Inv-loop μ-loop
-enum-known-survey-2 c = search needs
-
 add-points : tie.Need-add-points Inv-loop μ-loop
 add-points c =
     let m = c .before .before .before .before .before in
@@ -103,15 +73,6 @@ add-points c =
     let e = sym (ap surveyForm (c .before .survey2 .given .1)) ∙ seen in
     let more = more-fit (l .inv .0) short h (points-few (s .args .catalog .now) (s .pre .0)) e in
     record { fits = omega (arith, more) }
-
-after-model-requires : tie.Need-after-model-requires Inv-loop μ-loop
-after-model-requires c κs = search needs
-
-add-headers : tie.Need-add-headers Inv-loop μ-loop
-add-headers c = search needs
-
-loop-less : tie.Need-loop-less Inv-loop μ-loop
-loop-less c = search needs
 
 loop-again : tie.Need-loop-again Inv-loop μ-loop
 loop-again c =
@@ -135,41 +96,17 @@ loop-again c =
     let Reached : ℕ → Type 0 = λ at. Surveying read (s .args .map .now) at (l .headers + 1) (c .before .match2 .points) in
     (subst Reached (sym (c .after-model .ensures)) next, m .survey-model .ensures .1 .1)
 
-enum-told-2 : tie.Need-enum-told-2 Inv-loop μ-loop
-enum-told-2 c = search needs
-
-add-t21 : tie.Need-add-t21 Inv-loop μ-loop
-add-t21 c = search needs
-
-same-length-2 : tie.Need-same-length-2 Inv-loop μ-loop
-same-length-2 c = search needs
-
 returns-2 : tie.Need-returns-2 Inv-loop μ-loop
 returns-2 c =
     let l = c .before .before .before .before .loop in
     let h = sym (c .before .before .header-at .ensures) ∙ ap headerForm (c .enum-told2 .given .1) in
     (survey-ends (l .inv .0) (omega arith) h, l .inv .1)
 
-enum-known-header-2 : tie.Need-enum-known-header-2 Inv-loop μ-loop
-enum-known-header-2 c = search needs
-
-same-length-3 : tie.Need-same-length-3 Inv-loop μ-loop
-same-length-3 c = search needs
-
-refused-requires-2 : tie.Need-refused-requires-2 Inv-loop μ-loop
-refused-requires-2 c κs = search needs
-
 returns-3 : tie.Need-returns-3 Inv-loop μ-loop
 returns-3 c =
     let l = c .before .before .before .before .before .before .loop in
     let h = sym (c .before .before .before .before .header-at .ensures) ∙ ap headerForm (c .before .before .header2 .given .1) in
     (c .refused2 .ensures ∙ survey-refused (l .inv .0) (omega arith) h, l .inv .1)
-
-same-length-4 : tie.Need-same-length-4 Inv-loop μ-loop
-same-length-4 c = search needs
-
-refused-requires-3 : tie.Need-refused-requires-3 Inv-loop μ-loop
-refused-requires-3 c κs = search needs
 
 returns-4 : tie.Need-returns-4 Inv-loop μ-loop
 returns-4 c =
@@ -183,31 +120,31 @@ survey-map-spec =
     Inv-loop
     μ-loop
     loop-holds
-    header-at-requires
-    enum-known-header
-    add-part
-    cast-part
-    part-requires
+    (λ c κs. search needs)
+    (λ c. search needs)
+    (λ c. search needs)
+    (λ c. search needs)
+    (λ c κs. search needs)
     survey-model-requires
-    enum-told
-    enum-known-survey
-    refused-requires
-    same-length
+    (λ c. search needs)
+    (λ c. search needs)
+    (λ c κs. search needs)
+    (λ c. search needs)
     returns
-    enum-known-survey-2
+    (λ c. search needs)
     add-points
-    after-model-requires
-    add-headers
-    loop-less
+    (λ c κs. search needs)
+    (λ c. search needs)
+    (λ c. search needs)
     loop-again
-    enum-told-2
-    add-t21
-    same-length-2
+    (λ c. search needs)
+    (λ c. search needs)
+    (λ c. search needs)
     returns-2
-    enum-known-header-2
-    refused-requires-2
-    same-length-3
+    (λ c. search needs)
+    (λ c κs. search needs)
+    (λ c. search needs)
     returns-3
-    refused-requires-3
-    same-length-4
+    (λ c κs. search needs)
+    (λ c. search needs)
     returns-4)

@@ -7,9 +7,6 @@ use borrow.Author.Needs.{needs}
 use Rattle.listing.proofs.survey_plant.Statement.{statement}
 use Rattle.listing.proofs.survey_plant.Tie as tie
 
-check-requires : tie.Need-check-requires
-check-requires c κs = search needs
-
 enum-told : tie.Need-enum-told
 enum-told c = search needs
 
@@ -19,15 +16,6 @@ survey-checked-requires c κs =
       (t .enum-told .given .0 .0, sym (t .before .before .check .ensures) ∙ ap Catalog.answer (t .enum-told .given .1)),
       c .before .before .before .before .before .before .before .pre,
     )
-
-enum-known-checked : tie.Need-enum-known-checked
-enum-known-checked c = search needs
-
-refused-requires : tie.Need-refused-requires
-refused-requires c κs = search needs
-
-same-length : tie.Need-same-length
-same-length c = search needs
 
 returns : tie.Need-returns
 returns c =
@@ -47,11 +35,11 @@ pub survey-plant-spec : {M : Type 1} → statement M
 survey-plant-spec =
     tie.close
     (tie.spec
-    check-requires
+    (λ c κs. search needs)
     enum-told
     survey-checked-requires
-    enum-known-checked
-    refused-requires
-    same-length
+    (λ c. search needs)
+    (λ c κs. search needs)
+    (λ c. search needs)
     returns
     returns-2)

@@ -9,11 +9,5 @@ use Rattle.probe.proofs.main.Tie as tie
 slice-aggregate-answer-input : tie.Need-slice-aggregate-answer-input
 slice-aggregate-answer-input c = sym (length-replicate {A = ℕ} 524289 0)
 
-answer-input-requires : tie.Need-answer-input-requires
-answer-input-requires c κs = search needs
-
-returns : tie.Need-returns
-returns c = search needs
-
 pub main-spec : {M : Type 1} → statement M
-main-spec = tie.close (tie.spec slice-aggregate-answer-input answer-input-requires returns)
+main-spec = tie.close (tie.spec slice-aggregate-answer-input (λ c κs. search needs) (λ c. search needs))

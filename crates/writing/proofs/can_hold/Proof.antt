@@ -6,12 +6,6 @@ use borrow.Author.Needs.{needs}
 use Rattle.writing.proofs.can_hold.Statement.{statement}
 use Rattle.writing.proofs.can_hold.Tie as tie
 
-is-value-requires : tie.Need-is-value-requires
-is-value-requires c κs = search needs
-
-too-wide-requires : tie.Need-too-wide-requires
-too-wide-requires c κs = search needs
-
 returns : tie.Need-returns
 returns c =
     let t = c .before .before .before .args in
@@ -24,4 +18,4 @@ returns-2 c =
     c .if1 .left ∙ sym (ap (λ b. b && not (tooWide (t .point .size) (t .raw))) (sym (c .before .is-value .ensures) ∙ c .if1 .left))
 
 pub can-hold-spec : {M : Type 1} → statement M
-can-hold-spec = tie.close (tie.spec is-value-requires too-wide-requires returns returns-2)
+can-hold-spec = tie.close (tie.spec (λ c κs. search needs) (λ c κs. search needs) returns returns-2)

@@ -3,26 +3,8 @@ use borrow.Author.Needs.{needs}
 use Rattle.writing.proofs.is_unimplemented.Statement.{statement}
 use Rattle.writing.proofs.is_unimplemented.Tie as tie
 
-classify-requires : tie.Need-classify-requires
-classify-requires c κs = search needs
-
-enum-known-class : tie.Need-enum-known-class
-enum-known-class c = search needs
-
 enum-told : tie.Need-enum-told
 enum-told c = search needs
-
-enum-told-2 : tie.Need-enum-told-2
-enum-told-2 c = search needs
-
-enum-told-3 : tie.Need-enum-told-3
-enum-told-3 c = search needs
-
-enum-told-4 : tie.Need-enum-told-4
-enum-told-4 c = search needs
-
-enum-told-5 : tie.Need-enum-told-5
-enum-told-5 c = search needs
 
 returns : tie.Need-returns
 returns c =
@@ -49,13 +31,13 @@ pub is-unimplemented-spec : {M : Type 1} → statement M
 is-unimplemented-spec =
     tie.close
     (tie.spec
-    classify-requires
-    enum-known-class
+    (λ c κs. search needs)
+    (λ c. search needs)
     enum-told
-    enum-told-2
-    enum-told-3
-    enum-told-4
-    enum-told-5
+    (λ c. search needs)
+    (λ c. search needs)
+    (λ c. search needs)
+    (λ c. search needs)
     returns
     returns-2
     returns-3

@@ -7,9 +7,6 @@ use borrow.Author.Needs.{needs}
 use Rattle.writing.proofs.judge.Statement.{statement}
 use Rattle.writing.proofs.judge.Tie as tie
 
-is-unimplemented-requires : tie.Need-is-unimplemented-requires
-is-unimplemented-requires c κs = search needs
-
 returns : tie.Need-returns
 returns c =
     let v = c .before .before .before .before .args in
@@ -25,9 +22,6 @@ returns-3 c =
     let v = c .before .before .before .before .before .before .before .args in
     present-refuses (targetForm (v .target)) (v .raw) (c .before .before .before .if1 .left) (le-ltb _ _ (c .before .if2 .left))
     (sym (c .before .before .before .before .is-unimplemented .ensures) ∙ c .if3 .taken)
-
-can-hold-requires : tie.Need-can-hold-requires
-can-hold-requires c κs = search needs
 
 returns-4 : tie.Need-returns-4
 returns-4 c =
@@ -45,10 +39,10 @@ pub judge-spec : {M : Type 1} → statement M
 judge-spec =
     tie.close
     (tie.spec
-    is-unimplemented-requires
+    (λ c κs. search needs)
     returns
     returns-2
     returns-3
-    can-hold-requires
+    (λ c κs. search needs)
     returns-4
     returns-5)

@@ -26,30 +26,6 @@ loop-holds c =
     let all : a .size - 0 ≡ a .size = omega arith in
     (rw (add-zero, all), refl, omega arith)
 
-sub-register-of : tie.Need-sub-register-of Inv-loop μ-loop
-sub-register-of c = search needs
-
-sub-register-of-2 : tie.Need-sub-register-of-2 Inv-loop μ-loop
-sub-register-of-2 c = search needs
-
-register-of-requires : tie.Need-register-of-requires Inv-loop μ-loop
-register-of-requires c κs = search needs
-
-add-map : tie.Need-add-map Inv-loop μ-loop
-add-map c = search needs
-
-mul-map : tie.Need-mul-map Inv-loop μ-loop
-mul-map c = search needs
-
-slice-write-map : tie.Need-slice-write-map Inv-loop μ-loop
-slice-write-map c = search needs
-
-add-k : tie.Need-add-k Inv-loop μ-loop
-add-k c = search needs
-
-loop-less : tie.Need-loop-less Inv-loop μ-loop
-loop-less c = search needs
-
 loop-again : tie.Need-loop-again Inv-loop μ-loop
 loop-again c =
     let a = c .before .before .before .before .args in
@@ -62,9 +38,6 @@ loop-again c =
       simp length-set (l .inv .1),
       k,
     )
-
-same-length : tie.Need-same-length Inv-loop μ-loop
-same-length c = search needs
 
 returns : tie.Need-returns Inv-loop μ-loop
 returns c =
@@ -79,14 +52,14 @@ put-registers-spec =
     Inv-loop
     μ-loop
     loop-holds
-    sub-register-of
-    sub-register-of-2
-    register-of-requires
-    add-map
-    mul-map
-    slice-write-map
-    add-k
-    loop-less
+    (λ c. search needs)
+    (λ c. search needs)
+    (λ c κs. search needs)
+    (λ c. search needs)
+    (λ c. search needs)
+    (λ c. search needs)
+    (λ c. search needs)
+    (λ c. search needs)
     loop-again
-    same-length
+    (λ c. search needs)
     returns)

@@ -6,17 +6,11 @@ use borrow.Author.Needs.{needs}
 use Rattle.writing.proofs.register_of.Statement.{statement}
 use Rattle.writing.proofs.register_of.Tie as tie
 
-power-requires : tie.Need-power-requires
-power-requires c κs = search needs
-
 div-result : tie.Need-div-result
 div-result c = omega (arith, c .power .ensures .1)
-
-cast-result : tie.Need-cast-result
-cast-result c = search needs
 
 returns : tie.Need-returns
 returns c = ap (λ n. c .before .args .raw / n % 65536) (c .power .ensures .0)
 
 pub register-of-spec : {M : Type 1} → statement M
-register-of-spec = tie.close (tie.spec power-requires div-result cast-result returns)
+register-of-spec = tie.close (tie.spec (λ c κs. search needs) div-result (λ c. search needs) returns)

@@ -7,12 +7,6 @@ use borrow.Author.Needs.{needs}
 use Rattle.writing.proofs.write.Statement.{statement}
 use Rattle.writing.proofs.write.Tie as tie
 
-find-requires : tie.Need-find-requires
-find-requires c κs = search needs
-
-enum-known-finding : tie.Need-enum-known-finding
-enum-known-finding c = search needs
-
 write-to-requires : tie.Need-write-to-requires
 write-to-requires c κs =
     let v = c .before .before .before .before .before .before .before .before .args in
@@ -23,12 +17,6 @@ write-to-requires c κs =
 enum-told : tie.Need-enum-told
 enum-told c = search needs
 
-enum-known-finding-2 : tie.Need-enum-known-finding-2
-enum-known-finding-2 c = search needs
-
-same-length : tie.Need-same-length
-same-length c = search needs
-
 returns : tie.Need-returns
 returns c =
     let v = c .before .before .before .before .before .before .before .before .before .before .before .args in
@@ -38,17 +26,11 @@ returns c =
     let w = c .before .before .write-to .ensures in
     (w .0 ∙ ap told a, w .1 ∙ ap (λ x. mapBehind x (v .map .now)) a)
 
-same-length-2 : tie.Need-same-length-2
-same-length-2 c = search needs
-
 returns-2 : tie.Need-returns-2
 returns-2 c =
     let v = c .before .before .before .before .before .before .args in
     let e = ap findingForm (sym (c .enum-told .given .1)) ∙ c .before .before .find .ensures in
     writing-nothing (v .catalog .now) (v .map .now) (v .model) (v .point) (v .path .instances) (v .raw) e
-
-same-length-3 : tie.Need-same-length-3
-same-length-3 c = search needs
 
 returns-3 : tie.Need-returns-3
 returns-3 c =
@@ -61,14 +43,14 @@ pub write-spec : {M : Type 1} → statement M
 write-spec =
     tie.close
     (tie.spec
-    find-requires
-    enum-known-finding
+    (λ c κs. search needs)
+    (λ c. search needs)
     write-to-requires
     enum-told
-    enum-known-finding-2
-    same-length
+    (λ c. search needs)
+    (λ c. search needs)
     returns
-    same-length-2
+    (λ c. search needs)
     returns-2
-    same-length-3
+    (λ c. search needs)
     returns-3)

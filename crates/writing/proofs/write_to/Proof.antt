@@ -8,26 +8,14 @@ use borrow.Author.Needs.{needs}
 use Rattle.writing.proofs.write_to.Statement.{statement}
 use Rattle.writing.proofs.write_to.Tie as tie
 
-judge-requires : tie.Need-judge-requires
-judge-requires c κs = search needs
-
 enum-told : tie.Need-enum-told
 enum-told c = search needs
-
-cast-put-registers : tie.Need-cast-put-registers
-cast-put-registers c = search needs
 
 put-registers-requires : tie.Need-put-registers-requires
 put-registers-requires c κs =
     let s = c .before .before .before .before .before .before in
     let e = sym (c .before .before .before .before .judge .ensures) ∙ ap refusalForm (c .before .before .enum-told .given .1) in
     (refusal-none (targetForm (s .args .target)) (s .args .raw) e .small, s .pre)
-
-enum-known-verdict : tie.Need-enum-known-verdict
-enum-known-verdict c = search needs
-
-same-length : tie.Need-same-length
-same-length c = search needs
 
 returns : tie.Need-returns
 returns c =
@@ -45,11 +33,11 @@ pub write-to-spec : {M : Type 1} → statement M
 write-to-spec =
     tie.close
     (tie.spec
-    judge-requires
+    (λ c κs. search needs)
     enum-told
-    cast-put-registers
+    (λ c. search needs)
     put-registers-requires
-    enum-known-verdict
-    same-length
+    (λ c. search needs)
+    (λ c. search needs)
     returns
     returns-2)

@@ -64,18 +64,6 @@ module _ (t : ℕ) where
       let none-met = steps.none-met (scopeIn (a .table .now)) all _ refl refl refl refl refl in
       (record { standing = p .0; few = p .1 .1; end = refl; summed = none-met }, refl)
 
-  group-at-requires : lts.Need-group-at-requires (known t) (asked t) reads.Post Inv-loop μ-loop
-  group-at-requires c κs = search needs
-
-  enum-known-next : lts.Need-enum-known-next (known t) (asked t) reads.Post Inv-loop μ-loop
-  enum-known-next c = search needs
-
-  add-run-extent : lts.Need-add-run-extent (known t) (asked t) reads.Post Inv-loop μ-loop
-  add-run-extent c = search needs
-
-  run-extent-requires : lts.Need-run-extent-requires (known t) (asked t) reads.Post Inv-loop μ-loop
-  run-extent-requires c κs = search needs
-
   -- The run is the points of the group that begins here.
   own-run : (c : lts.After-run-extent (known t) (asked t) reads.Post Inv-loop μ-loop)
       → RunOf (c .before .before .before .before .before .before .before .before .before .before .args .catalog .now)
@@ -190,10 +178,10 @@ pub +groups-extent-spec : {M : Type 1} → statement M
 +groups-extent-spec =
     close μ λ t. lts.spec (known t) (asked t) reads.Post Inv-loop μ-loop
     (loop-holds t)
-    (group-at-requires t)
-    (enum-known-next t)
-    (add-run-extent t)
-    (run-extent-requires t)
+    (λ c κs. search needs)
+    (λ c. search needs)
+    (λ c. search needs)
+    (λ c κs. search needs)
     (sub-groups-extent t)
     (groups-extent-requires t)
     (with-group-requires t)

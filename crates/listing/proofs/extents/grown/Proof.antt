@@ -15,11 +15,5 @@ mul-grown c = omega (arith, product c)
 add-grown : tie.Need-add-grown
 add-grown c = omega (arith, product c)
 
-returns : tie.Need-returns
-returns c = search needs
-
-returns-2 : tie.Need-returns-2
-returns-2 c = search needs
-
 pub grown-spec : {M : Type 1} → statement M
-grown-spec = tie.close (tie.spec mul-grown add-grown returns returns-2)
+grown-spec = tie.close (tie.spec mul-grown add-grown (λ c. search needs) (λ c. search needs))

@@ -37,24 +37,6 @@ second-holds a b u v e q t = let y : b ≡ true = cc in rw (e, y, t)
 third-counts : (a b u v r : Bool) → a ≡ false → v ≡ b → v ≡ false → r ≡ u → r ≡ (a || (b || u))
 third-counts a b u v r e q f k = let y : b ≡ false = cc in rw (e, y, k)
 
-grown-requires : tie.Need-grown-requires
-grown-requires c κs = search needs
-
-grown-requires-2 : tie.Need-grown-requires-2
-grown-requires-2 c κs = search needs
-
-count-of-requires : tie.Need-count-of-requires
-count-of-requires c κs = search needs
-
-grown-requires-3 : tie.Need-grown-requires-3
-grown-requires-3 c κs = search needs
-
-grown-requires-4 : tie.Need-grown-requires-4
-grown-requires-4 c κs = search needs
-
-is-unimplemented-requires : tie.Need-is-unimplemented-requires
-is-unimplemented-requires c κs = search needs
-
 returns : tie.Need-returns
 returns c =
     let a = c .before .before .before .before .before .before .before .before .before .before .args in
@@ -100,11 +82,11 @@ pub with-group-spec : {M : Type 1} → statement M
 with-group-spec =
     tie.close
     (tie.spec
-    grown-requires
-    grown-requires-2
-    count-of-requires
-    grown-requires-3
-    grown-requires-4
-    is-unimplemented-requires
+    (λ c κs. search needs)
+    (λ c κs. search needs)
+    (λ c κs. search needs)
+    (λ c κs. search needs)
+    (λ c κs. search needs)
+    (λ c κs. search needs)
     returns
     returns-2)

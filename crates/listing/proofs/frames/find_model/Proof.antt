@@ -16,12 +16,6 @@ abbrev μ-loop : tie.MeasureT-loop
 loop-holds : tie.Need-loop-holds Inv-loop μ-loop
 loop-holds c = refl
 
-is-model-requires : tie.Need-is-model-requires Inv-loop μ-loop
-is-model-requires c κs = search needs
-
-add-t8 : tie.Need-add-t8 Inv-loop μ-loop
-add-t8 c = search needs
-
 returns : tie.Need-returns Inv-loop μ-loop
 returns c =
     let a = c .before .before .before .before .before in
@@ -29,12 +23,6 @@ returns c =
     let ws = a .args .catalog .now in
     let here = sym (c .before .is-model .ensures) ∙ c .if1 .taken in
     (search-found ws (a .args .id) (l .i) (omega arith) here ∙ l .inv, model-stands ws (a .args .id) (l .i) (a .pre) here)
-
-add-i : tie.Need-add-i Inv-loop μ-loop
-add-i c = search needs
-
-loop-less : tie.Need-loop-less Inv-loop μ-loop
-loop-less c = search needs
 
 loop-again : tie.Need-loop-again Inv-loop μ-loop
 loop-again c =
@@ -56,10 +44,10 @@ find-model-spec =
     Inv-loop
     μ-loop
     loop-holds
-    is-model-requires
-    add-t8
+    (λ c κs. search needs)
+    (λ c. search needs)
     returns
-    add-i
-    loop-less
+    (λ c. search needs)
+    (λ c. search needs)
     loop-again
     returns-2)

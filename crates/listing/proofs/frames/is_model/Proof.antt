@@ -6,23 +6,8 @@ use Rattle.layout.specs.Walks.{isModelOf}
 use Rattle.listing.proofs.frames.is_model.Statement.{statement}
 use Rattle.listing.proofs.frames.is_model.Tie as tie
 
-read-frame-requires : tie.Need-read-frame-requires
-read-frame-requires c κs = search needs
-
-enum-known-frame : tie.Need-enum-known-frame
-enum-known-frame c = search needs
-
 enum-told : tie.Need-enum-told
 enum-told c = search needs
-
-enum-told-2 : tie.Need-enum-told-2
-enum-told-2 c = search needs
-
-enum-told-3 : tie.Need-enum-told-3
-enum-told-3 c = search needs
-
-enum-told-4 : tie.Need-enum-told-4
-enum-told-4 c = search needs
 
 returns : tie.Need-returns
 returns c =
@@ -53,12 +38,12 @@ pub is-model-spec : {M : Type 1} → statement M
 is-model-spec =
     tie.close
     (tie.spec
-    read-frame-requires
-    enum-known-frame
+    (λ c κs. search needs)
+    (λ c. search needs)
     enum-told
-    enum-told-2
-    enum-told-3
-    enum-told-4
+    (λ c. search needs)
+    (λ c. search needs)
+    (λ c. search needs)
     returns
     returns-2
     returns-3

@@ -80,12 +80,6 @@ module _ (t : ℕ) where
   loop-holds : lts.Need-loop-holds (known t) (asked t) reads.Post Inv-loop μ-loop
   loop-holds c = (c .before .before .pre .1 .0, refl, refl)
 
-  group-at-requires : lts.Need-group-at-requires (known t) (asked t) reads.Post Inv-loop μ-loop
-  group-at-requires c κs = search needs
-
-  enum-known-next : lts.Need-enum-known-next (known t) (asked t) reads.Post Inv-loop μ-loop
-  enum-known-next c = search needs
-
   shape-of-requires : lts.Need-shape-of-requires (known t) (asked t) reads.Post Inv-loop μ-loop
   shape-of-requires c κs =
       let asks = c .before .before .before .before .before .before .loop .inv .0 in (
@@ -99,9 +93,6 @@ module _ (t : ℕ) where
   sub-number-at : lts.Need-sub-number-at (known t) (asked t) reads.Post Inv-loop μ-loop
   sub-number-at c = omega (arith, c .before .before .before .before .before .before .before .loop .inv .0 .atMost3)
 
-  number-at-requires : lts.Need-number-at-requires (known t) (asked t) reads.Post Inv-loop μ-loop
-  number-at-requires c κs = search needs
-
   -- The levels count down, the places of a path up.
   at-number : (c : AtNumber)
       → c .number-at .result
@@ -111,9 +102,6 @@ module _ (t : ℕ) where
       let a = c .before .before .before .before .before .before .before .before .before .before .before .args in
       let e : 3 - a .levels ≡ levelOf (a .levels) - 2 = omega (arith, c .before .before .before .before .before .before .before .before .loop .inv .0 .atMost3) in
       c .number-at .ensures ∙ ap (λ k. getD (a .key .path .instances) k 0) e
-
-  add-locate-groups : lts.Need-add-locate-groups (known t) (asked t) reads.Post Inv-loop μ-loop
-  add-locate-groups c = search needs
 
   mul-locate-own : lts.Need-mul-locate-own (known t) (asked t) reads.Post Inv-loop μ-loop
   mul-locate-own c =
@@ -163,9 +151,6 @@ module _ (t : ℕ) where
         ),
       )
 
-  enum-known-found : lts.Need-enum-known-found (known t) (asked t) reads.Post Inv-loop μ-loop
-  enum-known-found c = search needs
-
   returns : lts.Need-returns (known t) (asked t) reads.Post Inv-loop μ-loop
   returns c =
       let a = c .before .before .before .before .before .before .before .before .before .before .before .before .before .before .before .before .before .before .before .before .before .before .args in
@@ -194,9 +179,6 @@ module _ (t : ℕ) where
         ),
       )
 
-  enum-known-found-2 : lts.Need-enum-known-found-2 (known t) (asked t) reads.Post Inv-loop μ-loop
-  enum-known-found-2 c = search needs
-
   returns-2 : lts.Need-returns-2 (known t) (asked t) reads.Post Inv-loop μ-loop
   returns-2 c =
       let a = c .before .before .before .before .before .before .before .before .before .before .before .before .before .before .before .before .before .before .before .before .before .before .before .before .before .args in
@@ -205,9 +187,6 @@ module _ (t : ℕ) where
       let f = sym (c .before .before .before .locate-groups .ensures) ∙ ap locatedForm (c .before .found2 .given .1) in
       steps.found-lower (c .before .before .before .before .before .before .before .before .before .before .before .before .before .before .before .before .before .before .before .before .before .before .loop .inv .0) (head-there (c .before .before .before .before .before .before .before .before .before .before .before .before .before .before .before)) (c .before .before .before .before .before .before .before .before .before .before .before .before .before .before .before .shape-of .ensures) (a .key .number) (a .key .path .instances)
       (at-number (c .before .before .before .before .before .before .before .before .before .before .before .before .before .before)) l e f ∙ c .before .before .before .before .before .before .before .before .before .before .before .before .before .before .before .before .before .before .before .before .before .before .loop .inv .1
-
-  enum-told-2 : lts.Need-enum-told-2 (known t) (asked t) reads.Post Inv-loop μ-loop
-  enum-told-2 c = search needs
 
   mul-t21 : lts.Need-mul-t21 (known t) (asked t) reads.Post Inv-loop μ-loop
   mul-t21 c =
@@ -237,9 +216,6 @@ module _ (t : ℕ) where
       (c .before .before .if2 .came) in
       (steps.past-asks (c .before .before .before .before .before .before .before .before .before .before .before .before .loop .inv .0) (head-there (c .before .before .before .before .before)) (c .before .before .before .before .before .shape-of .ensures), sym same ∙ c .before .before .before .before .before .before .before .before .before .before .before .before .loop .inv .1, refl)
 
-  enum-told-3 : lts.Need-enum-told-3 (known t) (asked t) reads.Post Inv-loop μ-loop
-  enum-told-3 c = search needs
-
   returns-3 : lts.Need-returns-3 (known t) (asked t) reads.Post Inv-loop μ-loop
   returns-3 c =
       let a = c .before .before .before .before .before .before .before .before .args in
@@ -256,29 +232,29 @@ module _ (t : ℕ) where
 pub +locate-groups-spec : {M : Type 1} → statement M
 +locate-groups-spec = close μ λ t. lts.spec (known t) (asked t) reads.Post Inv-loop μ-loop
     (loop-holds t)
-    (group-at-requires t)
-    (enum-known-next t)
+    (λ c κs. search needs)
+    (λ c. search needs)
     (shape-of-requires t)
     (sub-number-at t)
-    (number-at-requires t)
-    (add-locate-groups t)
+    (λ c κs. search needs)
+    (λ c. search needs)
     (mul-locate-own t)
     (add-locate-own t)
     (add-locate-groups-2 t)
     (sub-locate-own t)
     (locate-own-requires t)
-    (enum-known-found t)
+    (λ c. search needs)
     (returns t)
     (enum-told t)
     (sub-locate-groups t)
     (locate-groups-requires t)
-    (enum-known-found-2 t)
+    (λ c. search needs)
     (returns-2 t)
-    (enum-told-2 t)
+    (λ c. search needs)
     (mul-t21 t)
     (add-t26 t)
     (loop-less t)
     (loop-again t)
-    (enum-told-3 t)
+    (λ c. search needs)
     (returns-3 t)
     (returns-4 t)

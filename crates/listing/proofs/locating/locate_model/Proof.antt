@@ -20,12 +20,6 @@ lower s =
     let a = s .args in
     locatedIn (countOf (scopeIn (a .table .now)) (a .fill)) (a .key .number) (a .key .path .instances) 2
 
-locate-own-requires : tie.Need-locate-own-requires
-locate-own-requires c κs = search needs
-
-enum-known-found : tie.Need-enum-known-found
-enum-known-found c = search needs
-
 returns : tie.Need-returns
 returns c =
     let s = c .before .before .before .before .before .before in
@@ -35,9 +29,6 @@ returns c =
 
 enum-told : tie.Need-enum-told
 enum-told c = search needs
-
-run-extent-requires : tie.Need-run-extent-requires
-run-extent-requires c κs = search needs
 
 -- The run is the top points.
 top-run : (c : tie.After-run-extent) → RunOf (c .before .before .before .before .before .before .args .catalog .now)
@@ -75,10 +66,10 @@ pub locate-model-spec : {M : Type 1} → statement M
 locate-model-spec =
     tie.close
     (tie.spec
-    locate-own-requires
-    enum-known-found
+    (λ c κs. search needs)
+    (λ c. search needs)
     returns
     enum-told
-    run-extent-requires
+    (λ c κs. search needs)
     locate-groups-requires
     returns-2)

@@ -30,15 +30,6 @@ by-rest s e q =
     ∙ ap {B = Option Located} (λ b. elim b [ true ↦ among s | false ↦ none ])
     (e ∙ ap (λ n. allZero (drop n (a .key .path .instances))) first)
 
-sub-is-zero-from : tie.Need-sub-is-zero-from
-sub-is-zero-from c = search needs
-
-is-zero-from-requires : tie.Need-is-zero-from-requires
-is-zero-from-requires c κs = search needs
-
-locate-run-requires : tie.Need-locate-run-requires
-locate-run-requires c κs = search needs
-
 returns : tie.Need-returns
 returns c = by-rest (c .before .before .before .before) (sym (c .before .if1 .taken) ∙ c .before .before .is-zero-from .ensures) (c .locate-run .ensures)
 
@@ -48,4 +39,4 @@ returns-2 c = by-rest (c .before .before .before) (sym (c .if1 .left) ∙ c .bef
 pub locate-own-spec : {M : Type 1} → statement M
 locate-own-spec =
     tie.close
-    (tie.spec sub-is-zero-from is-zero-from-requires locate-run-requires returns returns-2)
+    (tie.spec (λ c. search needs) (λ c κs. search needs) (λ c κs. search needs) returns returns-2)

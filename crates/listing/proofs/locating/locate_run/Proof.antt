@@ -27,12 +27,6 @@ abbrev μ-loop : tie.MeasureT-loop
 loop-holds : tie.Need-loop-holds Inv-loop μ-loop
 loop-holds c = (refl, c .before .pre .0 .0)
 
-point-at-requires : tie.Need-point-at-requires Inv-loop μ-loop
-point-at-requires c κs = search needs
-
-enum-known-next : tie.Need-enum-known-next Inv-loop μ-loop
-enum-known-next c = search needs
-
 returns : tie.Need-returns Inv-loop μ-loop
 returns c =
     let a = c .before .before .before .before .before .before .before .before .before .before .args in
@@ -49,12 +43,6 @@ add-t11 : tie.Need-add-t11 Inv-loop μ-loop
 add-t11 c =
     let l = c .before .before .before .before .before .before .before .before .before .loop in
     omega (arith, standing.stands-within (c .before .before .before .before .before .before .before .before .before .before .before .args .catalog .now) (l .at .frame) (l .inv .1))
-
-cast-t12 : tie.Need-cast-t12 Inv-loop μ-loop
-cast-t12 c = search needs
-
-add-t13 : tie.Need-add-t13 Inv-loop μ-loop
-add-t13 c = search needs
 
 loop-less : tie.Need-loop-less Inv-loop μ-loop
 loop-less c =
@@ -102,12 +90,12 @@ locate-run-spec =
     Inv-loop
     μ-loop
     loop-holds
-    point-at-requires
-    enum-known-next
+    (λ c κs. search needs)
+    (λ c. search needs)
     returns
     add-t11
-    cast-t12
-    add-t13
+    (λ c. search needs)
+    (λ c. search needs)
     loop-less
     loop-again
     enum-told

@@ -19,9 +19,6 @@ add-run-extent c =
     let at = s .pre .0 in
     omega (arith, standing.stands-within (s .args .catalog .now) (s .args .frame) (at .stands), at .few)
 
-run-extent-requires : tie.Need-run-extent-requires
-run-extent-requires c κs = search needs
-
 -- The run is the points of the group.
 own-run : (c : tie.After-run-extent)
     → RunOf (c .before .before .before .args .catalog .now) (c .before .before .before .args .frame + 1) (c .run-extent .result)
@@ -45,9 +42,6 @@ groups-extent-requires c κs =
     let there = subst (λ n. AtGroups (a .catalog .now) n (a .levels - 1)) (sym (own-run c .next)) (into .1) in
     (there, (s .pre .1 .0 .0, omega (arith, s .pre .1 .0 .1)))
 
-count-of-requires : tie.Need-count-of-requires
-count-of-requires c κs = search needs
-
 add-t10 : tie.Need-add-t10
 add-t10 c =
     let s = c .before .before .before .before .before .before .before in
@@ -69,9 +63,9 @@ shape-of-spec =
     tie.close
     (tie.spec
     add-run-extent
-    run-extent-requires
+    (λ c κs. search needs)
     sub-groups-extent
     groups-extent-requires
-    count-of-requires
+    (λ c κs. search needs)
     add-t10
     returns)

@@ -76,18 +76,6 @@ module _ (t : ℕ) where
       let a = at-start .pre .1 in
       (steps.begins a, a .standing .stands, a .standing .noPoint, refl, omega arith)
 
-  group-at-requires : lts.Need-group-at-requires (known t) (asked t) reads.Post Inv-loop μ-loop
-  group-at-requires c κs = search needs
-
-  enum-known-next : lts.Need-enum-known-next (known t) (asked t) reads.Post Inv-loop μ-loop
-  enum-known-next c = search needs
-
-  count-of-requires : lts.Need-count-of-requires (known t) (asked t) reads.Post Inv-loop μ-loop
-  count-of-requires c κs = search needs
-
-  cast-enter : lts.Need-cast-enter (known t) (asked t) reads.Post Inv-loop μ-loop
-  cast-enter c = search needs
-
   enter-requires : lts.Need-enter-requires (known t) (asked t) reads.Post Inv-loop μ-loop
   enter-requires c κs =
       let at-next = c .before .before .before .before in
@@ -153,12 +141,6 @@ module _ (t : ℕ) where
             (own .1 .1) path (own .0) (own .1 .0),
       )
 
-  at-frame-requires : lts.Need-at-frame-requires (known t) (asked t) reads.Post Inv-loop μ-loop
-  at-frame-requires c κs = search needs
-
-  add-j : lts.Need-add-j (known t) (asked t) reads.Post Inv-loop μ-loop
-  add-j c = search needs
-
   loop-less : lts.Need-loop-less (known t) (asked t) reads.Post Inv-loop μ-loop
   loop-less c =
       let at-put-own = c .before .before .before .before .before .before .before .before .before .before .before .before in
@@ -198,12 +180,6 @@ module _ (t : ℕ) where
       (length (v .catalog .now) / 8) (v .start) 0 (g .last .1 .0) (g .last .1 .1 .0) x (l .j + 1))
       (sym (c .at-frame .ensures))
       (on, inv .1, inv .2, inv .3, omega (arith, at-count-of .count-of .ensures .1, a .filling, at-if2 .if2))
-
-  after-group-requires : lts.Need-after-group-requires (known t) (asked t) reads.Post Inv-loop μ-loop
-  after-group-requires c κs = search needs
-
-  at-frame-requires-2 : lts.Need-at-frame-requires-2 (known t) (asked t) reads.Post Inv-loop μ-loop
-  at-frame-requires-2 c κs = search needs
 
   loop-less-2 : lts.Need-loop-less-2 (known t) (asked t) reads.Post Inv-loop μ-loop
   loop-less-2 c =
@@ -253,12 +229,6 @@ module _ (t : ℕ) where
   enum-told : lts.Need-enum-told (known t) (asked t) reads.Post Inv-loop μ-loop
   enum-told c = search needs
 
-  same-length : lts.Need-same-length (known t) (asked t) reads.Post Inv-loop μ-loop
-  same-length c = search needs
-
-  same-length-2 : lts.Need-same-length-2 (known t) (asked t) reads.Post Inv-loop μ-loop
-  same-length-2 c = search needs
-
   returns : lts.Need-returns (known t) (asked t) reads.Post Inv-loop μ-loop
   returns c =
       let at-loop = c .before .before .before .before .before in
@@ -268,12 +238,6 @@ module _ (t : ℕ) where
       let e = sym (c .before .before .group-at .ensures) ∙ ap groupOrForm (c .enum-told .given .1) in
       let d = steps.ends a (l .inv .0) (l .inv .1) (l .inv .2) e in
       (record { records = d .1; offset = d .2 }, (d .0, (l .inv .0 .elsewhere, l .inv .0 .isTable)))
-
-  same-length-3 : lts.Need-same-length-3 (known t) (asked t) reads.Post Inv-loop μ-loop
-  same-length-3 c = search needs
-
-  same-length-4 : lts.Need-same-length-4 (known t) (asked t) reads.Post Inv-loop μ-loop
-  same-length-4 c = search needs
 
   returns-2 : lts.Need-returns-2 (known t) (asked t) reads.Post Inv-loop μ-loop
   returns-2 c =
@@ -286,26 +250,26 @@ module _ (t : ℕ) where
 pub +put-groups-spec : {M : Type 1} → statement M
 +put-groups-spec = close μ λ t. lts.spec (known t) (asked t) reads.Post Inv-loop μ-loop
     (loop-holds t)
-    (group-at-requires t)
-    (enum-known-next t)
-    (count-of-requires t)
-    (cast-enter t)
+    (λ c κs. search needs)
+    (λ c. search needs)
+    (λ c κs. search needs)
+    (λ c. search needs)
     (enter-requires t)
     (put-own-requires t)
     (sub-put-groups t)
     (put-groups-requires t)
-    (at-frame-requires t)
-    (add-j t)
+    (λ c κs. search needs)
+    (λ c. search needs)
     (loop-less t)
     (loop-again t)
-    (after-group-requires t)
-    (at-frame-requires-2 t)
+    (λ c κs. search needs)
+    (λ c κs. search needs)
     (loop-less-2 t)
     (loop-again-2 t)
     (enum-told t)
-    (same-length t)
-    (same-length-2 t)
+    (λ c. search needs)
+    (λ c. search needs)
     (returns t)
-    (same-length-3 t)
-    (same-length-4 t)
+    (λ c. search needs)
+    (λ c. search needs)
     (returns-2 t)

@@ -8,12 +8,6 @@ use Rattle.layout.specs.Walks.{levelOf}
 use Rattle.listing.proofs.records.enter.Statement.{statement}
 use Rattle.listing.proofs.records.enter.Tie as tie
 
-sub-with-number : tie.Need-sub-with-number
-sub-with-number c = search needs
-
-with-number-requires : tie.Need-with-number-requires
-with-number-requires c κs = search needs
-
 returns : tie.Need-returns
 returns c =
     let v = c .before .args in
@@ -21,4 +15,4 @@ returns c =
     c .with-number .ensures ∙ ap (λ k. set (v .around .path .instances) k (v .j)) e
 
 pub enter-spec : {M : Type 1} → statement M
-enter-spec = tie.close (tie.spec sub-with-number with-number-requires returns)
+enter-spec = tie.close (tie.spec (λ c. search needs) (λ c κs. search needs) returns)

@@ -25,12 +25,6 @@ put-run-requires c κs =
     (rest .0) (rest .1 .1) in
     ((pre .1 .0 .isTable, refl), asks)
 
-same-length : tie.Need-same-length
-same-length c = search needs
-
-same-length-2 : tie.Need-same-length-2
-same-length-2 c = search needs
-
 returns : tie.Need-returns
 returns c =
     let at-put-run = c .before .before .before .before in
@@ -65,12 +59,6 @@ put-groups-requires c κs =
     model.groups-ask (v .visit) (v .records) (v .out .now) (pre .0) (pre .1 .0) words (rest .1 .0 .0) (rest .1 .0 .1) (rest .0)
     (rest .1 .1) run (f .0) (f .1) (at-put-run .put-run .ensures .1)
 
-same-length-3 : tie.Need-same-length-3
-same-length-3 c = search needs
-
-same-length-4 : tie.Need-same-length-4
-same-length-4 c = search needs
-
 returns-2 : tie.Need-returns-2
 returns-2 c =
     let at-put-groups = c .before .before .before .before in
@@ -101,10 +89,10 @@ put-model-spec =
     tie.close
     (tie.spec
     put-run-requires
-    same-length
-    same-length-2
+    (λ c. search needs)
+    (λ c. search needs)
     returns
     put-groups-requires
-    same-length-3
-    same-length-4
+    (λ c. search needs)
+    (λ c. search needs)
     returns-2)

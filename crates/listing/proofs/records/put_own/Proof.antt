@@ -21,9 +21,6 @@ add-behind c =
     let s = c .before .before .before .before .before in
     omega (arith, stands-within (s .args .catalog .now) (s .args .at .frame + 1) (s .pre .1 .stands), s .pre .1 .few)
 
-note-run-requires : tie.Need-note-run-requires
-note-run-requires c κs = search needs
-
 -- The progress in front of the points.
 abbrev start : tie.Start → Progress
 start s = record { records = s .args .at .records; offset = s .args .at .offset; frame = s .args .at .frame + 1 }
@@ -48,12 +45,6 @@ put-run-requires c κs =
       subst (λ (ps : List Point). RunAsks (a .catalog .now) (a .body .now) (a .out .now) (a .visit) (start s) ps)
           (sym (all-begun s)) (s .pre .1),
     )
-
-same-length : tie.Need-same-length
-same-length c = search needs
-
-same-length-2 : tie.Need-same-length-2
-same-length-2 c = search needs
 
 returns : tie.Need-returns
 returns c =
@@ -81,4 +72,4 @@ returns c =
 
 pub put-own-spec : {M : Type 1} → statement M
 put-own-spec =
-    tie.close (tie.spec add-behind note-run-requires put-run-requires same-length same-length-2 returns)
+    tie.close (tie.spec add-behind (λ c κs. search needs) put-run-requires (λ c. search needs) (λ c. search needs) returns)

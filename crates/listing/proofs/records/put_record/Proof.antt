@@ -24,44 +24,11 @@ instance-fits c k =
     let held = c .good .1 .1 .1 .1 .0 .1 .1 .0 .1 .1 .0 in
     elem-fits-field w16 w64 (c .args .instance .path .instances) (held .0) k (held .1 .1) tt
 
-cast-part : tie.Need-cast-part
-cast-part c = search needs
-
-part-requires : tie.Need-part-requires
-part-requires c κs = search needs
-
-cast-show : tie.Need-cast-show
-cast-show c = search needs
-
-mul-show : tie.Need-mul-show
-mul-show c = search needs
-
-shared-slice-read-show : tie.Need-shared-slice-read-show
-shared-slice-read-show c = search needs
-
-show-requires : tie.Need-show-requires
-show-requires c κs = search needs
-
-cast-t17 : tie.Need-cast-t17
-cast-t17 c = search needs
-
-cast-t18 : tie.Need-cast-t18
-cast-t18 c = search needs
-
-array-read-t15 : tie.Need-array-read-t15
-array-read-t15 c = search needs
-
 cast-t21 : tie.Need-cast-t21
 cast-t21 c = instance-fits (c .before .before .before .before .before .before .before .before .before .before .before) 0
 
-array-read-t24 : tie.Need-array-read-t24
-array-read-t24 c = search needs
-
 cast-t25 : tie.Need-cast-t25
 cast-t25 c = instance-fits (c .before .before .before .before .before .before .before .before .before .before .before) 1
-
-array-read-t28 : tie.Need-array-read-t28
-array-read-t28 c = search needs
 
 cast-t29 : tie.Need-cast-t29
 cast-t29 c = instance-fits (c .before .before .before .before .before .before .before .before .before .before .before) 2
@@ -74,22 +41,13 @@ cast-body-address-2 c =
     let asked = c .before .before .before .before .before .before .before .before .before .before .before .before .before .pre .1 .0 in
     omega (arith, asked .inside, asked .short)
 
-body-address-requires : tie.Need-body-address-requires
-body-address-requires c κs = search needs
-
 mul-put : tie.Need-mul-put
 mul-put c =
     let s = c .before .before .before .before .before .before .before .before .before .before .before .before .before .before .before .before in
     omega (arith, s .pre .1 .1, s .good .1 .0 .0)
 
-slice-aggregate-put : tie.Need-slice-aggregate-put
-slice-aggregate-put c = search needs
-
 put-requires : tie.Need-put-requires
 put-requires c κs = omega (arith, c .before .before .before .before .before .before .before .before .before .before .before .before .before .before .before .before .before .pre .1 .1)
-
-same-length : tie.Need-same-length
-same-length c = search needs
 
 returns : tie.Need-returns
 returns c =
@@ -114,25 +72,25 @@ pub put-record-spec : {M : Type 1} → statement M
 put-record-spec =
     tie.close
     (tie.spec
-    cast-part
-    part-requires
-    cast-show
-    mul-show
-    shared-slice-read-show
-    show-requires
-    cast-t17
-    cast-t18
-    array-read-t15
+    (λ c. search needs)
+    (λ c κs. search needs)
+    (λ c. search needs)
+    (λ c. search needs)
+    (λ c. search needs)
+    (λ c κs. search needs)
+    (λ c. search needs)
+    (λ c. search needs)
+    (λ c. search needs)
     cast-t21
-    array-read-t24
+    (λ c. search needs)
     cast-t25
-    array-read-t28
+    (λ c. search needs)
     cast-t29
     cast-body-address
     cast-body-address-2
-    body-address-requires
+    (λ c κs. search needs)
     mul-put
-    slice-aggregate-put
+    (λ c. search needs)
     put-requires
-    same-length
+    (λ c. search needs)
     returns)

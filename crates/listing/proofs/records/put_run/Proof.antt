@@ -24,12 +24,6 @@ loop-holds c =
     still-all (a .catalog .now) (a .body .now) (a .table .now) (a .visit) (a .instance .path .instances) (a .out .now) (a .start)
     (s .pre .1)
 
-point-at-requires : tie.Need-point-at-requires Inv-loop μ-loop
-point-at-requires c κs = search needs
-
-enum-known-next : tie.Need-enum-known-next Inv-loop μ-loop
-enum-known-next c = search needs
-
 put-record-requires : tie.Need-put-record-requires Inv-loop μ-loop
 put-record-requires c κs =
     let head = c .before .before .before .before .before .before .before in
@@ -49,12 +43,6 @@ add-t16 c =
     let f = sym (read .before .before .point-at .ensures) ∙ ap pointOrForm (read .next .given .1) in
     let fits = first-fits (l .inv) (pointForm (read .next .given .0 .0)) (test .if1 .taken) f in
     omega (arith, fits .1, l .inv .same, start .good .1 .1 .0 .0)
-
-cast-t17 : tie.Need-cast-t17 Inv-loop μ-loop
-cast-t17 c = search needs
-
-add-t18 : tie.Need-add-t18 Inv-loop μ-loop
-add-t18 c = search needs
 
 add-t19 : tie.Need-add-t19 Inv-loop μ-loop
 add-t19 c =
@@ -79,16 +67,10 @@ loop-again c =
 enum-told : tie.Need-enum-told Inv-loop μ-loop
 enum-told c = search needs
 
-same-length : tie.Need-same-length Inv-loop μ-loop
-same-length c = search needs
-
 returns : tie.Need-returns Inv-loop μ-loop
 returns c =
     let f = sym (c .before .before .point-at .ensures) ∙ ap pointOrForm (c .enum-told .given .1) in
     still-other (c .before .before .before .before .before .loop .inv) f
-
-same-length-2 : tie.Need-same-length-2 Inv-loop μ-loop
-same-length-2 c = search needs
 
 returns-2 : tie.Need-returns-2 Inv-loop μ-loop
 returns-2 c = still-past (c .before .before .loop .inv) (c .if1 .left)
@@ -100,17 +82,17 @@ put-run-spec =
     Inv-loop
     μ-loop
     loop-holds
-    point-at-requires
-    enum-known-next
+    (λ c κs. search needs)
+    (λ c. search needs)
     put-record-requires
     add-t16
-    cast-t17
-    add-t18
+    (λ c. search needs)
+    (λ c. search needs)
     add-t19
     loop-less
     loop-again
     enum-told
-    same-length
+    (λ c. search needs)
     returns
-    same-length-2
+    (λ c. search needs)
     returns-2)

@@ -24,14 +24,8 @@ survey-walk catalog registers points headers e =
 slice-aggregate-survey-plant : tie.Need-slice-aggregate-survey-plant
 slice-aggregate-survey-plant c = sym (length-replicate {A = ℕ} 65536 0)
 
-survey-plant-requires : tie.Need-survey-plant-requires
-survey-plant-requires c κs = search needs
-
 enum-told : tie.Need-enum-told
 enum-told c = search needs
-
-slice-aggregate-search-map : tie.Need-slice-aggregate-search-map
-slice-aggregate-search-map c = search needs
 
 search-map-requires : tie.Need-search-map-requires
 search-map-requires c κs =
@@ -41,9 +35,6 @@ search-map-requires c κs =
     let w = survey-walk (v .catalog .now) (v .map .now) (g .0 .0) (g .0 .1 .0) (sym (ap answer (g .1)) ∙ s .ensures .0) .1 in
     let three : length (v .path .instances) ≡ 3 = search needs in
     ((w .models, w .accepted), (w .opens, ((s .ensures .1, three), subst IsListed (sym (w .walks)) tt)))
-
-enum-known-survey : tie.Need-enum-known-survey
-enum-known-survey c = search needs
 
 returns : tie.Need-returns
 unfolding finding
@@ -69,10 +60,10 @@ find-spec =
     tie.close
     (tie.spec
     slice-aggregate-survey-plant
-    survey-plant-requires
+    (λ c κs. search needs)
     enum-told
-    slice-aggregate-search-map
+    (λ c. search needs)
     search-map-requires
-    enum-known-survey
+    (λ c. search needs)
     returns
     returns-2)

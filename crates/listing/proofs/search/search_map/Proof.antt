@@ -37,21 +37,6 @@ loop-holds c =
       s .pre .1 .1 .0 .0,
     )
 
-header-at-requires : tie.Need-header-at-requires Inv-loop μ-loop
-header-at-requires c κs = search needs
-
-enum-known-header : tie.Need-enum-known-header Inv-loop μ-loop
-enum-known-header c = search needs
-
-add-part : tie.Need-add-part Inv-loop μ-loop
-add-part c = search needs
-
-cast-part : tie.Need-cast-part Inv-loop μ-loop
-cast-part c = search needs
-
-part-requires : tie.Need-part-requires Inv-loop μ-loop
-part-requires c κs = search needs
-
 search-model-requires : tie.Need-search-model-requires Inv-loop μ-loop
 search-model-requires c κs =
     let s = c .before .before .before .before .before .before .before .before .before .before .before .before in
@@ -63,9 +48,6 @@ search-model-requires c κs =
     let ends = model-ends (eqb (l .at) 2) (v .map .now) (l .at) h in
     let all = ap length (c .before .part .ensures) ∙ body-length (v .map .now) (l .at) (g .0 .0) (g .0 .1 .0) h in
     (s .pre .0, ((l .inv .1, s .pre .1 .1 .0 .1), (omega (arith, all, short, ends), omega (arith, short, ends))))
-
-same-length : tie.Need-same-length Inv-loop μ-loop
-same-length c = search needs
 
 returns : tie.Need-returns Inv-loop μ-loop
 returns c =
@@ -80,15 +62,6 @@ returns c =
     ∙ ap found (c .before .before .before .before .part .ensures)
     ∙ search-own (l .inv .0) h (omega (arith, c .before .before .before .before .before .if1))
 
-after-model-requires : tie.Need-after-model-requires Inv-loop μ-loop
-after-model-requires c κs = search needs
-
-add-index : tie.Need-add-index Inv-loop μ-loop
-add-index c = search needs
-
-loop-less : tie.Need-loop-less Inv-loop μ-loop
-loop-less c = search needs
-
 loop-again : tie.Need-loop-again Inv-loop μ-loop
 loop-again c =
     let s = c .before .before .before .before .before .before .before .before .before .before .before in
@@ -100,27 +73,15 @@ loop-again c =
 enum-told : tie.Need-enum-told Inv-loop μ-loop
 enum-told c = search needs
 
-same-length-2 : tie.Need-same-length-2 Inv-loop μ-loop
-same-length-2 c = search needs
-
 returns-2 : tie.Need-returns-2 Inv-loop μ-loop
 returns-2 c =
     let h = sym (c .before .before .header-at .ensures) ∙ ap headerForm (c .enum-told .given .1) in
     search-ends (c .before .before .before .before .loop .inv .0) (omega arith) h
 
-enum-told-2 : tie.Need-enum-told-2 Inv-loop μ-loop
-enum-told-2 c = search needs
-
-same-length-3 : tie.Need-same-length-3 Inv-loop μ-loop
-same-length-3 c = search needs
-
 returns-3 : tie.Need-returns-3 Inv-loop μ-loop
 returns-3 c =
     let h = sym (c .before .before .header-at .ensures) ∙ ap headerForm (c .enum-told2 .given .1) in
     search-refused (c .before .before .before .before .loop .inv .0) (omega arith) h
-
-same-length-4 : tie.Need-same-length-4 Inv-loop μ-loop
-same-length-4 c = search needs
 
 returns-4 : tie.Need-returns-4 Inv-loop μ-loop
 returns-4 c = search-late (c .before .loop .inv .0) (omega arith)
@@ -132,23 +93,23 @@ search-map-spec =
     Inv-loop
     μ-loop
     loop-holds
-    header-at-requires
-    enum-known-header
-    add-part
-    cast-part
-    part-requires
+    (λ c κs. search needs)
+    (λ c. search needs)
+    (λ c. search needs)
+    (λ c. search needs)
+    (λ c κs. search needs)
     search-model-requires
-    same-length
+    (λ c. search needs)
     returns
-    after-model-requires
-    add-index
-    loop-less
+    (λ c κs. search needs)
+    (λ c. search needs)
+    (λ c. search needs)
     loop-again
     enum-told
-    same-length-2
+    (λ c. search needs)
     returns-2
-    enum-told-2
-    same-length-3
+    (λ c. search needs)
+    (λ c. search needs)
     returns-3
-    same-length-4
+    (λ c. search needs)
     returns-4)

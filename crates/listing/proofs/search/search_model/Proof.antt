@@ -28,17 +28,8 @@ nothing-found : (s : tie.Start) {ps : List ModelPoint} → ps ≡ []
 unfolding firstWith
 nothing-found s e = sym (ap (λ qs. resultAt (s .args .at) (firstWith (isPoint (s .args .key .number) (s .args .key .path .instances)) qs)) e)
 
-survey-model-requires : tie.Need-survey-model-requires
-survey-model-requires c κs = search needs
-
 enum-told : tie.Need-enum-told
 enum-told c = search needs
-
-enum-told-2 : tie.Need-enum-told-2
-enum-told-2 c = search needs
-
-enum-known-survey : tie.Need-enum-known-survey
-enum-known-survey c = search needs
 
 -- Where the survey finds points, the model is ready.
 words : (c : tie.After-survey-model) → (k : ℕ) → getD (c .before .before .before .before .before .args .catalog .now) k 0 < 65536
@@ -54,9 +45,6 @@ locate-model-requires c κs =
     let has = has-points (read s) (sym (ap surveyForm (c .before .before .survey .given .1)) ∙ m .survey-model .ensures .0) in
     (model.model-asks (s .pre .0) ready (words m) has (s .pre .1 .1 .0), s .pre .1 .0 .1)
 
-enum-known-located : tie.Need-enum-known-located
-enum-known-located c = search needs
-
 target-at-requires : tie.Need-target-at-requires
 target-at-requires c κs =
     let s = c .before .before .before .before .before .before .before .before .before .before .before .before .before .before .before in
@@ -68,27 +56,15 @@ target-at-requires c κs =
     let e = sym (c .before .before .before .locate-model .ensures) ∙ ap locatedForm (c .before .located .given .1) in
     (s .pre .1 .1 .1, omega (arith, model.one-found (s .pre .0) ready (words m) has (s .pre .1 .1 .0) (v .key .number) (v .key .path .instances) (s .pre .1 .0 .1) (v .at) e .0, s .pre .1 .1 .0))
 
-enum-told-3 : tie.Need-enum-told-3
-enum-told-3 c = search needs
-
-same-length : tie.Need-same-length
-same-length c = search needs
-
 returns : tie.Need-returns
 returns c =
     let s = c .before .before .before .before .before .before .before .before .before in
     nothing-found s (no-points-unknown (read s) (sym (ap surveyForm (c .enum-told .given .1)) ∙ c .before .before .before .before .survey-model .ensures .0))
 
-same-length-2 : tie.Need-same-length-2
-same-length-2 c = search needs
-
 returns-2 : tie.Need-returns-2
 returns-2 c =
     let s = c .before .before .before .before .before .before .before .before .before in
     nothing-found s (no-points-refused (read s) (sym (ap surveyForm (c .enum-told2 .given .1)) ∙ c .before .before .before .before .survey-model .ensures .0))
-
-same-length-3 : tie.Need-same-length-3
-same-length-3 c = search needs
 
 returns-3 : tie.Need-returns-3
 returns-3 c =
@@ -100,9 +76,6 @@ returns-3 c =
     let has = has-points (read s) (sym (ap surveyForm (c .before .before .before .before .before .before .before .survey .given .1)) ∙ m .survey-model .ensures .0) in
     let e = sym (c .before .before .before .before .locate-model .ensures) ∙ ap locatedForm (c .before .before .located .given .1) in
     ap foundTold (c .target-at .ensures) ∙ model.one-found (s .pre .0) ready (words m) has (s .pre .1 .1 .0) (v .key .number) (v .key .path .instances) (s .pre .1 .0 .1) (v .at) e .1
-
-same-length-4 : tie.Need-same-length-4
-same-length-4 c = search needs
 
 returns-4 : tie.Need-returns-4
 returns-4 c =
@@ -119,19 +92,19 @@ pub search-model-spec : {M : Type 1} → statement M
 search-model-spec =
     tie.close
     (tie.spec
-    survey-model-requires
+    (λ c κs. search needs)
     enum-told
-    enum-told-2
-    enum-known-survey
+    (λ c. search needs)
+    (λ c. search needs)
     locate-model-requires
-    enum-known-located
+    (λ c. search needs)
     target-at-requires
-    enum-told-3
-    same-length
+    (λ c. search needs)
+    (λ c. search needs)
     returns
-    same-length-2
+    (λ c. search needs)
     returns-2
-    same-length-3
+    (λ c. search needs)
     returns-3
-    same-length-4
+    (λ c. search needs)
     returns-4)

@@ -6,24 +6,6 @@ use Rattle.catalog.specs.Answers.{pointForm}
 use Rattle.listing.proofs.search.target_at.Statement.{statement}
 use Rattle.listing.proofs.search.target_at.Tie as tie
 
-cast-body-address : tie.Need-cast-body-address
-cast-body-address c = search needs
-
-cast-body-address-2 : tie.Need-cast-body-address-2
-cast-body-address-2 c = search needs
-
-body-address-requires : tie.Need-body-address-requires
-body-address-requires c κs = search needs
-
-cast-part : tie.Need-cast-part
-cast-part c = search needs
-
-part-requires : tie.Need-part-requires
-part-requires c κs = search needs
-
-raw-value-requires : tie.Need-raw-value-requires
-raw-value-requires c κs = search needs
-
 returns : tie.Need-returns
 returns c =
     let a = c .before .before .before .before .before .before .before .args in
@@ -37,4 +19,4 @@ returns c =
 pub target-at-spec : {M : Type 1} → statement M
 target-at-spec =
     tie.close
-    (tie.spec cast-body-address cast-body-address-2 body-address-requires cast-part part-requires raw-value-requires returns)
+    (tie.spec (λ c. search needs) (λ c. search needs) (λ c κs. search needs) (λ c. search needs) (λ c κs. search needs) (λ c κs. search needs) returns)

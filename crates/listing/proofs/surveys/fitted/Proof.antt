@@ -11,18 +11,6 @@ use Rattle.listing.specs.Promises.{surveyedBy}
 use Rattle.listing.proofs.surveys.fitted.Statement.{statement}
 use Rattle.listing.proofs.surveys.fitted.Tie as tie
 
-add-points : tie.Need-add-points
-add-points c = search needs
-
-add-fill-count : tie.Need-add-fill-count
-add-fill-count c = search needs
-
-fill-count-requires : tie.Need-fill-count-requires
-fill-count-requires c κs = search needs
-
-enum-known-filled : tie.Need-enum-known-filled
-enum-known-filled c = search needs
-
 -- The points of the fill group: the count is at most the length.
 few : (c : tie.After-filled) → c .filled .given .0 .0 * c .before .before .before .before .before .before .before .args .groups .«fill_points» ≤ 65535 * 65536
 few c =
@@ -58,10 +46,10 @@ pub fitted-spec : {M : Type 1} → statement M
 fitted-spec =
     tie.close
     (tie.spec
-    add-points
-    add-fill-count
-    fill-count-requires
-    enum-known-filled
+    (λ c. search needs)
+    (λ c. search needs)
+    (λ c κs. search needs)
+    (λ c. search needs)
     mul-t10
     add-t11
     enum-told

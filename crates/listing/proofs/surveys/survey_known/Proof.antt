@@ -18,9 +18,6 @@ use Rattle.listing.proofs.surveys.survey_known.Statement.{statement}
 use Rattle.listing.proofs.surveys.survey_known.Tie as tie
 use borrow.Author.Needs.{needs}
 
-run-extent-requires : tie.Need-run-extent-requires
-run-extent-requires c κs = search needs
-
 -- Where the definition is found, the run is the points of its top group.
 top-run : (c : tie.After-run-extent) → RunOf (c .before .before .before .before .args .catalog .now)
     (c .before .before .before .before .args .first) (c .run-extent .result)
@@ -29,9 +26,6 @@ top-run c =
     let a = b .args in
     held-run (a .catalog .now) (a .first) (b .pre .1 .1 .0) (accepted-few (a .catalog .now) (b .pre .0)) (c .run-extent .result)
     (c .run-extent .ensures)
-
-is-pad-left-out-requires : tie.Need-is-pad-left-out-requires
-is-pad-left-out-requires c κs = search needs
 
 -- So the test of the pad is that of the definition.
 pad-test : (c : tie.After-is-pad-left-out) → let a = c .before .before .before .before .before .args in
@@ -51,9 +45,6 @@ top-noted b =
     let a = b .args in
     held-noted (a .catalog .now) (a .first) (b .pre .1 .1 .0) (a .body .now) 0 (a .table .now)
 
-note-run-requires : tie.Need-note-run-requires
-note-run-requires c κs = search needs
-
 sub-t13 : tie.Need-sub-t13
 sub-t13 c =
     let at-is-pad-left-out = c .before .before .before .before .before .before in
@@ -63,9 +54,6 @@ sub-t13 c =
     let e = sym (pad-test at-is-pad-left-out) ∙ c .before .before .before .before .before .if1 .taken in
     laws.has-point (a .id) (b .pre .0) (b .pre .1 .1 .0) (b .pre .1 .1 .1) (length (a .body .now))
     (top-run at-run-extent) e
-
-same-length : tie.Need-same-length
-same-length c = search needs
 
 returns : tie.Need-returns
 returns c =
@@ -88,9 +76,6 @@ returns-2 c =
     omega (arith, c .if2 .taken, r .size) in
     (models.below-surveyed (a .id) (heldAt ws (a .first)) (a .body .now) e short, (tt, b .pre .1 .0 .0))
 
-note-run-requires-2 : tie.Need-note-run-requires-2
-note-run-requires-2 c κs = search needs
-
 groups-extent-requires : tie.Need-groups-extent-requires
 groups-extent-requires c κs =
     let at-run-extent = c .before .before .before .before .before .before .before .before .before in
@@ -104,9 +89,6 @@ groups-extent-requires c κs =
         omega arith,
       ),
     )
-
-same-length-2 : tie.Need-same-length-2
-same-length-2 c = search needs
 
 returns-3 : tie.Need-returns-3
 returns-3 c =
@@ -144,9 +126,6 @@ fitted-requires c κs =
       (omega (arith, x .size), omega (arith, x .points), omega (arith, x .fillPoints)),
     )
 
-same-length-3 : tie.Need-same-length-3
-same-length-3 c = search needs
-
 returns-4 : tie.Need-returns-4
 returns-4 c =
     let at-note-run2 = c .before .before .before .before .before .before in
@@ -172,17 +151,17 @@ pub survey-known-spec : {M : Type 1} → statement M
 survey-known-spec =
     tie.close
     (tie.spec
-    run-extent-requires
-    is-pad-left-out-requires
-    note-run-requires
+    (λ c κs. search needs)
+    (λ c κs. search needs)
+    (λ c κs. search needs)
     sub-t13
-    same-length
+    (λ c. search needs)
     returns
     returns-2
-    note-run-requires-2
+    (λ c κs. search needs)
     groups-extent-requires
-    same-length-2
+    (λ c. search needs)
     returns-3
     fitted-requires
-    same-length-3
+    (λ c. search needs)
     returns-4)

@@ -9,12 +9,6 @@ use Rattle.listing.proofs.surveys.survey_model.Statement.{statement}
 use Rattle.listing.proofs.surveys.survey_model.Tie as tie
 use borrow.Author.Needs.{needs}
 
-find-model-requires : tie.Need-find-model-requires
-find-model-requires c κs = search needs
-
-enum-known-found : tie.Need-enum-known-found
-enum-known-found c = search needs
-
 survey-known-requires : tie.Need-survey-known-requires
 survey-known-requires c κs =
     let b = c .before .before .before .before .before .before .before .before in
@@ -27,9 +21,6 @@ survey-known-requires c κs =
 
 enum-told : tie.Need-enum-told
 enum-told c = search needs
-
-same-length : tie.Need-same-length
-same-length c = search needs
 
 returns : tie.Need-returns
 returns c =
@@ -58,10 +49,10 @@ pub survey-model-spec : {M : Type 1} → statement M
 survey-model-spec =
     tie.close
     (tie.spec
-    find-model-requires
-    enum-known-found
+    (λ c κs. search needs)
+    (λ c. search needs)
     survey-known-requires
     enum-told
-    same-length
+    (λ c. search needs)
     returns
     returns-2)

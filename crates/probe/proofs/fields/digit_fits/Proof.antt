@@ -10,11 +10,8 @@ use Rattle.probe.proofs.fields.digit_fits.Tie as tie
 returns : tie.Need-returns
 returns c = λ t. let z : _≡_ {A = ℕ} 0 1 = cc in absurd (omega arith)
 
-sub-result : tie.Need-sub-result
-sub-result c = search needs
-
 returns-2 : tie.Need-returns-2
 returns-2 c = λ t. omega (arith, leb-true, ltb-false)
 
 pub digit-fits-spec : {M : Type 1} → statement M
-digit-fits-spec = tie.close (tie.spec returns sub-result returns-2)
+digit-fits-spec = tie.close (tie.spec returns (λ c. search needs) returns-2)

@@ -43,20 +43,8 @@ add-counted c =
     let l = below _ (sfits-toZ (fits-ofZ (c .before .fits .n))) (c .if1 .taken) in
     rw (l .is, toZ-pos w64 (l .small)) (record { fits = omega arith })
 
-counted-requires : tie.Need-counted-requires
-counted-requires c κs = search needs
-
 cast-counted-2 : tie.Need-cast-counted-2
 cast-counted-2 c = not-below _ (sfits-toZ (fits-ofZ (c .before .fits .n))) (c .if1 .left)
-
-counted-requires-2 : tie.Need-counted-requires-2
-counted-requires-2 c κs = search needs
-
-returns : tie.Need-returns
-returns c = search needs
-
-returns-2 : tie.Need-returns-2
-returns-2 c = search needs
 
 pub signed-spec : {M : Type 1} → statement M
 signed-spec =
@@ -65,8 +53,8 @@ signed-spec =
     sub-counted
     cast-counted
     add-counted
-    counted-requires
+    (λ c κs. search needs)
     cast-counted-2
-    counted-requires-2
-    returns
-    returns-2)
+    (λ c κs. search needs)
+    (λ c. search needs)
+    (λ c. search needs))
