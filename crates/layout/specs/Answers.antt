@@ -8,8 +8,8 @@ use lib.Dec.{leb}
 use lib.ListN.{length}
 use Rattle.registers.specs.Registers.{join, allZero, shownRaw}
 use Rattle.values.specs.Classes.{Classified, classified}
-use Rattle.catalog.specs.Frames as Frames
-use Rattle.catalog.specs.Answers.{headForm, pointForm}
+use Rattle.catalog_frames.specs.Frames as Frames
+use Rattle.catalog_frames.specs.Forms.{headForm, pointForm}
 use Rattle.model_definitions.specs.Definitions.{pointsSize}
 use Rattle.layout.specs.Points.{statusOf, scaleOf}
 use Rattle.layout.specs.Reading.{endsWithPad}

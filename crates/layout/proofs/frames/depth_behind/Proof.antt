@@ -1,7 +1,7 @@
 -- `layout::frames::depth_behind` meets its contract: a group frame opens a group, an end frame ends one.
 use mathlib.Core.Path.{sym, ap, _∙_}
 use borrow.Author.Needs.{needs}
-use Rattle.catalog.specs.Answers.{frameForm}
+use Rattle.catalog_frames.specs.Forms.{frameForm}
 use Rattle.layout.specs.Walks.{openBehind}
 use Rattle.layout.proofs.frames.depth_behind.Statement.{statement}
 use Rattle.layout.proofs.frames.depth_behind.Tie as tie

@@ -1,7 +1,7 @@
 -- `layout::points::scale_of` meets its contract: the scale shown, by the status and the scale kind.
 use mathlib.Core.Path.{sym}
 use borrow.Author.Needs.{needs}
-use Rattle.catalog.specs.Answers.{pointForm}
+use Rattle.catalog_frames.specs.Forms.{pointForm}
 use Rattle.layout.proofs.PointStatus.{no-value, scale-fixed, scale-by-point, no-scale}
 use Rattle.layout.proofs.points.scale_of.Statement.{statement}
 use Rattle.layout.proofs.points.scale_of.Tie as tie
