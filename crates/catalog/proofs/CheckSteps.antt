@@ -9,7 +9,7 @@ use native.Mathlib.Numerals.{add-one}
 use borrow.Author.Tests.{eq-eqb, ne-eqb, lt-ltb, le-ltb}
 use Prim.Native.Nat.{_<_}
 use lib.ListN.{length}
-use Rattle.catalog.specs.Frames.{Frame}
+use Rattle.catalog_frames.specs.Frames.{Frame}
 use Rattle.catalog.specs.State.{State, start, next}
 use Rattle.catalog.specs.Rules.{noModel, run, fault}
 use Rattle.catalog.specs.Checking.{Verdict, accepted, refused, checkFrom, framesChecked, checked}

@@ -11,7 +11,7 @@ use lib.ListN.{length, getD}
 use Rattle.lists.specs.Tests.{firstBroken}
 use Rattle.lists.proofs.TestLaws.{none-broken}
 use Rattle.number_sets.specs.NumberSets.{Marks}
-use Rattle.catalog.specs.Frames.{frameAt, word}
+use Rattle.catalog_frames.specs.Frames.{frameAt, word}
 use Rattle.catalog.specs.State as check
 use Rattle.catalog.specs.Rules.{run, noModel, rules, fault}
 use Rattle.catalog.specs.Checking.{accepted, refused, checkFrom, framesChecked}

@@ -5,8 +5,8 @@ use Prim.Native.Nat.{ℕ}
 use lib.ListN.{replicate}
 use Rattle.point_types.specs.Rows.{rows, rowAmong, mayScale, registersOf}
 use Rattle.values.specs.Classes.{twosComplement}
-use Rattle.catalog.specs.Frames.{frameOf, framesFrom}
-use Rattle.catalog.specs.Rules.{isSizeOf}
+use Rattle.catalog_frames.specs.Frames.{frameOf, framesFrom}
+use Rattle.frame_rules.specs.FrameTests.{isSizeOf}
 use Rattle.catalog.specs.Checking.{Verdict, accepted, refused, checkFrom, checked}
 
 -- A model frame.

@@ -11,8 +11,8 @@ use lib.Seq.{drop-append-seam, drop-cons, getD-drop}
 use Rattle.lists.specs.Each.{Each}
 use Rattle.lists.proofs.TestOutcomes.{by-test, both}
 use Rattle.registers.specs.Registers.{allZero}
-use Rattle.catalog.specs.Frames.{Frame, modelFrame, groupFrame, pointFrame, endFrame, malformed, ifZero, frameOf, word}
-use Rattle.catalog.specs.Frames.{frameAt, framesFrom, frames, wordsOf, wordsOfAll}
+use Rattle.catalog_frames.specs.Frames.{Frame, modelFrame, groupFrame, pointFrame, endFrame, malformed, ifZero, frameOf, word}
+use Rattle.catalog_frames.specs.Frames.{frameAt, framesFrom, frames, wordsOf, wordsOfAll}
 use Rattle.catalog.specs.Rules.{isMalformed}
 
 -- A word of a later frame is one of the words behind the first frame.

@@ -9,7 +9,7 @@ use lib.Dec.{eqb}
 use Rattle.lists.specs.Members.{among}
 use Rattle.lists.proofs.TestOutcomes.{clash, both}
 use Rattle.lists.proofs.TestLaws.{none-broken, neither}
-use Rattle.catalog.specs.Frames.{Point, Frame, modelFrame, groupFrame, pointFrame, endFrame, malformed}
+use Rattle.catalog_frames.specs.Frames.{Point, Frame, modelFrame, groupFrame, pointFrame, endFrame, malformed}
 use Rattle.catalog.specs.State.{OpenGroup, State, start, next, withPoint}
 use Rattle.catalog.specs.Rules.{hasScaleFactor, isScaleFactorPoint, pointsOf, rules, fault}
 use Rattle.catalog.proofs.WordScans.{has-either}

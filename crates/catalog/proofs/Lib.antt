@@ -3,10 +3,7 @@ pub mod ClauseByClause
 -- Laws of the definitions
 pub mod FrameWords
 -- What the proofs of the functions cite
-pub mod FrameKinds
-pub mod FramesByIndex
 pub mod WordScans
-pub mod KindCases
 pub mod MarkLaws
 pub mod MarkedRules
 pub mod FreshNumbers

@@ -9,9 +9,10 @@ use borrow.Author.Tests.{eqb-true, eqb-false, eq-eqb, ne-eqb}
 use lib.Dec.{eqb}
 use lib.ListN.{length}
 use Rattle.number_sets.specs.NumberSets.{inSet, Marks, Blank}
-use Rattle.catalog.specs.Frames.{Point, uint16, readOnly}
+use Rattle.catalog_frames.specs.Frames.{Point, uint16, readOnly}
 use Rattle.catalog.specs.Rules.{run}
-use Rattle.catalog.specs.Scans.{framesOnward, isTarget, isOfKind, pointWords}
+use Rattle.catalog_frames.specs.Words.{pointWords}
+use Rattle.catalog.specs.Scans.{framesOnward, isTarget, isOfKind}
 use Rattle.catalog.specs.Marks.{Counted, inRun, stops, firstStop}
 use Rattle.catalog.specs.declared.scans.Target.{Target}
 

@@ -17,7 +17,7 @@ use Rattle.lists.proofs.TestLaws.{none-broken, none-of, neither}
 use Rattle.number_sets.specs.NumberSets.{inSet, Marks, Blank}
 use Rattle.number_sets.proofs.SetLaws.{none-in}
 use Rattle.number_sets.proofs.MarkLaws.{now-in, now-out}
-use Rattle.catalog.specs.Frames.{Point, Head, Frame, modelFrame, groupFrame, pointFrame, endFrame, malformed, word, frameAt}
+use Rattle.catalog_frames.specs.Frames.{Point, Head, Frame, modelFrame, groupFrame, pointFrame, endFrame, malformed, word, frameAt}
 use Rattle.catalog.specs.State as check
 use Rattle.catalog.specs.State.{OpenGroup}
 use Rattle.catalog.specs.Rules.{run, hasScaleFactor, isScaleFactorPoint, pointsOf, countFaults}

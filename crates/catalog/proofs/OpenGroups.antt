@@ -1,13 +1,13 @@
 -- The runs of points of the open groups, as the code finds them by the first frame inside each.
-use mathlib.Core.Path.{_≡_, refl, _∙_}
+use mathlib.Core.Path.{_≡_, refl, ap, _∙_}
 use mathlib.Core.Logic.{_≢_}
 use mathlib.Core.Bool.{Bool, true}
-use mathlib.Core.List.{List, [], _∷_, append-nil}
+use mathlib.Core.List.{List, [], _∷_, _++_, append-nil}
 use Prim.Native.Nat.{ℕ, suc, _≤_}
 use native.Mathlib.Omega.{arith}
 use lib.ListN.{length, getD, set}
 use lib.Seq.{getD-set-other}
-use Rattle.catalog.specs.Frames.{Point}
+use Rattle.catalog_frames.specs.Frames.{Point}
 use Rattle.catalog.specs.State.{OpenGroup}
 use Rattle.catalog.specs.Rules.{run, pointsOf, inReach, topPoints}
 use Rattle.catalog.specs.Scans.{framesOnward, runsOf}
@@ -24,7 +24,8 @@ module _ (ws firsts : List ℕ) where
   pub runs-in-reach : (b : Bool) (ahead : List Point) (l : OpenGroup) (ls : List OpenGroup) → Opens ws firsts b ahead (l ∷ ls)
       → runsOf ws firsts (suc (length ls)) ≡ inReach (l ∷ ls) ahead
   unfolding runsOf
-  runs-in-reach b ahead l ls o = rw (o .0, runs-points true ls (o .2))
+  runs-in-reach b ahead l ls o =
+      ap (λ ps. ps ++ runsOf ws firsts (length ls)) (o .0) ∙ ap (λ ps. (l .points ++ ahead) ++ ps) (runs-points true ls (o .2))
 
   -- The outermost run is the points of the top group.
   pub run-of-top : (b : Bool) (l : OpenGroup) (ls : List OpenGroup) → Opens ws firsts b [] (l ∷ ls)

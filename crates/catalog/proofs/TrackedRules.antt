@@ -1,6 +1,6 @@
 -- The rules as the code asks them find the same fault as the rules of the check.
 use mathlib.Core.Path.{_≡_, refl, sym, ap, subst, _∙_}
-use mathlib.Core.Bool.{Bool, true, false, _||_}
+use mathlib.Core.Bool.{Bool, true, false, not, _||_}
 use mathlib.Core.List.{List, [], _∷_, append-nil}
 use mathlib.Core.Option.{Option}
 use Prim.Native.Nat.{ℕ, suc, _-_, _<_}
@@ -10,10 +10,12 @@ use lib.Dec.{eqb}
 use lib.ListN.{length}
 use Rattle.lists.specs.Members.{among}
 use Rattle.lists.specs.Tests.{oneHolds, firstBroken}
-use Rattle.catalog.specs.Frames.{Point, Head, Frame, modelFrame, groupFrame, pointFrame, endFrame, malformed}
+use Rattle.number_sets.specs.NumberSets.{inSet}
+use Rattle.catalog_frames.specs.Frames.{Point, Head, Frame, modelFrame, groupFrame, pointFrame, endFrame, malformed}
 use Rattle.catalog.specs.State as check
 use Rattle.catalog.specs.State.{OpenGroup}
-use Rattle.catalog.specs.Rules.{run, inReach, noModel, isMisplaced, isMisnumbered, isMisscaled, isMistyped, scaleFaults}
+use Rattle.frame_rules.specs.FrameTests.{isMistyped}
+use Rattle.catalog.specs.Rules.{run, inReach, noModel, isMisplaced, isMisnumbered, isMisscaled, scaleFaults}
 use Rattle.catalog.specs.Rules.{fault}
 use Rattle.catalog.specs.Answers.{IdFits}
 use Rattle.catalog.specs.Scans.{framesOnward, runsOf}
@@ -29,6 +31,10 @@ none-open d (l ∷ ls) e = ne-eqb d 0 (λ z. omega (arith, e, z))
 one-open : (d : ℕ) (ls : List OpenGroup) → d ≡ suc (length ls) → eqb d 1 ≡ noModel ls
 one-open d [] e = eq-eqb d 1 e
 one-open d (l ∷ ls) e = ne-eqb d 1 (λ z. omega (arith, e, z))
+
+-- The fault of a model frame by its tests.
+abbrev modelFault : Bool → Bool → Option ℕ
+modelFault placed numbered = firstBroken ((placed, 4) ∷ (numbered, 6) ∷ [])
 
 -- The fault of a point frame by its tests, which may be exchanged one by one.
 abbrev pointFault : Bool → Bool → Bool → Bool → Option ℕ
@@ -53,7 +59,13 @@ module _ (ws used : List ℕ) (i : ℕ) (c : State) (s : check.State) (t : Track
   -- The same fault, kind by kind.
   model-fault : (id : ℕ) (ahead : List Point) → id < 65536
       → firstBroken (codeRules ws used i c (modelFrame id)) ≡ fault s (modelFrame id) ahead
-  model-fault id ahead h = rw (none-open (c .depth) (s .openGroups) (t .depth), t .ids id h)
+  model-fault id ahead h =
+      let placed : not (eqb (c .depth) 0) ≡ isMisplaced s (modelFrame id) =
+      ap not (none-open (c .depth) (s .openGroups) (t .depth)) in
+      let numbered : eqb id 0 || eqb id 65535 || inSet used id ≡ isMisnumbered s (modelFrame id) =
+      ap (λ (b : Bool). eqb id 0 || eqb id 65535 || b) (t .ids id h) in
+      ap (λ (b : Bool). modelFault b (eqb id 0 || eqb id 65535 || inSet used id)) placed
+      ∙ ap (modelFault (isMisplaced s (modelFrame id))) numbered
 
   group-fault : (h : Head) (ahead : List Point) → run (framesOnward ws i) ≡ []
       → firstBroken (codeRules ws used i c (groupFrame h)) ≡ fault s (groupFrame h) ahead

@@ -15,8 +15,8 @@ use Rattle.lists.proofs.TestLaws.{none-broken, neither}
 use Rattle.number_sets.specs.NumberSets.{Marks}
 use Rattle.number_sets.proofs.SetLaws.{none-in}
 use Rattle.number_sets.proofs.MarkLaws.{now-in}
-use Rattle.catalog.specs.Frames.{Point, Head, Frame, modelFrame, groupFrame, pointFrame, endFrame, malformed, word, frameAt}
-use Rattle.catalog.specs.Frames.{wordsOf, fill}
+use Rattle.catalog_frames.specs.Frames.{Point, Head, Frame, modelFrame, groupFrame, pointFrame, endFrame, malformed, word, frameAt}
+use Rattle.catalog_frames.specs.Frames.{wordsOf, fill}
 use Rattle.catalog.specs.State as check
 use Rattle.catalog.specs.State.{OpenGroup, start, next}
 use Rattle.catalog.specs.Rules.{run, noModel, inTop, afterGroup, isMalformed, rules, fault}

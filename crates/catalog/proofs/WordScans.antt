@@ -5,30 +5,14 @@ use mathlib.Core.List.{List, [], _∷_, _++_}
 use Prim.Native.Nat.{ℕ, suc, _+_, _-_, _/_, _≤_, _<_}
 use native.Mathlib.Numerals.{add-one}
 use native.Mathlib.Omega.{arith}
-use borrow.Author.Tests.{eq-eqb, ne-eqb}
 use lib.Dec.{eqb}
 use lib.ListN.{length, getD}
 use Rattle.lists.specs.Members.{among}
-use Rattle.catalog.specs.Frames.{Point, word, frameAt, framesFrom}
+use Rattle.catalog_frames.specs.Frames.{Point, Frame, modelFrame, groupFrame, endFrame, word, frameAt, framesFrom}
 use Rattle.catalog.specs.Rules.{run, hasPoint, hasScaleFactor, isScaleFactorPoint}
-use Rattle.catalog.specs.Scans.{zeroWords, isNumbered, hasNumber, numbersBefore, framesOnward, pointWords, runsOf}
-use Rattle.catalog.proofs.FrameKinds as kinds
-
--- ---- Words that are 0
-
-module _ (ws : List ℕ) (i k n : ℕ) where
-  pub zero-none : n ≤ 0 → zeroWords ws i k n ≡ true
-  unfolding zeroWords
-  zero-none h = let e : n ≡ 0 = omega arith in rw e
-
-  module _ (m : ℕ) (e : n ≡ m + 1) (w : ℕ) (q : w ≡ word ws i k) where
-    pub zero-stops : (w ≡ 0 → ⊥) → zeroWords ws i k n ≡ false
-    unfolding zeroWords
-    zero-stops h = rw (e, add-one m, zeroWords, ← q, ne-eqb w 0 h)
-
-    pub zero-goes : w ≡ 0 → zeroWords ws i (k + 1) m ≡ zeroWords ws i k n
-    unfolding zeroWords
-    zero-goes h = rw (e, add-one m, zeroWords, ← q, eq-eqb w 0 h, add-one k)
+use Rattle.catalog_frames.specs.Words.{zeroWords, headWords, pointWords}
+use Rattle.catalog.specs.Scans.{isNumbered, hasNumber, numbersBefore, framesOnward, runsOf}
+use Rattle.catalog_frames.proofs.FrameKinds as kinds
 
 -- ---- Numbers of frames
 
@@ -77,13 +61,28 @@ pub frames-none : (ws : List ℕ) (j : ℕ) → length ws / 8 ≤ j → framesOn
 unfolding framesFrom
 frames-none ws j h = let e : length ws / 8 - j ≡ 0 = omega arith in rw (e, framesFrom)
 
+-- A frame that begins no run still begins none if it is malformed.
+formed-run : (b : Bool) (f : Frame) (fs : List Frame) → run (f ∷ fs) ≡ [] → run (kinds.formed b f ∷ fs) ≡ []
+formed-run true f fs h = h
+formed-run false f fs h = refl
+
+-- A frame of another kind than a point's begins no run of points.
+no-point-here : (ws : List ℕ) (i k : ℕ) → k ≡ word ws i 0 → (k ≡ 3 → ⊥) → (fs : List Frame) → run (frameAt ws i ∷ fs) ≡ []
+no-point-here ws i k kind n fs =
+    kinds.by-kind ws i k kind (λ f. run (f ∷ fs) ≡ [])
+    (λ e. formed-run (zeroWords ws i 2 6) (modelFrame (word ws i 1)) fs refl)
+    (λ e. formed-run (zeroWords ws i 5 3) (groupFrame (headWords ws i)) fs refl)
+    (λ e. absurd (n e))
+    (λ e. formed-run (zeroWords ws i 1 7) endFrame fs refl)
+    (λ x y z w. refl)
+
 -- A run begins with the point of a point frame, and nothing else begins one.
 module _ (ws : List ℕ) (j k : ℕ) (h : j < length ws / 8) (q : k ≡ word ws j 0) where
   pub run-goes : k ≡ 3 → run (framesOnward ws j) ≡ pointWords ws j ∷ run (framesOnward ws (j + 1))
   run-goes e = rw (frames-more ws j h, kinds.kind-3 ws j k q e)
 
   pub run-ends : (k ≡ 3 → ⊥) → run (framesOnward ws j) ≡ []
-  run-ends n = rw (frames-more ws j h) (kinds.no-point-here ws j k q n (framesOnward ws (j + 1)))
+  run-ends n = rw (frames-more ws j h) (no-point-here ws j k q n (framesOnward ws (j + 1)))
 
 -- ---- The runs of the open groups
 

@@ -1,4 +1,3 @@
-pub mod Frames
 pub mod State
 pub mod Rules
 pub mod Checking

@@ -8,7 +8,7 @@ use lib.Dec.{eqb}
 use lib.ListN.{length, getD}
 use Rattle.lists.specs.Members.{among}
 use Rattle.number_sets.specs.NumberSets.{inSet, Marks, Blank}
-use Rattle.catalog.specs.Frames.{word, countByPoint}
+use Rattle.catalog_frames.specs.Frames.{word, countByPoint}
 use Rattle.catalog.specs.Rules.{run, hasPoint}
 use Rattle.catalog.specs.Scans.{framesOnward, isModel, isTarget, numbersBefore, runsOf}
 use Rattle.catalog.specs.Tracking.{numbersSoFar}

@@ -1,16 +1,17 @@
 -- The rules 3 to 10 of a frame (document 01, "Checking"), in their order: the first that is broken decides.
 use mathlib.Core.Bool.{Bool, true, false, not, _&&_, _||_}
 use mathlib.Core.List.{List, [], _∷_, _++_}
-use mathlib.Core.Option.{Option, none, some}
+use mathlib.Core.Option.{Option}
 use Prim.Native.Nat.{ℕ}
 use lib.Dec.{eqb, leb, ltb}
 use lib.ListN.{length}
 use Rattle.lists.specs.Members.{among}
 use Rattle.lists.specs.Tests.{oneHolds, firstBroken}
-use Rattle.point_types.specs.Rows.{mayScale, registersOf}
+use Rattle.point_types.specs.Rows.{mayScale}
 use Rattle.values.specs.Classes.{twosComplement, isScaleFactor}
-use Rattle.catalog.specs.Frames.{Point, Head, Frame, modelFrame, groupFrame, pointFrame, endFrame, malformed, noScale}
-use Rattle.catalog.specs.Frames.{fixedScale, scaleByPoint, constantCount, countByPoint, fill, uint16, sunssf, readOnly}
+use Rattle.catalog_frames.specs.Frames.{Point, Head, Frame, modelFrame, groupFrame, pointFrame, endFrame, malformed, noScale}
+use Rattle.catalog_frames.specs.Frames.{fixedScale, scaleByPoint, constantCount, countByPoint, fill, uint16, sunssf, readOnly}
+use Rattle.frame_rules.specs.FrameTests.{isMistyped}
 use Rattle.catalog.specs.State.{OpenGroup, State}
 
 -- ---- What the rules look at (where a rule behind 4 needs an open model, 4 has decided without one)
@@ -76,11 +77,6 @@ isCountPoint n p = eqb (p .number) n && eqb (p .typeCode) uint16 && eqb (p .acce
 abbrev pub hasCountPoint : ℕ → List Point → Bool
 hasCountPoint n ps = hasPoint (isCountPoint n) ps
 
--- Is this a size of the type? An unknown type has none.
-unfoldable pub isSizeOf : ℕ → ℕ → Bool
-isSizeOf code size =
-    elim (registersOf code) [ none ↦ false | some r ↦ leb (r .0) size && leb size (r .1) ]
-
 -- ---- The rules: each says of a frame, in a state, whether it is broken
 
 -- 3: the kind is not 1–4, or an unnamed word is not zero.
@@ -116,13 +112,7 @@ isMisnumbered s (pointFrame p) = eqb (p .number) 0 || among (p .number) (s .numb
 isMisnumbered s endFrame = false
 isMisnumbered s malformed = false
 
--- 7: an unknown type or wrong size; group type, mandatory or access not 0 or 1.
-abbrev pub isMistyped : Frame → Bool
-isMistyped (modelFrame id) = false
-isMistyped (groupFrame h) = ltb 1 (h .groupType)
-isMistyped (pointFrame p) = not (isSizeOf (p .typeCode) (p .size)) || ltb 1 (p .mandatory) || ltb 1 (p .access)
-isMistyped endFrame = false
-isMistyped malformed = false
+-- 7: an unknown type or wrong size; group type, mandatory or access not 0 or 1. It is `isMistyped` of `frame_rules`.
 
 -- 8, clause by clause, of a point and the points in its reach.
 abbrev pub scaleFaults : List Point → Point → List Bool

@@ -4,22 +4,9 @@ use mathlib.Core.List.{List, [], _∷_, _++_}
 use Prim.Native.Nat.{ℕ, zero, suc, _+_, _-_, _/_}
 use lib.Dec.{eqb, leb}
 use lib.ListN.{length, getD}
-use Rattle.catalog.specs.Frames.{Point, Head, Frame, word, framesFrom, uint16, sunssf, readOnly}
+use Rattle.catalog_frames.specs.Frames.{Point, Frame, word, framesFrom, uint16, sunssf, readOnly}
 use Rattle.catalog.specs.Rules.{run, isScaleFactorPoint, isCountPoint}
 use Rattle.catalog.specs.declared.scans.Target.{Target}
-
--- Are n words of frame i from word k on all 0?
-unfoldable pub zeroWords : List ℕ → ℕ → ℕ → ℕ → Bool
-zeroWords ws i k zero = true
-zeroWords ws i k (suc n) = eqb (word ws i k) 0 && zeroWords ws i (suc k) n
-
--- The number of words that a kind of frame names, word 0 included.
-abbrev pub namedWords : ℕ → ℕ
-namedWords kind =
-    elim (eqb kind 1) [
-      | true ↦ 2
-      | false ↦ elim (eqb kind 2) [ true ↦ 5 | false ↦ elim (eqb kind 4) [ true ↦ 1 | false ↦ 8 ] ]
-    ]
 
 -- All frames from frame i on.
 abbrev pub framesOnward : List ℕ → ℕ → List Frame
@@ -45,24 +32,6 @@ numbersBefore ws first (suc n) =
       | true ↦ word ws (first + n) 1 ∷ numbersBefore ws first n
       | false ↦ numbersBefore ws first n
     ]
-
--- The head of group frame j, by its words.
-abbrev pub headWords : List ℕ → ℕ → Head
-headWords ws j =
-    record { number = word ws j 1; groupType = word ws j 2; countKind = word ws j 3; count = word ws j 4 }
-
--- The point of frame j, by its words.
-abbrev pub pointWords : List ℕ → ℕ → Point
-pointWords ws j =
-    record {
-      number = word ws j 1;
-      typeCode = word ws j 2;
-      size = word ws j 3;
-      scaleKind = word ws j 4;
-      scale = word ws j 5;
-      mandatory = word ws j 6;
-      access = word ws j 7;
-    }
 
 -- Is the point of the kind that the reference names?
 abbrev pub isOfKind : Target → Point → Bool

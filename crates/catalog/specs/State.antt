@@ -3,7 +3,7 @@ use mathlib.Core.Bool.{Bool, true, false, _||_}
 use mathlib.Core.List.{List, [], _∷_, _++_}
 use Prim.Native.Nat.{ℕ}
 use lib.Dec.{eqb}
-use Rattle.catalog.specs.Frames.{Point, Frame, modelFrame, groupFrame, pointFrame, endFrame, malformed, fill}
+use Rattle.catalog_frames.specs.Frames.{Point, Frame, modelFrame, groupFrame, pointFrame, endFrame, malformed, fill}
 
 -- An open group: its own points so far, in order, and whether a group stands directly in it.
 pub record OpenGroup : Type 0 where

@@ -1,70 +1,23 @@
 -- The code's state between two frames, and the rules as the code tests them. `proofs/TrackedState.antt` and
 -- `TrackedRules.antt` show that they agree with the state and the rules of the check.
 use mathlib.Core.Path.{_≡_}
-use mathlib.Core.Bool.{Bool, true, false, not, _&&_, _||_}
+use mathlib.Core.Bool.{Bool, true, false, _||_}
 use mathlib.Core.List.{List, [], _∷_, _++_}
 use Prim.Native.Nat.{ℕ, _+_, _-_, _≤_, _<_}
-use lib.Dec.{eqb, leb, ltb}
+use lib.Dec.{eqb}
 use lib.ListN.{length, getD, set}
 use Rattle.lists.specs.Members.{among}
 use Rattle.lists.specs.Tests.{oneHolds}
-use Rattle.point_types.specs.Rows.{mayScale}
-use Rattle.values.specs.Classes.{twosComplement, isScaleFactor}
 use Rattle.number_sets.specs.NumberSets.{inSet}
-use Rattle.catalog.specs.Frames.{Point, Head, Frame, modelFrame, groupFrame, pointFrame, endFrame, malformed, noScale}
-use Rattle.catalog.specs.Frames.{fixedScale, scaleByPoint, constantCount, countByPoint, fill}
+use Rattle.catalog_frames.specs.Frames.{Point, Head, Frame, modelFrame, groupFrame, pointFrame, endFrame, malformed, fill}
+use Rattle.frame_rules.specs.FrameTests.{modelTests, groupTests, pointTests, endTests}
 use Rattle.catalog.specs.State as check
 use Rattle.catalog.specs.State.{OpenGroup}
-use Rattle.catalog.specs.Rules.{run, noPoint, isMistyped, scaleFaults, countFaults}
+use Rattle.catalog.specs.Rules.{run, noPoint, scaleFaults, countFaults}
 use Rattle.catalog.specs.Scans.{framesOnward, numbersBefore, runsOf}
 use Rattle.catalog.specs.declared.state.State.{State}
 
--- ---- The tests of each kind of frame that can hold, with the numbers of their rules, by what the code finds in its sets
-
--- A model frame: `used` is whether its id is.
-abbrev pub modelTests : ℕ → Bool → ℕ → List (Bool × ℕ)
-modelTests depth used id = (not (eqb depth 0), 4) ∷ (eqb id 0 || eqb id 65535 || used, 6) ∷ []
-
--- A group frame: `used` is whether its number is, `miscounted` whether rule 9 is broken.
-abbrev pub groupTests : ℕ → Bool → Bool → Bool → Head → List (Bool × ℕ)
-groupTests depth hasFill used miscounted h =
-    (eqb depth 0 || eqb depth 1 && hasFill, 4)
-    ∷ (leb 4 depth, 5)
-    ∷ (eqb (h .number) 0 || used, 6)
-    ∷ (ltb 1 (h .groupType), 7)
-    ∷ (miscounted, 9)
-    ∷ []
-
--- A point frame: `used` is whether its number is, `misscaled` whether rule 8 is broken.
-abbrev pub pointTests : ℕ → Bool → Bool → Bool → Point → List (Bool × ℕ)
-pointTests depth hasGroup used misscaled p =
-    (eqb depth 0 || hasGroup, 4) ∷ (eqb (p .number) 0 || used, 6) ∷ (isMistyped (pointFrame p), 7) ∷ (misscaled, 8) ∷ []
-
--- An end frame: `empty` is whether the group that ends has no point of its own.
-abbrev pub endTests : ℕ → Bool → Bool → List (Bool × ℕ)
-endTests depth hasGroup empty = (eqb depth 0, 4) ∷ (empty && not (eqb depth 1 && hasGroup), 10) ∷ []
-
--- The clauses of rule 8: `known` is whether the point that is to give the scale factor is in scope.
-abbrev pub scaleTests : Bool → Point → List Bool
-scaleTests known p =
-    ltb 2 (p .scaleKind)
-    ∷ (eqb (p .scaleKind) noScale && not (eqb (p .scale) 0))
-    ∷ (not (eqb (p .scaleKind) noScale) && not (mayScale (p .typeCode)))
-    ∷ (eqb (p .scaleKind) fixedScale && not (isScaleFactor (twosComplement 16 (p .scale))))
-    ∷ (eqb (p .scaleKind) scaleByPoint && not known)
-    ∷ []
-
--- The clauses of rule 9: `counted` is whether the point that is to give the count is in the top group.
-abbrev pub countTests : Bool → Bool → Head → List Bool
-countTests counted direct h =
-    ltb 2 (h .countKind)
-    ∷ (eqb (h .countKind) constantCount && eqb (h .count) 0)
-    ∷ (eqb (h .countKind) countByPoint && not counted)
-    ∷ (eqb (h .countKind) fill && not direct)
-    ∷ (eqb (h .countKind) fill && not (eqb (h .count) 0))
-    ∷ []
-
--- ---- The same tests by a search of the catalog, before frame i
+-- ---- The tests of `frame_rules` by a search of the catalog, before frame i
 
 -- The run of points that begins at the first frame inside the open group at level k + 1.
 abbrev pub runIn : List ℕ → State → ℕ → List Point

@@ -1,14 +1,14 @@
 // Walks over frames that mark what they find in a set. Each reads every frame of its part at most once.
-use crate::frames::COUNT_BY_POINT;
-use crate::frames::END;
-use crate::frames::GROUP;
-use crate::frames::MODEL;
-use crate::frames::POINT;
-use crate::frames::READ_ONLY;
-use crate::frames::SUNSSF;
-use crate::frames::UINT16;
-use crate::frames::WORDS;
 use crate::frames::word_of;
+use catalog_frames::COUNT_BY_POINT;
+use catalog_frames::END;
+use catalog_frames::GROUP;
+use catalog_frames::MODEL;
+use catalog_frames::POINT;
+use catalog_frames::READ_ONLY;
+use catalog_frames::SUNSSF;
+use catalog_frames::UINT16;
+use catalog_frames::WORDS;
 use number_sets::SET_WORDS;
 use number_sets::is_in;
 use number_sets::mark;
@@ -18,7 +18,8 @@ ghost use Prim.Native.Nat.{_+_, _-_, _/_, _≤_, _<_};
 ghost use lib.ListN.{length};
 ghost use Rattle.lists.specs.Members.{among};
 ghost use Rattle.number_sets.specs.NumberSets.{Marks, Blank};
-ghost use Rattle.catalog.specs.Scans.{hasNumber, isOfKind, isTarget, numbersBefore, pointWords};
+ghost use Rattle.catalog_frames.specs.Words.{pointWords};
+ghost use Rattle.catalog.specs.Scans.{hasNumber, isOfKind, isTarget, numbersBefore};
 ghost use Rattle.catalog.specs.Marks.{Begun, BlankAtModel, Counted, ScalesAfter, firstStop, inRun, stops, unchanged};
 
 // The points that a reference names.

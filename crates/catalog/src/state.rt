@@ -1,19 +1,17 @@
 // What the check knows between two frames.
-use crate::frames::END;
-use crate::frames::FILL;
-use crate::frames::GROUP;
-use crate::frames::MODEL;
 use crate::frames::word_of;
+use catalog_frames::END;
+use catalog_frames::FILL;
+use catalog_frames::GROUP;
+use catalog_frames::MODEL;
+use frame_rules::LEVELS;
 ghost use mathlib.Core.Path.{_≡_};
 ghost use mathlib.Core.Bool.{_||_};
 ghost use Prim.Native.Nat.{_-_, _/_, _<_, _≤_};
 ghost use lib.Dec.{eqb};
 ghost use lib.ListN.{length, getD};
-ghost use Rattle.catalog.specs.Frames.{word, fill};
+ghost use Rattle.catalog_frames.specs.Frames.{word, fill};
 ghost use Rattle.catalog.specs.Tracking.{Room, withOpened, withEnded, stateOf};
-
-// The levels of groups: the top group is level 1.
-pub(crate) const LEVELS: usize = 4;
 
 // The number of models so far, an open one included; the number of open groups, and the first frame inside each, that of
 // the top group first; whether a group is directly in the innermost; whether a fill group is in the top group.

@@ -7,7 +7,7 @@ use native.Mathlib.Omega.{arith}
 use lib.Dec.{eqb}
 use lib.ListN.{length, take}
 use lib.Seq.{take-all}
-use Rattle.catalog.specs.Frames.{Point, pad}
+use Rattle.catalog_frames.specs.Frames.{Point, pad}
 use Rattle.catalog.specs.Rules.{run}
 use Rattle.model_definitions.specs.Definitions.{pointsSize}
 use Rattle.layout.specs.Reading.{endsWithPad}

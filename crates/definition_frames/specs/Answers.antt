@@ -6,8 +6,8 @@ use mathlib.Core.Option.{Option, none, some}
 use Prim.Native.Nat.{ℕ, _+_}
 use lib.Dec.{eqb}
 use lib.ListN.{length}
-use Rattle.catalog.specs.Frames as Frames
-use Rattle.catalog.specs.Answers.{headForm, pointForm}
+use Rattle.catalog_frames.specs.Frames as Frames
+use Rattle.catalog_frames.specs.Forms.{headForm, pointForm}
 use Rattle.model_definitions.specs.Definitions.{pointsSize}
 use Rattle.layout.specs.Reading.{endsWithPad}
 use Rattle.definition_frames.specs.declared.frames.PointOr.{PointOr}

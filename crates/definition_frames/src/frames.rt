@@ -6,7 +6,7 @@ use catalog::read_frame;
 ghost use mathlib.Core.Path.{_≡_};
 ghost use Prim.Native.Nat.{_+_, _/_, _≤_};
 ghost use lib.ListN.{length};
-ghost use Rattle.catalog.specs.Frames.{frameIn};
+ghost use Rattle.catalog_frames.specs.Frames.{frameIn};
 ghost use Rattle.layout.specs.Walks.{pointOf, headOf, openBehind, onward, framesOfGroup};
 ghost use Rattle.definition_frames.specs.Answers.{pointOrForm, groupOrForm};
 

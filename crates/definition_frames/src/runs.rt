@@ -6,7 +6,7 @@ use crate::frames::point_at;
 use catalog::PAD;
 ghost use mathlib.Core.Path.{_≡_};
 ghost use lib.ListN.{take};
-ghost use Rattle.catalog.specs.Frames.{frameIn};
+ghost use Rattle.catalog_frames.specs.Frames.{frameIn};
 ghost use Rattle.catalog.specs.Rules.{run};
 ghost use Rattle.layout.specs.Walks.{headOf, onward};
 ghost use Rattle.definition_frames.specs.Answers.{lacksPad, runForm, runOf};

@@ -9,7 +9,7 @@ use Rattle.lists.specs.Each.{Each}
 use Rattle.lists.specs.Members.{In}
 use Rattle.lists.proofs.EachLaws.{each-parts}
 use Rattle.lists.proofs.InLaws.{all-in}
-use Rattle.catalog.specs.Frames.{Point, Head}
+use Rattle.catalog_frames.specs.Frames.{Point, Head}
 use Rattle.model_definitions.specs.Definitions.{Groups, Definition, pointsSize}
 use Rattle.model_definitions.specs.Soundness.{SoundDefinition}
 use Rattle.model_definitions.proofs.GroupSizes.{point-size}

@@ -7,7 +7,7 @@ use Prim.Native.Nat.{ℕ, suc, _+_}
 use borrow.Author.Tests.{eqb-true}
 use lib.Dec.{eqb}
 use Rattle.lists.specs.Members.{In}
-use Rattle.catalog.specs.Frames.{Point, Head, constantCount, countByPoint, fill}
+use Rattle.catalog_frames.specs.Frames.{Point, Head, constantCount, countByPoint, fill}
 use Rattle.model_definitions.specs.Definitions.{Groups, noGroup, group}
 use Rattle.model_definitions.specs.Soundness.{SoundHead, SoundGroups}
 use Rattle.model_definitions.proofs.References.{count-point-found}

@@ -10,7 +10,7 @@ use lib.ListN.{length, drop, getD, set}
 use lib.Seq.{getD-set-other}
 use Rattle.lists.specs.Members.{among, Distinct}
 use Rattle.lists.proofs.TestOutcomes.{clash, both}
-use Rattle.catalog.specs.Frames.{Point, Head}
+use Rattle.catalog_frames.specs.Frames.{Point, Head}
 use Rattle.model_definitions.specs.Definitions.{Groups, noGroup, group, pointFrames, groupFrames}
 use Rattle.model_definitions.specs.Soundness.{numbersOf}
 use Rattle.model_definitions.proofs.GroupNumbers.{Apart, apart, NoneOf, none-of-parts}

@@ -7,11 +7,11 @@ use native.Mathlib.Decide.{decLe}
 use native.Mathlib.Omega.{arith}
 use lib.ListN.{length}
 use Rattle.lists.proofs.TestOutcomes.{impossible}
-use Rattle.catalog.specs.Frames.{Point, Frame, modelFrame, groupFrame, pointFrame, endFrame, malformed, frameIn}
+use Rattle.catalog_frames.specs.Frames.{Point, Frame, modelFrame, groupFrame, pointFrame, endFrame, malformed, frameIn}
 use Rattle.catalog.specs.Rules.{run}
 use Rattle.model_definitions.specs.Definitions.{groupFrames}
 use Rattle.model_definitions.proofs.TreeFrames.{run-points, run-groups}
-use Rattle.catalog.proofs.FramesByIndex.{frame-beyond}
+use Rattle.catalog_frames.proofs.FramesByIndex.{frame-beyond}
 use Rattle.layout.specs.Walks.{onward, heldAt, Stands, pointOf, noted, begun, begunAt}
 use Rattle.layout.proofs.Standing.{onward-more, onward-none}
 

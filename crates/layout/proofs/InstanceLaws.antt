@@ -7,7 +7,7 @@ use native.Mathlib.Omega.{arith}
 use Rattle.lists.specs.Each.{Each, Pairwise}
 use Rattle.lists.proofs.EachLaws.{each-append, each-parts}
 use Rattle.lists.proofs.PairwiseLaws.{pairwise-append}
-use Rattle.catalog.specs.Frames.{Point, Head}
+use Rattle.catalog_frames.specs.Frames.{Point, Head}
 use Rattle.model_definitions.specs.Definitions.{Groups, noGroup, group, pointsSize}
 use Rattle.layout.specs.Points.{ModelPoint, Instance}
 use Rattle.layout.specs.Layout.{measured, groupsSize, pointsAt, instances, Entering, groupsBy}

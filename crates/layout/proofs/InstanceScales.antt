@@ -4,7 +4,7 @@ use mathlib.Core.List.{[], _∷_, map}
 use Rattle.registers.specs.Registers.{join, shownRaw, tooWide}
 use Rattle.point_types.specs.Rows.{rows, rowAmong}
 use Rattle.values.specs.Classes.{twosComplement, integer, inRange, classOf, classified}
-use Rattle.catalog.specs.Frames.{Point, Head, constantCount, noScale, scaleByPoint, sunssf, uint16, readOnly}
+use Rattle.catalog_frames.specs.Frames.{Point, Head, constantCount, noScale, scaleByPoint, sunssf, uint16, readOnly}
 use Rattle.model_definitions.specs.Definitions.{noGroup, group, Content}
 use Rattle.layout.specs.Points.{pointAt}
 use Rattle.layout.specs.Layout.{within, measured, fillMeasured, fillOf, pointsAt, instances, groupsBy, entered, contentAt}

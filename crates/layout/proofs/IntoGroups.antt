@@ -8,7 +8,7 @@ use native.Mathlib.Omega.{arith}
 use lib.ListN.{length}
 use Rattle.lists.specs.Members.{among, Distinct, In}
 use Rattle.lists.proofs.InLaws.{in-behind, in-either}
-use Rattle.catalog.specs.Frames.{Point, Head, frameIn}
+use Rattle.catalog_frames.specs.Frames.{Point, Head, frameIn}
 use Rattle.model_definitions.specs.Definitions.{Groups, noGroup, group, Definition, groupFrames, definitions}
 use Rattle.model_definitions.specs.Soundness.{numbersOf, SoundGroups, SoundDefinition}
 use Rattle.model_definitions.proofs.GroupNumbers.{point-among, apart, none-of-parts}

@@ -5,8 +5,8 @@ use mathlib.Core.List.{List, [], _∷_, _++_}
 use Prim.Native.Nat.{ℕ, suc, _+_, _-_}
 use Rattle.lists.specs.Each.{Each}
 use Rattle.lists.proofs.EachLaws.{each-implied, each-append, each-parts}
-use Rattle.catalog.specs.Frames.{Point, Head}
-use Rattle.catalog.specs.Rules.{isSizeOf}
+use Rattle.catalog_frames.specs.Frames.{Point, Head}
+use Rattle.frame_rules.specs.FrameTests.{isSizeOf}
 use Rattle.model_definitions.specs.Definitions.{Groups, noGroup, group, Definition, pointsSize}
 use Rattle.model_definitions.specs.Soundness.{SoundPoint, SoundGroups, SoundDefinition}
 use Rattle.layout.specs.Points.{ModelPoint, Instance, pointAt}

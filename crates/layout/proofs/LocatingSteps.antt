@@ -5,7 +5,7 @@ use mathlib.Core.Option.{Option, none, some}
 use Prim.Native.Nat.{ℕ, suc, _+_, _*_, _-_, _≤_, _<_}
 use borrow.Author.Tests.{eq-eqb, ne-eqb, lt-ltb, le-ltb}
 use lib.ListN.{getD}
-use Rattle.catalog.specs.Frames.{Point, Head}
+use Rattle.catalog_frames.specs.Frames.{Point, Head}
 use Rattle.model_definitions.specs.Definitions.{Groups, noGroup, group, pointsSize}
 use Rattle.layout.specs.Layout.{groupsSize}
 use Rattle.layout.specs.Locating.{Located, orElse, locatedAmong, locatedOwn, locatedIn}

@@ -8,9 +8,9 @@ use native.Mathlib.Numerals.{add-one}
 use native.Mathlib.Omega.{arith}
 use lib.ListN.{length}
 use Rattle.lists.proofs.TestOutcomes.{clash}
-use Rattle.catalog.specs.Frames.{Frame, modelFrame, groupFrame, pointFrame, endFrame, malformed, frameIn}
+use Rattle.catalog_frames.specs.Frames.{Frame, modelFrame, groupFrame, pointFrame, endFrame, malformed, frameIn}
 use Rattle.model_definitions.specs.Definitions.{Content, Definition, catalogFrames, parsed, inner, definitions}
-use Rattle.catalog.proofs.FramesByIndex.{frame-beyond}
+use Rattle.catalog_frames.proofs.FramesByIndex.{frame-beyond}
 use Rattle.model_definitions.proofs.TreeFrames.{definition-frames}
 use Rattle.model_definitions.proofs.ModelFrames.{restFrames, frames-of-definitions}
 use Rattle.layout.specs.Reading.{topOf}

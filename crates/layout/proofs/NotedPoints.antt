@@ -12,8 +12,8 @@ use Rattle.lists.specs.Each.{Each}
 use Rattle.lists.proofs.TestOutcomes.{by-test}
 use Rattle.lists.proofs.EachLaws.{each-drop}
 use Rattle.registers.specs.Registers.{allZero}
-use Rattle.catalog.specs.Frames.{Point, Frame, modelFrame, groupFrame, pointFrame, endFrame, malformed, frameOf, word, frameAt, framesFrom, frames}
-use Rattle.catalog.specs.Rules.{isSizeOf}
+use Rattle.catalog_frames.specs.Frames.{Point, Frame, modelFrame, groupFrame, pointFrame, endFrame, malformed, frameOf, word, frameAt, framesFrom, frames}
+use Rattle.frame_rules.specs.FrameTests.{isSizeOf}
 use Rattle.model_definitions.specs.Definitions.{pointsSize, pointFrames, groupFrames}
 use Rattle.model_definitions.proofs.GroupSizes.{type-size}
 use Rattle.layout.specs.Points.{Scope}

@@ -5,7 +5,7 @@ use mathlib.Core.List.{List, [], _∷_, _++_, append-assoc, append-nil}
 use borrow.Author.Tests.{eq-eqb}
 use Rattle.lists.specs.Members.{among, Distinct, In, first, later}
 use Rattle.lists.proofs.TestOutcomes.{clash}
-use Rattle.catalog.specs.Frames.{Point, Frame, modelFrame, groupFrame, pointFrame, endFrame, malformed}
+use Rattle.catalog_frames.specs.Frames.{Point, Frame, modelFrame, groupFrame, pointFrame, endFrame, malformed}
 use Rattle.model_definitions.specs.Definitions.{Groups, noGroup, group, Definition, pointFrames, groupFrames, definitionFrames}
 use Rattle.model_definitions.specs.Soundness.{SoundDefinition, numbersOf}
 use Rattle.model_definitions.proofs.GroupNumbers.{among-later}

@@ -5,7 +5,7 @@ use mathlib.Core.List.{List, [], _∷_, _++_}
 use Prim.Native.Nat.{ℕ, zero, suc, _+_, _-_, _/_, _≤_, _<_}
 use native.Mathlib.Omega.{arith}
 use lib.ListN.{length, length-append}
-use Rattle.catalog.specs.Frames.{Point, Frame, modelFrame, groupFrame, pointFrame, endFrame, malformed, frameIn}
+use Rattle.catalog_frames.specs.Frames.{Point, Frame, modelFrame, groupFrame, pointFrame, endFrame, malformed, frameIn}
 use Rattle.model_definitions.specs.Definitions.{Groups, noGroup, group, Content, pointFrames, groupFrames}
 use Rattle.model_definitions.proofs.ModelFrames.{restFrames}
 use Rattle.layout.specs.Walks.{onward, heldAt, Stands, pastEnd, openBehind, framesToEnd, framesOfGroup, isModelOf}

@@ -14,7 +14,7 @@ use Rattle.lists.proofs.TestOutcomes.{clash}
 use Rattle.lists.proofs.EachLaws.{each-implied, each-append}
 use Rattle.lists.proofs.InLaws.{in-front, in-behind}
 use Rattle.registers.specs.Registers.{shownRaw}
-use Rattle.catalog.specs.Frames.{Point, Head}
+use Rattle.catalog_frames.specs.Frames.{Point, Head}
 use Rattle.model_definitions.specs.Definitions.{Groups, noGroup, group, pointsSize, pointFrames, groupFrames}
 use Rattle.model_definitions.specs.Soundness.{SoundGroups, numbersOf}
 use Rattle.model_definitions.proofs.GroupNumbers.{point-among, Apart, apart}

@@ -13,7 +13,7 @@ use Rattle.lists.proofs.TestOutcomes.{by-same-test}
 use Rattle.lists.proofs.TestLaws.{neither}
 use Rattle.lists.proofs.EachLaws.{each-implied, each-append, each-one, each-any}
 use Rattle.lists.proofs.InLaws.{in-front, in-behind, all-in}
-use Rattle.catalog.specs.Frames.{Point, Head}
+use Rattle.catalog_frames.specs.Frames.{Point, Head}
 use Rattle.model_definitions.specs.Definitions.{noGroup, Content, Definition, pointsSize, pointFrames}
 use Rattle.model_definitions.specs.Soundness.{SoundDefinition, numbersOf}
 use Rattle.model_definitions.proofs.GroupNumbers.{point-among, Apart, apart}

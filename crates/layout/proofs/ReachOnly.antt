@@ -13,7 +13,7 @@ use Rattle.lists.proofs.TestOutcomes.{clash}
 use Rattle.lists.proofs.InLaws.{in-either}
 use Rattle.registers.specs.Registers.{join, shownRaw}
 use Rattle.values.specs.Classes.{value, unimplemented, outOfRange, Classified, ofClass, tooWide, unknownType, classified}
-use Rattle.catalog.specs.Frames.{Point, Head, fixedScale, scaleByPoint, sunssf}
+use Rattle.catalog_frames.specs.Frames.{Point, Head, fixedScale, scaleByPoint, sunssf}
 use Rattle.model_definitions.specs.Definitions.{Groups, noGroup, group, pointsSize, pointFrames}
 use Rattle.model_definitions.specs.Soundness.{numbersOf, SoundGroups, ScaleResolves}
 use Rattle.model_definitions.proofs.References.{points-resolve}

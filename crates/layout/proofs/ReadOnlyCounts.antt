@@ -8,7 +8,7 @@ use borrow.Author.Tests.{eqb-true}
 use lib.Dec.{eqb, leb}
 use lib.ListN.{length}
 use Rattle.lists.specs.Members.{In, first, later}
-use Rattle.catalog.specs.Frames.{Point, uint16, readOnly}
+use Rattle.catalog_frames.specs.Frames.{Point, uint16, readOnly}
 use Rattle.catalog.specs.Rules.{hasCountPoint}
 use Rattle.model_definitions.specs.Definitions.{Groups, noGroup, group, Content, pointsSize}
 use Rattle.model_definitions.specs.Soundness.{SoundGroups}

@@ -10,7 +10,7 @@ use lib.ListN.{length}
 use Rattle.lists.specs.Each.{Each}
 use Rattle.lists.specs.Members.{In, first, later}
 use Rattle.lists.proofs.TestOutcomes.{impossible, by-test}
-use Rattle.catalog.specs.Frames.{Point, sunssf, pad}
+use Rattle.catalog_frames.specs.Frames.{Point, sunssf, pad}
 use Rattle.model_definitions.specs.Definitions.{Content, pointsSize}
 use Rattle.model_definitions.specs.Soundness.{ScaleResolves}
 use Rattle.layout.specs.Points.{ModelPoint}

@@ -13,8 +13,8 @@ use lib.ListN.{length}
 use Rattle.lists.specs.Each.{Each}
 use Rattle.lists.proofs.TestOutcomes.{impossible, both}
 use Rattle.lists.proofs.EachLaws.{each-implied}
-use Rattle.catalog.specs.Frames.{Point, Head, constantCount, countByPoint, fill}
-use Rattle.catalog.specs.Rules.{isSizeOf}
+use Rattle.catalog_frames.specs.Frames.{Point, Head, constantCount, countByPoint, fill}
+use Rattle.frame_rules.specs.FrameTests.{isSizeOf}
 use Rattle.catalog.specs.Checking.{accepted, checked}
 use Rattle.model_definitions.specs.Definitions.{Groups, noGroup, group, Content, Definition, definitions, pointsSize}
 use Rattle.model_definitions.specs.Soundness.{SoundPoint, SoundGroups}

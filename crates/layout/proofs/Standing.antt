@@ -8,7 +8,7 @@ use native.Mathlib.Omega.{arith}
 use lib.ListN.{length, drop, getD, length-drop, drop-of-length-le}
 use lib.Seq.{drop-cons, getD-drop, drop-drop, drop-append-seam}
 use Rattle.lists.proofs.TestOutcomes.{impossible}
-use Rattle.catalog.specs.Frames.{Point, Head, Frame, groupFrame, pointFrame, endFrame, malformed, framesFrom, frames, frameIn}
+use Rattle.catalog_frames.specs.Frames.{Point, Head, Frame, groupFrame, pointFrame, endFrame, malformed, framesFrom, frames, frameIn}
 use Rattle.model_definitions.specs.Definitions.{Groups, noGroup, group, pointFrames, groupFrames, parsed, inner}
 use Rattle.model_definitions.proofs.TreeFrames.{contentFrames, group-frames}
 use Rattle.model_definitions.proofs.DefinitionsBack.{points-read, groups-read}

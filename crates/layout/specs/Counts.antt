@@ -2,7 +2,7 @@
 use mathlib.Core.Option.{Option, none, some}
 use Prim.Native.Nat.{ℕ}
 use lib.ListN.{length}
-use Rattle.catalog.specs.Frames.{Head}
+use Rattle.catalog_frames.specs.Frames.{Head}
 use Rattle.model_definitions.specs.Definitions.{Groups}
 use Rattle.layout.specs.Layout.{measured, fillMeasured}
 

@@ -5,7 +5,7 @@ use mathlib.Core.Option.{Option, none, some}
 use Prim.Native.Nat.{ℕ, zero, suc, _+_, _*_, _-_, _/_, _%_}
 use lib.Dec.{eqb, leb}
 use lib.ListN.{length, getD, set}
-use Rattle.catalog.specs.Frames.{Point, Head, constantCount, countByPoint, fill}
+use Rattle.catalog_frames.specs.Frames.{Point, Head, constantCount, countByPoint, fill}
 use Rattle.model_definitions.specs.Definitions.{Groups, noGroup, group, Content, pointsSize}
 use Rattle.layout.specs.Points.{ModelPoint, Scope, Instance, pointAt}
 

@@ -7,7 +7,7 @@ use lib.Dec.{eqb, ltb}
 use lib.ListN.{getD, drop}
 use Rattle.lists.specs.Tests.{firstWith}
 use Rattle.registers.specs.Registers.{allZero}
-use Rattle.catalog.specs.Frames.{Point, Head}
+use Rattle.catalog_frames.specs.Frames.{Point, Head}
 use Rattle.model_definitions.specs.Definitions.{Groups, noGroup, group, Content, pointsSize}
 use Rattle.layout.specs.Points.{ModelPoint}
 use Rattle.layout.specs.Layout.{groupsSize}

@@ -6,7 +6,7 @@ use lib.Dec.{eqb}
 use lib.ListN.{take, drop, getD}
 use Rattle.registers.specs.Registers.{join, shownRaw}
 use Rattle.values.specs.Classes.{value, unimplemented, outOfRange, Classified, ofClass, tooWide, unknownType, classified}
-use Rattle.catalog.specs.Frames.{Point, fixedScale, scaleByPoint, sunssf}
+use Rattle.catalog_frames.specs.Frames.{Point, fixedScale, scaleByPoint, sunssf}
 
 -- A point of a model: where it lies behind the length register, the point of the catalog that it is by, its instance numbers at
 -- levels 2, 3 and 4 (0 where absent), its status, raw value and scale.

@@ -5,7 +5,7 @@ use mathlib.Core.Option.{Option, none, some}
 use Prim.Native.Nat.{ℕ, _+_}
 use lib.Dec.{eqb, ltb}
 use lib.ListN.{length}
-use Rattle.catalog.specs.Frames.{Point, pad}
+use Rattle.catalog_frames.specs.Frames.{Point, pad}
 use Rattle.model_definitions.specs.Definitions.{Groups, noGroup, group, Content, Definition, pointsSize}
 use Rattle.register_map.specs.Scan.{Model}
 use Rattle.layout.specs.Points.{ModelPoint}

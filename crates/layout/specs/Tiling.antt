@@ -4,7 +4,7 @@ use mathlib.Core.List.{List, [], _∷_, _++_}
 use Prim.Native.Nat.{ℕ, _+_, _≤_}
 use Rattle.lists.specs.Each.{Each}
 use Rattle.lists.specs.Members.{In}
-use Rattle.catalog.specs.Frames.{Point}
+use Rattle.catalog_frames.specs.Frames.{Point}
 use Rattle.model_definitions.specs.Definitions.{Groups, noGroup, group, Definition}
 use Rattle.layout.specs.Points.{ModelPoint}
 

@@ -7,7 +7,7 @@ use Prim.Native.Nat.{ℕ, zero, suc, _+_, _-_, _/_, _≤_}
 use lib.Dec.{eqb, ltb}
 use lib.ListN.{length, drop, getD, set}
 use Rattle.lists.specs.Members.{among, Distinct, In}
-use Rattle.catalog.specs.Frames.{Point, Head, Frame, modelFrame, groupFrame, pointFrame, endFrame, malformed, frames}
+use Rattle.catalog_frames.specs.Frames.{Point, Head, Frame, modelFrame, groupFrame, pointFrame, endFrame, malformed, frames}
 use Rattle.catalog.specs.Checking as Checking
 use Rattle.model_definitions.specs.Definitions.{Content, pointFrames, groupFrames, parsed, inner, definitions}
 use Rattle.model_definitions.specs.Soundness.{numbersOf, SoundGroups}

@@ -11,7 +11,7 @@ use lib.Dec.{eqb, leb, ltb}
 use lib.ListN.{length, drop}
 use Rattle.lists.specs.Tests.{firstBroken}
 use Rattle.lists.proofs.TestOutcomes.{impossible, by-test, both}
-use Rattle.catalog.specs.Frames.{Frame, frames}
+use Rattle.catalog_frames.specs.Frames.{Frame, frames}
 use Rattle.catalog.specs.State.{State, start, next}
 use Rattle.catalog.specs.Rules.{noModel, rules, run, fault}
 use Rattle.catalog.specs.Checking.{Verdict, refused, checkFrom, checked}

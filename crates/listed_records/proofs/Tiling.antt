@@ -6,7 +6,7 @@ use mathlib.Core.List.{List, [], _∷_, _++_}
 use Prim.Native.Nat.{ℕ, _+_}
 use lib.ListN.{length}
 use Rattle.lists.specs.Members.{among, In}
-use Rattle.catalog.specs.Frames.{frames}
+use Rattle.catalog_frames.specs.Frames.{frames}
 use Rattle.catalog.specs.Checking.{accepted, checked}
 use Rattle.model_definitions.specs.Definitions.{Definition, definitions, modelIds}
 use Rattle.model_definitions.proofs.ModelIds.{ids-of-model-frames}

@@ -6,8 +6,8 @@ use lib.ListN.{length, replicate}
 use Rattle.registers.specs.Registers.{join, shownRaw, tooWide}
 use Rattle.point_types.specs.Rows.{rows, rowAmong, mayScale, registersOf}
 use Rattle.values.specs.Classes.{twosComplement, integer, inRange, classOf, classified}
-use Rattle.catalog.specs.Frames.{frameOf, framesFrom}
-use Rattle.catalog.specs.Rules.{isSizeOf}
+use Rattle.catalog_frames.specs.Frames.{frameOf, framesFrom}
+use Rattle.frame_rules.specs.FrameTests.{isSizeOf}
 use Rattle.catalog.specs.Checking.{checkFrom, checked}
 use Rattle.model_definitions.specs.Definitions.{parsed}
 use Rattle.register_map.specs.Headers.{opening}

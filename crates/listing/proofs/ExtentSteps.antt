@@ -9,7 +9,7 @@ use borrow.Author.Tests.{eqb-true}
 use lib.Dec.{eqb}
 use lib.ListN.{length}
 use Rattle.lists.proofs.TestOutcomes.{impossible, clash}
-use Rattle.catalog.specs.Frames.{Point, Head, countByPoint, fill}
+use Rattle.catalog_frames.specs.Frames.{Point, Head, countByPoint, fill}
 use Rattle.model_definitions.specs.Definitions.{Groups, noGroup, group, pointsSize}
 use Rattle.layout.specs.Points.{Scope}
 use Rattle.layout.specs.Layout.{countOf, measured, fillMeasured, groupsSize, fillSize, countUnimplemented}

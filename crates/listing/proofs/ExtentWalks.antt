@@ -5,7 +5,7 @@ use mathlib.Core.Option.{none, some}
 use Prim.Native.Nat.{ℕ, _+_, _≤_, _<_}
 use native.Mathlib.Omega.{arith}
 use lib.ListN.{length, length-append}
-use Rattle.catalog.specs.Frames.{Point, Head, endFrame, fill, frameIn}
+use Rattle.catalog_frames.specs.Frames.{Point, Head, endFrame, fill, frameIn}
 use Rattle.model_definitions.specs.Definitions.{Groups, noGroup, group, pointsSize, pointFrames, groupFrames}
 use Rattle.layout.specs.Points.{Scope}
 use Rattle.layout.specs.Walks.{heldAt, pastEnd, headOf, AtGroups}

@@ -9,7 +9,7 @@ use lib.Dec.{eqb}
 use lib.ListN.{length, getD, set, length-append}
 use Rattle.lists.specs.Members.{among, In}
 use Rattle.lists.proofs.TestLaws.{neither}
-use Rattle.catalog.specs.Frames.{Point, Head}
+use Rattle.catalog_frames.specs.Frames.{Point, Head}
 use Rattle.model_definitions.specs.Definitions.{Groups, noGroup, group, pointsSize, pointFrames, groupFrames}
 use Rattle.model_definitions.specs.Soundness.{numbersOf}
 use Rattle.model_definitions.proofs.References.{points-resolve}

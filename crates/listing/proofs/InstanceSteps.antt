@@ -5,7 +5,7 @@ use mathlib.Core.Option.{none, some}
 use Prim.Native.Nat.{ℕ, suc, _+_, _-_, _≤_, _<_}
 use native.Mathlib.Omega.{arith}
 use lib.ListN.{length, getD, set, length-set}
-use Rattle.catalog.specs.Frames.{Point, Head, frameIn}
+use Rattle.catalog_frames.specs.Frames.{Point, Head, frameIn}
 use Rattle.model_definitions.specs.Definitions.{Groups, group, pointsSize, groupFrames}
 use Rattle.model_definitions.specs.Soundness.{numbersOf}
 use Rattle.layout.specs.Points.{Scope}

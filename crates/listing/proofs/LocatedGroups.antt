@@ -6,7 +6,7 @@ use Prim.Native.Nat.{ℕ, zero, suc, _+_, _*_, _-_, _≤_, _<_, min}
 use native.Mathlib.Nat.{zero-mul, suc-mul, mul-le-mul-right}
 use native.Mathlib.Omega.{arith}
 use lib.ListN.{getD}
-use Rattle.catalog.specs.Frames.{Point, Head, frameIn}
+use Rattle.catalog_frames.specs.Frames.{Point, Head, frameIn}
 use Rattle.model_definitions.specs.Definitions.{Groups, group, pointsSize}
 use Rattle.layout.specs.Layout.{countOf, measured, groupsSize}
 use Rattle.layout.specs.Walks.{heldAt, Stands, pastEnd, headOf, levelOf, scopeIn, begun, AtGroups}

@@ -10,7 +10,7 @@ use Rattle.lists.specs.Members.{In}
 use Rattle.lists.specs.Tests.{firstWith}
 use Rattle.lists.proofs.TestOutcomes.{clash}
 use Rattle.lists.proofs.FirstFound.{not-none, found-in}
-use Rattle.catalog.specs.Frames.{Point, Head}
+use Rattle.catalog_frames.specs.Frames.{Point, Head}
 use Rattle.model_definitions.specs.Definitions.{Groups, noGroup, group, Content, pointsSize}
 use Rattle.layout.specs.Layout.{countOf, measured, groupsSize, countsOf, noInstance, topInstance}
 use Rattle.layout.specs.Points.{ModelPoint}

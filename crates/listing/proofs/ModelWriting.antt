@@ -5,7 +5,7 @@ use Prim.Native.Nat.{ℕ, _+_, _*_, _-_, _≤_, _<_}
 use native.Mathlib.Omega.{arith}
 use lib.ListN.{length, getD}
 use Rattle.lists.specs.Members.{first}
-use Rattle.catalog.specs.Frames.{Point}
+use Rattle.catalog_frames.specs.Frames.{Point}
 use Rattle.model_definitions.specs.Definitions.{Groups, Content, pointsSize, definitions}
 use Rattle.model_definitions.specs.Soundness.{ScaleResolves}
 use Rattle.layout.specs.Layout.{countOf, groupsSize, countsOf, pointsAt, groupsAt, noInstance, topInstance, contentAt}

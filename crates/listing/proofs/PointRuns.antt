@@ -9,8 +9,8 @@ use lib.ListN.{length, getD}
 use Rattle.lists.specs.Each.{Each}
 use Rattle.registers.specs.Registers.{join}
 use Rattle.values.specs.Classes.{classified}
-use Rattle.catalog.specs.Frames.{Point, frameIn}
-use Rattle.catalog.specs.Rules.{isSizeOf}
+use Rattle.catalog_frames.specs.Frames.{Point, frameIn}
+use Rattle.frame_rules.specs.FrameTests.{isSizeOf}
 use Rattle.model_definitions.specs.Definitions.{pointsSize}
 use Rattle.layout.specs.Points.{ModelPoint, registersAt, pointAt}
 use Rattle.layout.specs.Layout.{pointsAt}

@@ -10,7 +10,7 @@ use lib.Dec.{ltb}
 use lib.ListN.{length, getD}
 use Rattle.lists.specs.Each.{Each}
 use Rattle.lists.specs.Members.{first}
-use Rattle.catalog.specs.Frames.{Point}
+use Rattle.catalog_frames.specs.Frames.{Point}
 use Rattle.model_definitions.specs.Definitions.{Content, pointsSize, definitions}
 use Rattle.model_definitions.specs.Soundness.{SoundPoint, SoundGroups, ScaleResolves}
 use Rattle.model_definitions.proofs.References.{points-resolve}

@@ -13,7 +13,7 @@ use lib.Dec.{eqb, leb, ltb}
 use lib.ListN.{length}
 use Rattle.lists.specs.Members.{In}
 use Rattle.lists.proofs.TestOutcomes.{by-test}
-use Rattle.catalog.specs.Frames.{Point, Head, fill}
+use Rattle.catalog_frames.specs.Frames.{Point, Head, fill}
 use Rattle.model_definitions.specs.Definitions.{Groups, noGroup, group, Content, pointsSize}
 use Rattle.model_definitions.specs.Soundness.{SoundGroups}
 use Rattle.layout.specs.Points.{Scope}

@@ -5,7 +5,7 @@ use mathlib.Core.Option.{none, some}
 use Prim.Native.Nat.{ℕ}
 use lib.Dec.{eqb}
 use Rattle.lists.specs.Tests.{firstWith}
-use Rattle.catalog.specs.Frames.{Point}
+use Rattle.catalog_frames.specs.Frames.{Point}
 use Rattle.layout.specs.Paths.{isPoint}
 use Rattle.listing.specs.Listing.{Record, allRecords}
 use Rattle.listing.specs.Listing as Listing

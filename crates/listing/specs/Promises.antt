@@ -9,8 +9,8 @@ use lib.ListN.{length, take, drop}
 use lib.Seq.{sets}
 use Rattle.lists.specs.Each.{Each}
 use Rattle.registers.specs.Registers.{shownRaw}
-use Rattle.catalog.specs.Frames as Frames
-use Rattle.catalog.specs.Rules.{isSizeOf}
+use Rattle.catalog_frames.specs.Frames as Frames
+use Rattle.frame_rules.specs.FrameTests.{isSizeOf}
 use Rattle.model_definitions.specs.Definitions.{Groups, Content, pointsSize}
 use Rattle.layout.specs.Points.{ModelPoint, Scope, registersAt}
 use Rattle.layout.specs.Layout.{countOf, groupsSize, fillSize, countUnimplemented}

@@ -9,7 +9,7 @@ use group_instances::count_of;
 use group_instances::is_unimplemented;
 ghost use mathlib.Core.Path.{_≡_};
 ghost use Prim.Native.Nat.{_+_, _*_, _≤_, min};
-ghost use Rattle.catalog.specs.Answers.{headForm};
+ghost use Rattle.catalog_frames.specs.Forms.{headForm};
 ghost use Rattle.layout.specs.Walks.{heldAt, pastEnd, scopeIn, IsTable, AtGroups};
 ghost use Rattle.listing.specs.Promises.{ExtentOf, SameExtent, WithGroup};
 

@@ -2,7 +2,7 @@
 use catalog::Frame;
 use catalog::read_frame;
 ghost use mathlib.Core.Path.{_≡_};
-ghost use Rattle.catalog.specs.Frames.{frameIn};
+ghost use Rattle.catalog_frames.specs.Frames.{frameIn};
 ghost use Rattle.model_definitions.specs.Definitions.{definitions};
 ghost use Rattle.layout.specs.Reading.{topOf};
 ghost use Rattle.layout.specs.Walks.{Accepted, isModelOf};

@@ -20,7 +20,7 @@ ghost use lib.ListN.{length, set};
 ghost use lib.Seq.{sets};
 ghost use Rattle.model_definitions.specs.Definitions.{groupFrames};
 ghost use Rattle.model_definitions.specs.Soundness as Soundness;
-ghost use Rattle.catalog.specs.Answers.{pointForm};
+ghost use Rattle.catalog_frames.specs.Forms.{pointForm};
 ghost use Rattle.layout.specs.Points.{pointAt};
 ghost use Rattle.layout.specs.Layout.{within, countOf, pointsAt, groupsAt};
 ghost use Rattle.layout.specs.Walks.{heldAt, Accepted, levelOf, scopeIn, instanceIn, noted, IsTable, Elsewhere, pointsOf, HasPoints, Ready, readIn, begunAt};

@@ -23,7 +23,7 @@ ghost use Prim.Native.Nat.{_≤_};
 ghost use lib.ListN.{length};
 ghost use Rattle.lists.specs.Tests.{firstWith};
 ghost use Rattle.model_definitions.specs.Definitions.{definitions};
-ghost use Rattle.catalog.specs.Answers.{pointForm};
+ghost use Rattle.catalog_frames.specs.Forms.{pointForm};
 ghost use Rattle.register_map.specs.Headers.{opening};
 ghost use Rattle.layout.specs.Paths.{isPoint};
 ghost use Rattle.layout.specs.Reading.{reading};

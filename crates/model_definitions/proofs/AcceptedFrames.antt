@@ -11,7 +11,7 @@ use Rattle.lists.specs.Each.{Each}
 use Rattle.lists.specs.Members.{among}
 use Rattle.lists.proofs.TestOutcomes.{clash}
 use Rattle.lists.proofs.TestLaws.{none-broken}
-use Rattle.catalog.specs.Frames.{Frame, modelFrame, groupFrame, pointFrame, endFrame, malformed, fill}
+use Rattle.catalog_frames.specs.Frames.{Frame, modelFrame, groupFrame, pointFrame, endFrame, malformed, fill}
 use Rattle.catalog.specs.State.{OpenGroup, State, opened, withPoint, withGroup, closed, next}
 use Rattle.catalog.specs.Rules.{noModel, inTop, afterGroup, run, inReach, lacksContent, rules}
 use Rattle.catalog.specs.Checking.{accepted, checkFrom}

@@ -10,7 +10,7 @@ use borrow.Author.Tests.{eqb-true, eqb-false, ltb-true, ltb-false}
 use lib.Dec.{eqb, ltb}
 use lib.ListN.{length}
 use Rattle.lists.proofs.TestOutcomes.{impossible, clash, by-test}
-use Rattle.catalog.specs.Frames.{Frame, frames}
+use Rattle.catalog_frames.specs.Frames.{Frame, frames}
 use Rattle.catalog.specs.State.{State, start, next}
 use Rattle.catalog.specs.Rules.{noModel, run, fault}
 use Rattle.catalog.specs.Checking.{Verdict, accepted, refused, checkFrom, checked}

@@ -1,7 +1,7 @@
 -- Reading the frames of definitions gives the definitions.
 use mathlib.Core.Path.{_≡_, refl, ap, _∙_}
 use mathlib.Core.List.{List, [], _∷_, _++_}
-use Rattle.catalog.specs.Frames.{Point, Frame, pointFrame, endFrame, wordsOfAll}
+use Rattle.catalog_frames.specs.Frames.{Point, Frame, pointFrame, endFrame, wordsOfAll}
 use Rattle.model_definitions.specs.Definitions.{Groups, noGroup, group, Definition, pointFrames, groupFrames, definitionFrames}
 use Rattle.model_definitions.specs.Definitions.{catalogFrames, Parsed, inFront, parsed, definitions}
 use Rattle.catalog.proofs.FrameWords.{frames-words}

@@ -4,7 +4,7 @@ use mathlib.Core.List.{List, [], _∷_, _++_}
 use Prim.Native.Nat.{ℕ, suc, _≤_}
 use lib.ListN.{length}
 use Rattle.lists.specs.Each.{Each}
-use Rattle.catalog.specs.Frames.{Point, Head}
+use Rattle.catalog_frames.specs.Frames.{Point, Head}
 use Rattle.catalog.specs.Checking.{accepted, checked}
 use Rattle.model_definitions.specs.Definitions.{Groups, noGroup, group, Definition, definitions}
 use Rattle.model_definitions.specs.Soundness.{SoundPoint, SoundHead, SoundGroups, SoundDefinition, EachGroup, EachLowerGroup}

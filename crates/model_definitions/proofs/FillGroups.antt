@@ -3,7 +3,7 @@ use mathlib.Core.Path.{_≡_, refl}
 use mathlib.Core.List.{List}
 use Prim.Native.Nat.{ℕ}
 use Rattle.lists.specs.Each.{Each}
-use Rattle.catalog.specs.Frames.{Point, Head}
+use Rattle.catalog_frames.specs.Frames.{Point, Head}
 use Rattle.catalog.specs.Checking.{accepted, checked}
 use Rattle.model_definitions.specs.Definitions.{Groups, definitions}
 use Rattle.model_definitions.specs.Soundness.{EachLowerGroup, FillsLast}

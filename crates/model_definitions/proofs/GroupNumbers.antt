@@ -8,7 +8,7 @@ use lib.Dec.{eqb}
 use Rattle.lists.specs.Members.{among, Distinct, In, first, later}
 use Rattle.lists.proofs.TestOutcomes.{clash}
 use Rattle.lists.proofs.TestLaws.{neither}
-use Rattle.catalog.specs.Frames.{Point, Head, Frame, modelFrame, groupFrame, pointFrame, endFrame, malformed}
+use Rattle.catalog_frames.specs.Frames.{Point, Head, Frame, modelFrame, groupFrame, pointFrame, endFrame, malformed}
 use Rattle.model_definitions.specs.Definitions.{Groups, group, pointFrames, groupFrames}
 use Rattle.model_definitions.specs.Soundness.{numbersOf}
 

@@ -12,8 +12,8 @@ use Rattle.lists.specs.Each.{Each}
 use Rattle.lists.proofs.TestOutcomes.{clash, both}
 use Rattle.point_types.specs.Rows.{TypeRow, rowOf, registersOf}
 use Rattle.point_types.proofs.Table.{one-to-64}
-use Rattle.catalog.specs.Frames.{Point, Head}
-use Rattle.catalog.specs.Rules.{isSizeOf}
+use Rattle.catalog_frames.specs.Frames.{Point, Head}
+use Rattle.frame_rules.specs.FrameTests.{isSizeOf}
 use Rattle.catalog.specs.Checking.{accepted, checked}
 use Rattle.model_definitions.specs.Definitions.{Groups, pointsSize, definitions}
 use Rattle.model_definitions.specs.Soundness.{SoundPoint, EachLowerGroup}

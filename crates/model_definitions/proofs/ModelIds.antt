@@ -7,8 +7,8 @@ use native.Mathlib.Omega.{arith}
 use Rattle.lists.specs.Each.{Each}
 use Rattle.lists.specs.Members.{Distinct}
 use Rattle.registers.specs.Registers.{AreRegisters}
-use Rattle.catalog.specs.Frames.{Frame, modelFrame, groupFrame, pointFrame, endFrame, malformed, frames, wordsOf}
-use Rattle.catalog.specs.Frames.{wordsOfAll}
+use Rattle.catalog_frames.specs.Frames.{Frame, modelFrame, groupFrame, pointFrame, endFrame, malformed, frames, wordsOf}
+use Rattle.catalog_frames.specs.Frames.{wordsOfAll}
 use Rattle.catalog.specs.Checking.{accepted, checked}
 use Rattle.model_definitions.specs.Definitions.{Definition, definitionFrames, catalogFrames, parsed, definitions, modelIds}
 use Rattle.model_definitions.specs.Soundness.{SoundDefinition, idsOf}

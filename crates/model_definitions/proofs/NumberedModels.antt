@@ -10,7 +10,7 @@ use lib.Dec.{eqb}
 use Rattle.lists.specs.Each.{Each}
 use Rattle.lists.specs.Members.{among, Distinct}
 use Rattle.lists.proofs.TestLaws.{neither}
-use Rattle.catalog.specs.Frames.{Point, Frame, modelFrame, groupFrame, pointFrame, endFrame, malformed}
+use Rattle.catalog_frames.specs.Frames.{Point, Frame, modelFrame, groupFrame, pointFrame, endFrame, malformed}
 use Rattle.model_definitions.specs.Definitions.{Groups, noGroup, group, Definition, pointFrames, groupFrames, definitionFrames}
 use Rattle.model_definitions.specs.Soundness.{numbersOf}
 use Rattle.model_definitions.proofs.AcceptedFrames.{Numbered}

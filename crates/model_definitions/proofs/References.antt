@@ -8,7 +8,7 @@ use lib.Dec.{eqb}
 use Rattle.lists.specs.Each.{Each}
 use Rattle.lists.specs.Members.{In, first, later}
 use Rattle.lists.proofs.TestOutcomes.{clash, both}
-use Rattle.catalog.specs.Frames.{Point, Head, uint16, sunssf, readOnly}
+use Rattle.catalog_frames.specs.Frames.{Point, Head, uint16, sunssf, readOnly}
 use Rattle.catalog.specs.Rules.{hasPoint, isScaleFactorPoint, hasScaleFactor, isCountPoint, hasCountPoint}
 use Rattle.catalog.specs.Checking.{accepted, checked}
 use Rattle.model_definitions.specs.Definitions.{Groups, Definition, definitions}

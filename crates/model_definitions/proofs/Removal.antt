@@ -11,7 +11,7 @@ use Rattle.lists.specs.Members.{among, Distinct}
 use Rattle.lists.specs.Tests.{keptBy}
 use Rattle.lists.proofs.TestOutcomes.{clash}
 use Rattle.lists.proofs.TestLaws.{neither}
-use Rattle.catalog.specs.Frames.{Frame, frames, wordsOfAll}
+use Rattle.catalog_frames.specs.Frames.{Frame, frames, wordsOfAll}
 use Rattle.catalog.specs.Checking.{accepted, checked}
 use Rattle.model_definitions.specs.Definitions.{Definition, definitionFrames, catalogFrames, definitions}
 use Rattle.model_definitions.specs.Soundness.{SoundDefinition, SoundCatalog, idsOf}

@@ -13,10 +13,11 @@ use Rattle.lists.proofs.TestOutcomes.{clash}
 use Rattle.lists.proofs.TestLaws.{neither, excludes, clause, none-of}
 use Rattle.point_types.specs.Rows.{mayScale}
 use Rattle.values.specs.Classes.{twosComplement, isScaleFactor}
-use Rattle.catalog.specs.Frames.{Point, Head, pointFrame, noScale, fixedScale, scaleByPoint, constantCount, countByPoint}
-use Rattle.catalog.specs.Frames.{fill}
+use Rattle.catalog_frames.specs.Frames.{Point, Head, pointFrame, noScale, fixedScale, scaleByPoint, constantCount, countByPoint}
+use Rattle.catalog_frames.specs.Frames.{fill}
 use Rattle.catalog.specs.State.{OpenGroup}
-use Rattle.catalog.specs.Rules.{inTop, topPoints, hasScaleFactor, hasCountPoint, isSizeOf, isMistyped, scaleFaults}
+use Rattle.frame_rules.specs.FrameTests.{isSizeOf, isMistyped}
+use Rattle.catalog.specs.Rules.{inTop, topPoints, hasScaleFactor, hasCountPoint, scaleFaults}
 use Rattle.catalog.specs.Rules.{countFaults}
 use Rattle.model_definitions.specs.Definitions.{Groups, noGroup}
 use Rattle.model_definitions.specs.Soundness.{SoundPoint, SoundHead}

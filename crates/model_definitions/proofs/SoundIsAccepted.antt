@@ -6,7 +6,7 @@ use mathlib.Core.Logic.{_↔_}
 use Prim.Native.Nat.{ℕ}
 use native.Mathlib.Omega.{arith}
 use lib.ListN.{length}
-use Rattle.catalog.specs.Frames.{wordsOfAll}
+use Rattle.catalog_frames.specs.Frames.{wordsOfAll}
 use Rattle.catalog.specs.State.{start}
 use Rattle.catalog.specs.Checking.{accepted, checked}
 use Rattle.model_definitions.specs.Definitions.{Definition, catalogFrames, definitions}

@@ -11,7 +11,7 @@ use lib.ListN.{length}
 use Rattle.lists.specs.Each.{Each}
 use Rattle.lists.proofs.TestOutcomes.{impossible, clash, both}
 use Rattle.lists.proofs.TestLaws.{excludes}
-use Rattle.catalog.specs.Frames.{Point, Head, Frame, endFrame, fill}
+use Rattle.catalog_frames.specs.Frames.{Point, Head, Frame, endFrame, fill}
 use Rattle.catalog.specs.State.{OpenGroup, opened}
 use Rattle.catalog.specs.Rules.{noModel, inTop, run, pointsOf, topPoints, noPoint}
 use Rattle.model_definitions.specs.Definitions.{Groups, noGroup, group, Definition, pointFrames, groupFrames, definitionFrames}

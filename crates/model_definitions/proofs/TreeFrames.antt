@@ -1,7 +1,7 @@
 -- The frames of groups and of a model, with further frames behind them.
 use mathlib.Core.Path.{_≡_, refl, ap}
 use mathlib.Core.List.{List, [], _∷_, _++_, append-assoc}
-use Rattle.catalog.specs.Frames.{Point, Head, Frame, modelFrame, groupFrame, endFrame}
+use Rattle.catalog_frames.specs.Frames.{Point, Head, Frame, modelFrame, groupFrame, endFrame}
 use Rattle.catalog.specs.Rules.{run}
 use Rattle.model_definitions.specs.Definitions.{Groups, noGroup, group, Definition, pointFrames, groupFrames, definitionFrames}
 

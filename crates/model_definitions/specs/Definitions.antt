@@ -2,7 +2,7 @@
 -- frame a group in it or further in, and an end frame ends the innermost open one).
 use mathlib.Core.List.{List, [], _∷_, _++_}
 use Prim.Native.Nat.{ℕ, _+_}
-use Rattle.catalog.specs.Frames.{Point, Head, Frame, modelFrame, groupFrame, pointFrame, endFrame, malformed, frames}
+use Rattle.catalog_frames.specs.Frames.{Point, Head, Frame, modelFrame, groupFrame, pointFrame, endFrame, malformed, frames}
 
 -- Groups standing side by side in a group: none, or a first one, by its head, its own points and the groups in it, and then the
 -- groups behind it.

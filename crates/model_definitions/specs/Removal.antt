@@ -4,7 +4,7 @@ use mathlib.Core.Bool.{Bool, true, false}
 use mathlib.Core.List.{List, [], _∷_}
 use Prim.Native.Nat.{ℕ, zero, suc}
 use Rattle.lists.specs.Tests.{keptBy}
-use Rattle.catalog.specs.Frames.{wordsOfAll}
+use Rattle.catalog_frames.specs.Frames.{wordsOfAll}
 use Rattle.model_definitions.specs.Definitions.{catalogFrames, definitions}
 
 -- A catalog with only those of its models that the choice keeps.

@@ -10,9 +10,10 @@ use Rattle.lists.specs.Members.{In, Distinct}
 use Rattle.lists.specs.Each.{Each}
 use Rattle.point_types.specs.Rows.{mayScale}
 use Rattle.values.specs.Classes.{twosComplement, isScaleFactor}
-use Rattle.catalog.specs.Frames.{Point, Head, Frame, modelFrame, groupFrame, pointFrame, endFrame, malformed, noScale}
-use Rattle.catalog.specs.Frames.{fixedScale, scaleByPoint, constantCount, countByPoint, fill, uint16, sunssf, readOnly}
-use Rattle.catalog.specs.Rules.{isSizeOf, hasScaleFactor, hasCountPoint}
+use Rattle.catalog_frames.specs.Frames.{Point, Head, Frame, modelFrame, groupFrame, pointFrame, endFrame, malformed, noScale}
+use Rattle.catalog_frames.specs.Frames.{fixedScale, scaleByPoint, constantCount, countByPoint, fill, uint16, sunssf, readOnly}
+use Rattle.frame_rules.specs.FrameTests.{isSizeOf}
+use Rattle.catalog.specs.Rules.{hasScaleFactor, hasCountPoint}
 use Rattle.model_definitions.specs.Definitions.{Groups, noGroup, group, Definition, definitionFrames, catalogFrames}
 
 -- The numbers of these points and groups, in the order of their frames.

@@ -21,8 +21,8 @@ use Rattle.point_types.specs.Rows.{TypeRow, pattern, whole, rows, rowAmong, row
 use Rattle.point_types.proofs.Table.{no-row-outside, four-registers}
 use Rattle.values.specs.Classes.{Class, value, isUnimplemented, inRange, classOf, Classified, ofClass, classified}
 use Rattle.values.proofs.ClassCases.{in-range, of-class}
-use Rattle.catalog.specs.Frames.{Point}
-use Rattle.catalog.specs.Rules.{isSizeOf}
+use Rattle.catalog_frames.specs.Frames.{Point}
+use Rattle.frame_rules.specs.FrameTests.{isSizeOf}
 use Rattle.layout.specs.Points.{registersAt}
 use Rattle.shown_points.specs.Answers.{registersClass, shownForm, shownBy}
 use Rattle.shown_points.specs.declared.Shown.{Shown}

@@ -4,7 +4,7 @@ use Prim.Native.Nat.{ℕ}
 use native.Mathlib.Omega.{arith}
 use borrow.Author.Tests.{eq-eqb, ne-eqb}
 use Rattle.values.specs.Classes.{value, unimplemented, ofClass, classified}
-use Rattle.catalog.specs.Frames.{Point, fixedScale, scaleByPoint, sunssf}
+use Rattle.catalog_frames.specs.Frames.{Point, fixedScale, scaleByPoint, sunssf}
 use Rattle.layout.specs.Points.{scaleStatus, statusOf, scaleOf}
 
 module _ (p : Point) (register : ℕ) where

@@ -6,7 +6,7 @@ use lib.Dec.{leb}
 use lib.ListN.{length}
 use Rattle.registers.specs.Registers.{join, allZero, shownRaw}
 use Rattle.values.specs.Classes.{Classified, classified}
-use Rattle.catalog.specs.Frames as Frames
+use Rattle.catalog_frames.specs.Frames as Frames
 use Rattle.layout.specs.Points.{statusOf, scaleOf}
 use Rattle.shown_points.specs.declared.Shown.{Shown}
 

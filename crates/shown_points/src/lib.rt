@@ -11,8 +11,8 @@ use values::classify;
 ghost use mathlib.Core.Path.{_≡_};
 ghost use Rattle.values.specs.Classes.{ofClass, classified};
 ghost use Rattle.values.specs.Answers.{classAnswer, classifiedAnswer};
-ghost use Rattle.catalog.specs.Frames.{sunssf};
-ghost use Rattle.catalog.specs.Answers.{pointForm};
+ghost use Rattle.catalog_frames.specs.Frames.{sunssf};
+ghost use Rattle.catalog_frames.specs.Forms.{pointForm};
 ghost use Rattle.layout.specs.Points.{scaleStatus, statusOf, scaleOf};
 ghost use Rattle.shown_points.specs.Answers.{registersClass, shownForm, shownBy};
 

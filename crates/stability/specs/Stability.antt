@@ -8,7 +8,7 @@ use lib.Dec.{eqb, leb}
 use lib.ListN.{length}
 use Rattle.lists.specs.Each.{Each}
 use Rattle.lists.specs.Members.{among}
-use Rattle.catalog.specs.Frames.{frames}
+use Rattle.catalog_frames.specs.Frames.{frames}
 use Rattle.model_definitions.specs.Definitions.{modelIds}
 use Rattle.register_map.specs.Scan.{Model, totalSize, WellFormed}
 use Rattle.register_map.specs.Insertion.{Placed, before, gapsBefore}

@@ -13,7 +13,7 @@ use Rattle.lists.proofs.TestOutcomes.{clash}
 use Rattle.lists.proofs.InLaws.{in-front, in-behind, in-either}
 use Rattle.lists.proofs.EachLaws.{each-parts}
 use Rattle.lists.proofs.PairwiseLaws.{pairwise-append}
-use Rattle.catalog.specs.Frames.{Point, Head}
+use Rattle.catalog_frames.specs.Frames.{Point, Head}
 use Rattle.model_definitions.specs.Definitions.{Groups, noGroup, group, Content, pointsSize, pointFrames}
 use Rattle.model_definitions.specs.Soundness.{numbersOf, SoundPoint, ScaleResolves}
 use Rattle.model_definitions.proofs.GroupSizes.{point-size}

@@ -16,8 +16,8 @@ use Rattle.lists.proofs.InLaws.{in-front, in-behind}
 use Rattle.lists.proofs.PairwiseLaws.{pairwise-append}
 use Rattle.registers.specs.Registers.{split}
 use Rattle.values.specs.Classes.{classified, isUnimplementedClass}
-use Rattle.catalog.specs.Frames.{Point, readOnly}
-use Rattle.catalog.specs.Rules.{isSizeOf}
+use Rattle.catalog_frames.specs.Frames.{Point, readOnly}
+use Rattle.frame_rules.specs.FrameTests.{isSizeOf}
 use Rattle.model_definitions.specs.Definitions.{Definition, pointsSize}
 use Rattle.model_definitions.specs.Soundness.{SoundPoint, SoundDefinition, ScaleResolves}
 use Rattle.model_definitions.proofs.References.{points-resolve}

@@ -17,8 +17,8 @@ use Rattle.registers.proofs.Splitting.{split-length, join-split, one-register}
 use Rattle.registers.proofs.StoredRegisters.{stored-outside, run-stored, first-stored, part-stays}
 use Rattle.point_types.specs.Rows.{mayScale}
 use Rattle.values.specs.Classes.{value, ofClass, classified, isValue, isUnimplementedClass}
-use Rattle.catalog.specs.Frames.{Point, scaleByPoint, sunssf}
-use Rattle.catalog.specs.Rules.{isSizeOf}
+use Rattle.catalog_frames.specs.Frames.{Point, scaleByPoint, sunssf}
+use Rattle.frame_rules.specs.FrameTests.{isSizeOf}
 use Rattle.model_definitions.specs.Definitions.{Content}
 use Rattle.model_definitions.specs.Soundness.{SoundPoint, ScaleResolves}
 use Rattle.layout.specs.Points.{ModelPoint, Scope, Instance, statusOf, scaleOf, registersAt, pointAt}

@@ -5,7 +5,7 @@ use mathlib.Core.Option.{Option, none, some}
 use Prim.Native.Nat.{ℕ}
 use lib.Dec.{eqb, ltb}
 use Rattle.values.specs.Classes.{classified, isUnimplementedClass}
-use Rattle.catalog.specs.Frames.{readOnly}
+use Rattle.catalog_frames.specs.Frames.{readOnly}
 use Rattle.listing.specs.Finding.{Target}
 use Rattle.writing.specs.Writing.{canHold, refusal}
 

@@ -8,8 +8,8 @@ use Rattle.lists.proofs.TestOutcomes.{clash}
 use Rattle.point_types.specs.Rows.{rows, rowAmong, mayScale, registersOf}
 use Rattle.point_types.proofs.Table.{listed, scalable-width}
 use Rattle.values.specs.Classes.{value, unimplemented, outOfRange, Classified, ofClass, tooWide, unknownType, classified, isValue, isUnimplementedClass}
-use Rattle.catalog.specs.Frames.{Point, scaleByPoint, sunssf}
-use Rattle.catalog.specs.Rules.{isSizeOf}
+use Rattle.catalog_frames.specs.Frames.{Point, scaleByPoint, sunssf}
+use Rattle.frame_rules.specs.FrameTests.{isSizeOf}
 use Rattle.layout.specs.Points.{statusOf, scaleStatus}
 use Rattle.layout.proofs.LeftOutPad.{one-register-size}
 use Rattle.shown_points.proofs.PointClasses.{row-of-size}

@@ -9,8 +9,8 @@ use Rattle.lists.specs.Tests.{firstWith}
 use Rattle.registers.specs.Registers.{join, split, shownRaw, tooWide}
 use Rattle.point_types.specs.Rows.{rows, rowAmong, mayScale, registersOf}
 use Rattle.values.specs.Classes.{twosComplement, integer, inRange, classOf, classified}
-use Rattle.catalog.specs.Frames.{frameOf, framesFrom}
-use Rattle.catalog.specs.Rules.{isSizeOf}
+use Rattle.catalog_frames.specs.Frames.{frameOf, framesFrom}
+use Rattle.frame_rules.specs.FrameTests.{isSizeOf}
 use Rattle.catalog.specs.Checking.{checkFrom, checked}
 use Rattle.model_definitions.specs.Definitions.{Content, parsed, definitions}
 use Rattle.register_map.specs.Headers.{opening}

@@ -10,7 +10,7 @@ use lib.Dec.{eqb, ltb}
 use Rattle.lists.specs.Tests.{firstWith}
 use Rattle.lists.proofs.TestOutcomes.{impossible, by-test}
 use Rattle.values.specs.Classes.{classified, isUnimplementedClass}
-use Rattle.catalog.specs.Frames.{readOnly}
+use Rattle.catalog_frames.specs.Frames.{readOnly}
 use Rattle.listing.specs.Listing.{Record, allRecords, withRoom, listing}
 use Rattle.listing.specs.Listing as Listing
 use Rattle.listing.specs.Finding.{isRecord, finding, Target, targetOf}

@@ -6,7 +6,7 @@ use mathlib.Core.Option.{Option, none, some}
 use Prim.Native.Nat.{ℕ}
 use lib.Dec.{eqb}
 use Rattle.values.specs.Classes.{value, ofClass, classified}
-use Rattle.catalog.specs.Frames.{scaleByPoint}
+use Rattle.catalog_frames.specs.Frames.{scaleByPoint}
 use Rattle.model_definitions.specs.Definitions.{Content, Definition}
 use Rattle.layout.specs.Points.{ModelPoint, statusOf, scaleOf}
 use Rattle.layout.specs.Paths.{depthIn, agreeTo, pathOf}

@@ -7,7 +7,7 @@ use lib.Dec.{eqb, ltb}
 use lib.Seq.{sets}
 use Rattle.registers.specs.Registers.{split, tooWide}
 use Rattle.values.specs.Classes.{classified, isValue, isUnimplementedClass}
-use Rattle.catalog.specs.Frames.{Point, readOnly}
+use Rattle.catalog_frames.specs.Frames.{Point, readOnly}
 use Rattle.listing.specs.Finding as Finding
 use Rattle.listing.specs.Finding.{finding, Target, targetOf}
 

@@ -16,7 +16,7 @@ ghost use lib.ListN.{length};
 ghost use lib.Seq.{sets};
 ghost use Rattle.registers.specs.Registers.{split};
 ghost use Rattle.values.specs.Classes.{classified, isUnimplementedClass};
-ghost use Rattle.catalog.specs.Answers.{pointForm};
+ghost use Rattle.catalog_frames.specs.Forms.{pointForm};
 ghost use Rattle.listing.specs.Answers.{targetForm};
 ghost use Rattle.writing.specs.Writing as Writings;
 ghost use Rattle.writing.specs.Answers.{answer};

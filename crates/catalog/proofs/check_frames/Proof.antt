@@ -4,7 +4,7 @@ use Prim.Native.Nat.{_-_, _≤_}
 use native.Mathlib.Omega.{arith}
 use borrow.Author.Tests.{ne-eqb}
 use Rattle.catalog.specs.State.{start}
-use Rattle.catalog.specs.Answers.{faultForm}
+use Rattle.frame_rules.specs.FrameTests.{faultForm}
 use Rattle.catalog.proofs.CheckSteps.{from-first}
 use Rattle.catalog.proofs.CheckedFrame as frame
 use Rattle.catalog.proofs.FreshNumbers.{fresh-start}

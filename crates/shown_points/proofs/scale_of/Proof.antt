@@ -1,7 +1,7 @@
 -- `shown_points::scale_of` meets its contract: the scale shown, by the status and the scale kind.
 use mathlib.Core.Path.{sym}
 use borrow.Author.Needs.{needs}
-use Rattle.catalog.specs.Answers.{pointForm}
+use Rattle.catalog_frames.specs.Forms.{pointForm}
 use Rattle.shown_points.proofs.PointStatus.{no-value, scale-fixed, scale-by-point, no-scale}
 use Rattle.shown_points.proofs.scale_of.Statement.{statement}
 use Rattle.shown_points.proofs.scale_of.Tie as tie

@@ -3,7 +3,7 @@ use mathlib.Core.Path.{ap, _∙_}
 use Prim.Native.Nat.{ℕ}
 use borrow.Author.Needs.{needs}
 use Rattle.values.specs.Classes.{Classified}
-use Rattle.catalog.specs.Answers.{pointForm}
+use Rattle.catalog_frames.specs.Forms.{pointForm}
 use Rattle.layout.specs.Points.{statusOf, scaleOf}
 use Rattle.shown_points.proofs.show.Statement.{statement}
 use Rattle.shown_points.proofs.show.Tie as tie

@@ -1,7 +1,7 @@
 -- `shown_points::status_of_class` meets its contract: the status by the registers' class, and for a value by the scale point.
 use mathlib.Core.Path.{sym, _∙_}
 use borrow.Author.Needs.{needs}
-use Rattle.catalog.specs.Answers.{pointForm}
+use Rattle.catalog_frames.specs.Forms.{pointForm}
 use Rattle.shown_points.proofs.PointStatus.{value-alone, value-scaled, missing-mandatory, missing-optional}
 use Rattle.shown_points.proofs.status_of_class.Statement.{statement}
 use Rattle.shown_points.proofs.status_of_class.Tie as tie

@@ -2,20 +2,21 @@
 use mathlib.Core.Path.{refl, sym, ap, _∙_}
 use mathlib.Core.Bool.{not}
 use native.Mathlib.Omega.{arith}
-use Prim.Native.Nat.{_-_}
+use Prim.Native.Nat.{_-_, _<_}
 use lib.Dec.{eqb}
 use Rattle.lists.specs.Tests.{firstBroken}
 use Rattle.catalog.specs.Rules.{noPoint, run}
-use Rattle.catalog.specs.Answers.{frameForm, pointForm}
+use Rattle.catalog_frames.specs.Forms.{frameForm, pointForm}
 use Rattle.catalog.specs.Scans.{framesOnward}
-use Rattle.catalog.specs.Tracking.{endTests}
+use Rattle.frame_rules.specs.FrameTests.{endTests}
+use Rattle.catalog_frames.proofs.FramesByIndex.{frame-within}
 use Rattle.catalog.proofs.MarkedRules as marked
 use borrow.Author.Needs.{needs}
 use Rattle.catalog.proofs.rules.fault_at.Statement.{statement}
 use Rattle.catalog.proofs.rules.fault_at.Tie as tie
 
-frame-at-requires : tie.Need-frame-at-requires
-frame-at-requires c κs = search needs
+read-frame-requires : tie.Need-read-frame-requires
+read-frame-requires c κs = search needs
 
 enum-known-frame : tie.Need-enum-known-frame
 enum-known-frame c = search needs
@@ -55,54 +56,58 @@ enum-told-2 c = search needs
 
 returns : tie.Need-returns
 returns c =
-    let f = c .before .before .before .before .frame-at .ensures in
+    let s = c .before .before .before .before .before .before in
+    let f = c .before .before .before .before .read-frame .ensures ∙ frame-within _ _ (s .pre .0) in
     let is = c .before .before .frame .given .1 in
-    rw (← f .0, is) (c .model-fault .ensures, rw is at (f .1))
+    rw (← f, is) (c .model-fault .ensures, search needs)
 
 returns-2 : tie.Need-returns-2
 returns-2 c =
     let s = c .before .before .before .before .before .before in
     let x = s .pre .1 .1 in
-    let f = c .before .before .before .before .frame-at .ensures in
+    let f = c .before .before .before .before .read-frame .ensures ∙ frame-within _ _ (s .pre .0) in
     let is = c .before .before .frame2 .given .1 in
-    let fits = rw is at (f .1) in
-    let here = sym (ap frameForm is) ∙ f .0 in
+    let head = c .before .before .frame2 .given .0 .0 in
+    let fits : (head .number < 65536) × (head .count < 65536) = search needs in
+    let here = sym (ap frameForm is) ∙ f in
     let same = marked.group-tested _ _ _ _ _ _ x (s .pre .0) _ here (fits .1) (fits .0) in
-    rw (← f .0, is) (c .group-fault .ensures ∙ same, fits)
+    rw (← f, is) (c .group-fault .ensures ∙ same, fits)
 
 returns-3 : tie.Need-returns-3
 returns-3 c =
     let s = c .before .before .before .before .before .before in
     let x = s .pre .1 .1 in
-    let f = c .before .before .before .before .frame-at .ensures in
+    let f = c .before .before .before .before .read-frame .ensures ∙ frame-within _ _ (s .pre .0) in
     let is = c .before .before .frame3 .given .1 in
-    let fits = rw is at (f .1) in
     let point = pointForm (c .before .before .frame3 .given .0 .0) in
+    let fits : (point .number < 65536) × (point .scale < 65536) = search needs in
     let same = ap firstBroken (marked.point-tested _ _ _ _ _ _ x point (fits .0) (fits .1)) in
-    rw (← f .0, is) (c .point-fault .ensures ∙ same, fits)
+    rw (← f, is) (c .point-fault .ensures ∙ same, fits)
 
 returns-4 : tie.Need-returns-4
 returns-4 c =
     let s = c .before .before .before .before .before .before .before in
     let ws = s .args .catalog .now in
     let state = s .args .state in
-    let f = c .before .before .before .before .before .frame-at .ensures in
+    let f = c .before .before .before .before .before .read-frame .ensures ∙ frame-within _ _ (s .pre .0) in
     let is = c .before .before .before .enum-told .given .1 in
     let first = c .before .before .innermost in
     let inside = s .pre .1 .0 .passed (state .depth - 1) in
     let read = ap (λ k. not (eqb k 3)) (c .before .word-of .ensures) in
     let empty = read ∙ marked.empty-by-first ws (first .result) (omega (arith, inside, first .ensures, s .pre .0)) in
     let same = empty ∙ ap (λ j. noPoint (run (framesOnward ws j))) (first .ensures) in
-    rw (← f .0, is) (c .end-fault .ensures ∙ ap (λ b. firstBroken (endTests (state .depth) (state .«has_group») b)) same, tt)
+    rw (← f, is) (c .end-fault .ensures ∙ ap (λ b. firstBroken (endTests (state .depth) (state .«has_group») b)) same, tt)
 
 returns-5 : tie.Need-returns-5
-returns-5 c = rw (← c .before .before .frame-at .ensures .0, c .enum-told2 .given .1) (refl, tt)
+returns-5 c =
+    let f = c .before .before .read-frame .ensures ∙ frame-within _ _ (c .before .before .before .before .pre .0) in
+    rw (← f, c .enum-told2 .given .1) (refl, tt)
 
 pub fault-at-spec : {M : Type 1} → statement M
 fault-at-spec =
     tie.close
     (tie.spec
-    frame-at-requires
+    read-frame-requires
     enum-known-frame
     model-fault-requires
     enum-known-frame-2

@@ -1,6 +1,7 @@
 -- `catalog::scans::is_stop` meets its contract.
 use borrow.Author.Tests.{eq-eqb, ne-eqb}
 use borrow.Author.Needs.{needs}
+use Rattle.catalog_frames.specs.Frames.{countByPoint}
 use Rattle.catalog.proofs.scans.is_stop.Statement.{statement}
 use Rattle.catalog.proofs.scans.is_stop.Tie as tie
 
@@ -8,10 +9,10 @@ word-of-requires : tie.Need-word-of-requires
 word-of-requires c κs = search needs
 
 returns : tie.Need-returns
-returns c = rw (← c .before .word-of .ensures, eq-eqb _ _ (c .if1 .taken))
+returns c = rw (← c .before .word-of .ensures, eq-eqb _ 1 (c .if1 .taken))
 
 returns-2 : tie.Need-returns-2
-returns-2 c = rw (← c .before .before .word-of .ensures, ne-eqb _ _ (c .before .if1 .left), ne-eqb _ _ (c .if2 .taken))
+returns-2 c = rw (← c .before .before .word-of .ensures, ne-eqb _ 1 (c .before .if1 .left), ne-eqb _ 2 (c .if2 .taken))
 
 word-of-requires-2 : tie.Need-word-of-requires-2
 word-of-requires-2 c κs = search needs
@@ -20,10 +21,10 @@ returns-3 : tie.Need-returns-3
 returns-3 c =
     rw (
       ← c .before .before .before .before .word-of .ensures,
-      ne-eqb _ _ (c .before .before .before .if1 .left),
-      eq-eqb _ _ (c .before .before .if2 .left),
+      ne-eqb _ 1 (c .before .before .before .if1 .left),
+      eq-eqb _ 2 (c .before .before .if2 .left),
       ← c .before .word-of2 .ensures,
-      ne-eqb _ _ (c .if3 .taken),
+      ne-eqb _ countByPoint (c .if3 .taken),
     )
 
 word-of-requires-3 : tie.Need-word-of-requires-3
@@ -36,10 +37,10 @@ returns-4 : tie.Need-returns-4
 returns-4 c =
     rw (
       ← c .before .before .before .before .before .before .word-of .ensures,
-      ne-eqb _ _ (c .before .before .before .before .before .if1 .left),
-      eq-eqb _ _ (c .before .before .before .before .if2 .left),
+      ne-eqb _ 1 (c .before .before .before .before .before .if1 .left),
+      eq-eqb _ 2 (c .before .before .before .before .if2 .left),
       ← c .before .before .before .word-of2 .ensures,
-      eq-eqb _ _ (c .before .before .if3 .left),
+      eq-eqb _ countByPoint (c .before .before .if3 .left),
       ← c .before .word-of3 .ensures,
       ← c .is-in .ensures,
     )

@@ -3,7 +3,7 @@ use mathlib.Core.Path.{_≡_, refl, ap, _∙_}
 use Prim.Native.Nat.{ℕ, _+_, _-_, _/_, _≤_}
 use native.Mathlib.Omega.{arith}
 use lib.ListN.{length}
-use Rattle.catalog.specs.Frames.{frameIn}
+use Rattle.catalog_frames.specs.Frames.{frameIn}
 use Rattle.layout.specs.Walks.{onward, framesToEnd, framesOfGroup}
 use Rattle.layout.proofs.PassedFrames as passed
 use Rattle.definition_frames.proofs.frames.after_group.Statement.{statement}

@@ -1,7 +1,7 @@
 -- `definition_frames::frames::depth_after` meets its contract: a group frame opens a group, an end frame ends one.
 use mathlib.Core.Path.{sym, ap, _∙_}
 use borrow.Author.Needs.{needs}
-use Rattle.catalog.specs.Answers.{frameForm}
+use Rattle.catalog_frames.specs.Forms.{frameForm}
 use Rattle.layout.specs.Walks.{openBehind}
 use Rattle.definition_frames.proofs.frames.depth_after.Statement.{statement}
 use Rattle.definition_frames.proofs.frames.depth_after.Tie as tie

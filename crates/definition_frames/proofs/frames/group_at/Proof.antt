@@ -1,7 +1,7 @@
 -- `definition_frames::frames::group_at` meets its contract: the head of a group frame.
 use mathlib.Core.Path.{sym, ap, _∙_}
 use borrow.Author.Needs.{needs}
-use Rattle.catalog.specs.Answers.{frameForm}
+use Rattle.catalog_frames.specs.Forms.{frameForm}
 use Rattle.layout.specs.Walks.{headOf}
 use Rattle.definition_frames.proofs.frames.group_at.Statement.{statement}
 use Rattle.definition_frames.proofs.frames.group_at.Tie as tie

@@ -1,7 +1,7 @@
 -- `definition_frames::frames::point_at` meets its contract: the point of a point frame.
 use mathlib.Core.Path.{sym, ap, _∙_}
 use borrow.Author.Needs.{needs}
-use Rattle.catalog.specs.Answers.{frameForm}
+use Rattle.catalog_frames.specs.Forms.{frameForm}
 use Rattle.layout.specs.Walks.{pointOf}
 use Rattle.definition_frames.proofs.frames.point_at.Statement.{statement}
 use Rattle.definition_frames.proofs.frames.point_at.Tie as tie

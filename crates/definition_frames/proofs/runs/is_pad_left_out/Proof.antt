@@ -4,7 +4,7 @@ use Prim.Native.Nat.{_+_}
 use native.Mathlib.Omega.{arith}
 use borrow.Author.Needs.{needs}
 use borrow.Author.Tests.{not-true, not-false}
-use Rattle.catalog.specs.Frames.{frameIn}
+use Rattle.catalog_frames.specs.Frames.{frameIn}
 use Rattle.layout.specs.Walks.{headOf}
 use Rattle.definition_frames.specs.Answers.{groupOrForm, isNone, lacksPad, runForm}
 use Rattle.definition_frames.proofs.PadTests as pads

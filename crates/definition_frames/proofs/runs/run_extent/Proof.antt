@@ -7,7 +7,7 @@ use borrow.Author.Needs.{needs}
 use lib.ListN.{take}
 use lib.Seq.{take-nil}
 use Rattle.catalog.specs.Rules.{run}
-use Rattle.catalog.specs.Answers.{pointForm}
+use Rattle.catalog_frames.specs.Forms.{pointForm}
 use Rattle.layout.specs.Walks.{onward}
 use Rattle.definition_frames.specs.Answers.{pointOrForm}
 use Rattle.layout.proofs.FrameRuns.{run-more, run-ends}

@@ -6,8 +6,8 @@ use native.Mathlib.Omega.{arith}
 use borrow.Author.Needs.{needs}
 use borrow.Author.Tests.{ne-eqb}
 use lib.Dec.{eqb}
-use Rattle.catalog.specs.Frames.{Head, constantCount, countByPoint}
-use Rattle.catalog.specs.Answers.{headForm}
+use Rattle.catalog_frames.specs.Frames.{Head, constantCount, countByPoint}
+use Rattle.catalog_frames.specs.Forms.{headForm}
 use Rattle.layout.specs.Points.{Scope}
 use Rattle.layout.specs.Layout.{countOf}
 use Rattle.layout.specs.Walks.{scopeIn}

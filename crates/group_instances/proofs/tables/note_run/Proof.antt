@@ -5,9 +5,9 @@ use Prim.Native.Nat.{_+_, _-_, _/_}
 use native.Mathlib.Omega.{arith}
 use borrow.Author.Needs.{needs}
 use lib.ListN.{length, getD, length-set}
-use Rattle.catalog.specs.Frames.{Point}
+use Rattle.catalog_frames.specs.Frames.{Point}
 use Rattle.catalog.specs.Rules.{run}
-use Rattle.catalog.specs.Answers.{pointForm}
+use Rattle.catalog_frames.specs.Forms.{pointForm}
 use Rattle.layout.specs.Walks.{onward, noted, begun}
 use Rattle.definition_frames.specs.Answers.{pointOrForm}
 use Rattle.layout.proofs.FrameRuns.{run-more, run-ends}

@@ -1,7 +1,7 @@
 -- `listing::frames::is_model` meets its contract: the id of a model frame.
 use mathlib.Core.Path.{sym, ap, _∙_}
 use borrow.Author.Needs.{needs}
-use Rattle.catalog.specs.Answers.{frameForm}
+use Rattle.catalog_frames.specs.Forms.{frameForm}
 use Rattle.layout.specs.Walks.{isModelOf}
 use Rattle.listing.proofs.frames.is_model.Statement.{statement}
 use Rattle.listing.proofs.frames.is_model.Tie as tie

@@ -8,8 +8,8 @@ use borrow.Author.Needs.{needs}
 use borrow.Fn.Kinds.{In}
 use borrow.Fn.PlainCycle.{Measures, is, falls, and}
 use lib.ListN.{length, getD}
-use Rattle.catalog.specs.Frames.{frameIn}
-use Rattle.catalog.specs.Answers.{headForm}
+use Rattle.catalog_frames.specs.Frames.{frameIn}
+use Rattle.catalog_frames.specs.Forms.{headForm}
 use Rattle.layout.specs.Layout.{countOf}
 use Rattle.layout.specs.Walks.{heldAt, headOf, levelOf, scopeIn}
 use Rattle.layout.specs.Locating.{locatedIn}

@@ -5,8 +5,8 @@ use Prim.Native.Nat.{_+_, _-_, _/_}
 use native.Mathlib.Omega.{arith}
 use borrow.Author.Needs.{needs}
 use lib.ListN.{length}
-use Rattle.catalog.specs.Frames.{Point}
-use Rattle.catalog.specs.Answers.{pointForm}
+use Rattle.catalog_frames.specs.Frames.{Point}
+use Rattle.catalog_frames.specs.Forms.{pointForm}
 use Rattle.layout.specs.Walks.{heldAt, Stands, begun}
 use Rattle.layout.specs.Locating.{locatedAmong}
 use Rattle.layout.proofs.Standing as standing

@@ -5,7 +5,7 @@ use mathlib.Core.Path.{_≡_, refl, sym, ap, subst, _∙_}
 use mathlib.Core.List.{[]}
 use Prim.Native.Nat.{ℕ, _+_, _*_, _-_, _/_, _≤_, _<_}
 use lib.ListN.{length, getD, length-set}
-use Rattle.catalog.specs.Answers.{headForm}
+use Rattle.catalog_frames.specs.Forms.{headForm}
 use Rattle.layout.specs.Walks.{heldAt, Stands, pastEnd, levelOf}
 use Rattle.layout.proofs.Standing as standing
 use Rattle.layout.proofs.PassedFrames.{group-passed}

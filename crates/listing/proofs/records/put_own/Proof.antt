@@ -5,7 +5,7 @@ use Prim.Native.Nat.{ℕ, _+_, _<_}
 use native.Mathlib.Omega.{arith}
 use borrow.Author.Needs.{needs}
 use lib.ListN.{length, getD}
-use Rattle.catalog.specs.Frames.{Point}
+use Rattle.catalog_frames.specs.Frames.{Point}
 use Rattle.layout.specs.Points.{ModelPoint}
 use Rattle.layout.specs.Walks.{heldAt, noted, begun}
 use Rattle.layout.proofs.Standing.{stands-within}

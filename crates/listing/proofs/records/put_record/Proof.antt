@@ -5,7 +5,7 @@ use Prim.Native.Nat.{ℕ, _*_}
 use native.Mathlib.Omega.{arith}
 use lib.ListN.{getD}
 use lib.Seq.{sets}
-use Rattle.catalog.specs.Answers.{pointForm}
+use Rattle.catalog_frames.specs.Forms.{pointForm}
 use Rattle.layout.specs.Points.{pointAt}
 use Rattle.layout.specs.Walks.{scopeIn, instanceIn}
 use Rattle.shown_points.proofs.PointClasses.{shown-at}

@@ -2,7 +2,7 @@
 use mathlib.Core.Path.{ap, _∙_}
 use borrow.Author.Needs.{needs}
 use Rattle.registers.specs.Registers.{shownRaw}
-use Rattle.catalog.specs.Answers.{pointForm}
+use Rattle.catalog_frames.specs.Forms.{pointForm}
 use Rattle.listing.proofs.search.target_at.Statement.{statement}
 use Rattle.listing.proofs.search.target_at.Tie as tie
 

@@ -1,0 +1,60 @@
+-- `catalog_frames::zero_from` meets its contract: from each word on, what is left to read decides.
+use mathlib.Core.Path.{_≡_, refl, sym, _∙_}
+use Prim.Native.Nat.{_-_, _+_, _≤_}
+use native.Mathlib.Omega.{arith}
+use Rattle.catalog_frames.specs.Words.{zeroWords}
+use Rattle.catalog_frames.proofs.ZeroWords as laws
+use borrow.Author.Needs.{needs}
+use Rattle.catalog_frames.proofs.zero_from.Statement.{statement}
+use Rattle.catalog_frames.proofs.zero_from.Tie as tie
+
+abbrev Inv-loop : tie.InvT-loop
+Inv-loop catalog i from k₀ k = (k ≤ 8) × (zeroWords catalog i k (8 - k) ≡ zeroWords catalog i from (8 - from))
+
+abbrev μ-loop : tie.MeasureT-loop
+μ-loop catalog i from k₀ k = 8 - k
+
+loop-holds : tie.Need-loop-holds Inv-loop μ-loop
+loop-holds c = (search needs, refl)
+
+word-of-requires : tie.Need-word-of-requires Inv-loop μ-loop
+word-of-requires c κs = search needs
+
+returns : tie.Need-returns Inv-loop μ-loop
+returns c =
+    let l = c .before .before .before .loop in
+    sym (laws.zero-stops _ _ (l .k) (8 - l .k) (7 - l .k) (omega arith) _ (c .before .word-of .ensures) (c .if1 .taken))
+    ∙ l .inv .1
+
+add-k : tie.Need-add-k Inv-loop μ-loop
+add-k c = search needs
+
+loop-less : tie.Need-loop-less Inv-loop μ-loop
+loop-less c = search needs
+
+loop-again : tie.Need-loop-again Inv-loop μ-loop
+loop-again c =
+    let l = c .before .before .before .loop in (
+      omega arith,
+      laws.zero-goes _ _ (l .k) (8 - l .k) (8 - (l .k + 1)) (omega arith) _ (c .before .word-of .ensures)
+          (c .if1 .left) ∙ l .inv .1,
+    )
+
+returns-2 : tie.Need-returns-2 Inv-loop μ-loop
+returns-2 c =
+    let l = c .before .loop in
+    sym (laws.zero-none _ _ (l .k) (8 - l .k) (omega arith)) ∙ l .inv .1
+
+pub zero-from-spec : {M : Type 1} → statement M
+zero-from-spec =
+    tie.close
+    (tie.spec
+    Inv-loop
+    μ-loop
+    loop-holds
+    word-of-requires
+    returns
+    add-k
+    loop-less
+    loop-again
+    returns-2)

@@ -1,0 +1,68 @@
+-- `frame_rules::is_misscaled` meets its contract: each scale kind has its clause of rule 8.
+use mathlib.Core.Path.{sym, ap, _∙_}
+use mathlib.Core.Bool.{not}
+use borrow.Author.Tests.{not-true, not-false}
+use Rattle.number_sets.specs.NumberSets.{inSet}
+use Rattle.catalog_frames.specs.Forms.{pointForm}
+use Rattle.frame_rules.proofs.KindCases as kinds
+use borrow.Author.Needs.{needs}
+use Rattle.frame_rules.proofs.is_misscaled.Statement.{statement}
+use Rattle.frame_rules.proofs.is_misscaled.Tie as tie
+
+returns : tie.Need-returns
+returns c =
+    let a = c .before .before .args in
+    sym (kinds.no-scale (inSet (a .scales .now) (a .point .scale)) (pointForm (a .point)) (c .before .if1 .taken))
+
+scalable-requires : tie.Need-scalable-requires
+scalable-requires c κs = search needs
+
+returns-2 : tie.Need-returns-2
+returns-2 c =
+    let may = c .before .scalable in
+    let may-not = sym (may .ensures) ∙ not-true (may .result) (c .if2 .taken) in
+    let a = c .before .before .before .args in
+    let known = inSet (a .scales .now) (a .point .scale) in
+    sym (kinds.not-scalable known (pointForm (a .point)) (c .before .before .if1 .left) may-not)
+
+scale-factor-in-range-requires : tie.Need-scale-factor-in-range-requires
+scale-factor-in-range-requires c κs = search needs
+
+is-in-requires : tie.Need-is-in-requires
+is-in-requires c κs = search needs
+
+returns-3 : tie.Need-returns-3
+returns-3 c =
+    let p = pointForm (c .before .before .before .before .before .args .point) in
+    let known = inSet (c .before .before .before .before .before .args .scales .now) (p .scale) in
+    let may = c .before .before .before .scalable in
+    let may-scale = sym (may .ensures) ∙ not-false (may .result) (c .before .before .if2 .left) in
+    ap not (c .scale-factor-in-range .ensures) ∙ sym (kinds.fixed-scale known p (c .before .match .keys1) may-scale)
+
+returns-4 : tie.Need-returns-4
+returns-4 c =
+    let p = pointForm (c .before .before .before .before .before .args .point) in
+    let known = inSet (c .before .before .before .before .before .args .scales .now) (p .scale) in
+    let may = c .before .before .before .scalable in
+    let may-scale = sym (may .ensures) ∙ not-false (may .result) (c .before .before .if2 .left) in
+    ap not (c .is-in .ensures) ∙ sym (kinds.scale-by-point known p (c .before .match .keys2) may-scale)
+
+returns-5 : tie.Need-returns-5
+returns-5 c =
+    let n = c .match .rest in
+    let a = c .before .before .before .before .args in
+    let known = inSet (a .scales .now) (a .point .scale) in
+    sym (kinds.scale-kind-over known (pointForm (a .point)) (c .before .before .before .if1 .left) (n .0 .1) (n .1))
+
+pub is-misscaled-spec : {M : Type 1} → statement M
+is-misscaled-spec =
+    tie.close
+    (tie.spec
+    returns
+    scalable-requires
+    returns-2
+    scale-factor-in-range-requires
+    is-in-requires
+    returns-3
+    returns-4
+    returns-5)

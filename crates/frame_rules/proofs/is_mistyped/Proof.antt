@@ -1,0 +1,26 @@
+-- `frame_rules::is_mistyped` meets its contract.
+use mathlib.Core.Path.{refl}
+use borrow.Author.Tests.{not-true, not-false, lt-ltb, le-ltb}
+use borrow.Author.Needs.{needs}
+use Rattle.frame_rules.proofs.is_mistyped.Statement.{statement}
+use Rattle.frame_rules.proofs.is_mistyped.Tie as tie
+
+is-size-of-requires : tie.Need-is-size-of-requires
+is-size-of-requires c κs = search needs
+
+returns : tie.Need-returns
+returns c = rw (← c .before .is-size-of .ensures, not-true (c .before .is-size-of .result) (c .if1 .taken))
+
+returns-2 : tie.Need-returns-2
+returns-2 c =
+    let size = c .before .before .before .is-size-of in
+    rw (← size .ensures, not-false (size .result) (c .before .before .if1 .left), lt-ltb 1 _ (c .if2 .taken))
+
+returns-3 : tie.Need-returns-3
+returns-3 c =
+    let size = c .before .before .before .before .is-size-of in
+    rw (← size .ensures, not-false (size .result) (c .before .before .before .if1 .left), le-ltb 1 _ (c .before .if2 .left))
+    refl
+
+pub is-mistyped-spec : {M : Type 1} → statement M
+is-mistyped-spec = tie.close (tie.spec is-size-of-requires returns returns-2 returns-3)
