@@ -1,4 +1,4 @@
--- A scale factor's number stands once among the open groups: each number is new when it comes.
+-- A scale factor's number is there once among the open groups: each number is new when it comes.
 use mathlib.Core.Path.{_≡_, refl, sym, ap, _∙_}
 use mathlib.Core.Bool.{Bool, true, false, _||_}
 use mathlib.Core.List.{List, [], _∷_, _++_}

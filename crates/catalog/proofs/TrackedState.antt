@@ -277,26 +277,26 @@ module _ (ws used : List ℕ) (i : ℕ) (c : State) (s : check.State) (t : Track
       go (l ∷ ls) q g = k l ls q
 
   -- A frame that breaks no rule opens at most the fourth group, and ends one that is open.
-  room-for : (f : Frame) (ahead : List Point) → fault s f ahead ≡ none → Room (getD (wordsOf f) 0 0) c
-  room-for (modelFrame id) ahead n =
+  may-follow : (f : Frame) (ahead : List Point) → fault s f ahead ≡ none → Room (getD (wordsOf f) 0 0) c
+  may-follow (modelFrame id) ahead n =
       let x = not-false _ (none-broken (rules s (modelFrame id) ahead) .0 n .1 .0) in
       let closed = eqb-true (c .depth) 0 (none-open (c .depth) (s .openGroups) (t .depth) ∙ x) in
       record { opens = λ k. omega arith; ends = λ k. omega arith }
-  room-for (groupFrame h) ahead n =
+  may-follow (groupFrame h) ahead n =
       let d = t .depth in
       let y = leb-false 4 (length (s .openGroups)) (none-broken (rules s (groupFrame h) ahead) .0 n .1 .1 .0) in
       record { opens = λ k. omega arith; ends = λ k. omega arith }
-  room-for (pointFrame p) ahead n = record { opens = λ k. absurd (omega arith); ends = λ k. absurd (omega arith) }
-  room-for endFrame ahead n =
+  may-follow (pointFrame p) ahead n = record { opens = λ k. absurd (omega arith); ends = λ k. absurd (omega arith) }
+  may-follow endFrame ahead n =
       let x = none-broken (rules s endFrame ahead) .0 n .1 .0 in
       record {
         opens = λ k. absurd (omega arith);
         ends = λ k. inside (1 ≤ c .depth) x (λ l ls q. let d = t .depth ∙ ap length q in omega arith);
       }
-  room-for malformed ahead n = impossible (cc)
+  may-follow malformed ahead n = impossible (cc)
 
   pub has-room : (f : Frame) (ahead : List Point) → frameAt ws i ≡ f → fault s f ahead ≡ none → Room (word ws i 0) c
-  has-room f ahead e n = rw (kind-here ws i f e (none-broken (rules s f ahead) .0 n .0)) (room-for f ahead n)
+  has-room f ahead e n = rw (kind-here ws i f e (none-broken (rules s f ahead) .0 n .0)) (may-follow f ahead n)
 
 -- After a frame that breaks no rule.
 module _ (ws used : List ℕ) (i : ℕ) (c : State) (s : check.State) (t : Tracks ws used i c s) (used' : List ℕ)

@@ -14,13 +14,10 @@ returns-2 c =
     let ws = c .before .before .before .args .catalog .now in
     sym (steps.too-many ws (c .before .if1 .left) (omega (arith, c .if2 .taken)))
 
-check-frames-requires : tie.Need-check-frames-requires
-check-frames-requires c κs = search needs
-
 returns-3 : tie.Need-returns-3
 returns-3 c =
     let ws = c .before .before .before .before .args .catalog .now in
     c .check-frames .ensures ∙ sym (steps.by-frames ws (c .before .before .if1 .left) (c .before .if2 .left))
 
 pub check-spec : {M : Type 1} → statement M
-check-spec = tie.close (tie.spec returns returns-2 check-frames-requires returns-3)
+check-spec = tie.close (tie.spec returns returns-2 (λ c κs. search needs) returns-3)

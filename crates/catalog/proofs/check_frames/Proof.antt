@@ -52,12 +52,6 @@ begin-model-requires c κs =
     let blank = frame.blank-here _ _ _ _ _ (l .i) (l .state) (l .inv .1) (fault .1) (omega arith) unbroken in
     ((search needs, omega (arith, inside, c .before .before .before .innermost .ensures)), blank)
 
-mark-number-requires : tie.Need-mark-number-requires Inv-loop μ-loop
-mark-number-requires c κs = search needs
-
-mark-scales-requires : tie.Need-mark-scales-requires Inv-loop μ-loop
-mark-scales-requires c κs = search needs
-
 after-requires : tie.Need-after-requires Inv-loop μ-loop
 after-requires c κs =
     let c5 = c .before .before .before .before .before in
@@ -75,9 +69,6 @@ add-i c =
     let c10 = c5 .before .before .before .before .before in
     let c15 = c10 .before .before .before .before .before in
     omega (arith, c15 .loop-test .taken, c15 .before .before .before .pre)
-
-loop-less : tie.Need-loop-less Inv-loop μ-loop
-loop-less c = search needs
 
 loop-again : tie.Need-loop-again Inv-loop μ-loop
 loop-again c =
@@ -115,11 +106,11 @@ check-frames-spec =
     returns
     innermost-requires
     begin-model-requires
-    mark-number-requires
-    mark-scales-requires
+    (λ c κs. search needs)
+    (λ c κs. search needs)
     after-requires
     add-i
-    loop-less
+    (λ c. search needs)
     loop-again
     returns-2
     returns-3)

@@ -5,12 +5,6 @@ use borrow.Author.Needs.{needs}
 use Rattle.catalog_frames.proofs.frame_at.Statement.{statement}
 use Rattle.catalog_frames.proofs.frame_at.Tie as tie
 
-word-of-requires : tie.Need-word-of-requires
-word-of-requires c κs = search needs
-
-named-words-requires : tie.Need-named-words-requires
-named-words-requires c κs = search needs
-
 zero-from-requires : tie.Need-zero-from-requires
 zero-from-requires c κs = (c .before .before .before .pre, c .named-words .ensures .1)
 
@@ -21,15 +15,6 @@ returns c =
     let named = c .before .before .named-words .ensures .0 in
     let zero = c .before .zero-from .ensures in
     sym (kinds.malformed-here (a .catalog .now) (a .i) _ kind _ named _ zero (c .if1 .taken))
-
-word-of-requires-2 : tie.Need-word-of-requires-2
-word-of-requires-2 c κs = search needs
-
-head-at-requires : tie.Need-head-at-requires
-head-at-requires c κs = search needs
-
-point-at-requires : tie.Need-point-at-requires
-point-at-requires c κs = search needs
 
 returns-2 : tie.Need-returns-2
 returns-2 c =
@@ -78,13 +63,13 @@ pub frame-at-spec : {M : Type 1} → statement M
 frame-at-spec =
     tie.close
     (tie.spec
-    word-of-requires
-    named-words-requires
+    (λ c κs. search needs)
+    (λ c κs. search needs)
     zero-from-requires
     returns
-    word-of-requires-2
-    head-at-requires
-    point-at-requires
+    (λ c κs. search needs)
+    (λ c κs. search needs)
+    (λ c κs. search needs)
     returns-2
     returns-3
     returns-4

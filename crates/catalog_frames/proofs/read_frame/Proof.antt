@@ -9,11 +9,8 @@ use Rattle.catalog_frames.proofs.FramesByIndex as frames
 returns : tie.Need-returns
 returns c = sym (frames.frame-beyond _ _ (omega (arith, c .if1)))
 
-frame-at-requires : tie.Need-frame-at-requires
-frame-at-requires c κs = search needs
-
 returns-2 : tie.Need-returns-2
 returns-2 c = c .frame-at .ensures ∙ sym (frames.frame-within _ _ (omega (arith, c .before .if1)))
 
 pub read-frame-spec : {M : Type 1} → statement M
-read-frame-spec = tie.close (tie.spec returns frame-at-requires returns-2)
+read-frame-spec = tie.close (tie.spec returns (λ c κs. search needs) returns-2)

@@ -23,9 +23,6 @@ returns c =
     let misplaced : eqb (a .depth) 0 || eqb (a .depth) 1 && a .has-fill ≡ true = rw (eq-eqb (a .depth) 0 (c .if1 .taken)) in
     first-at tests 0 4 (misplaced, refl)
 
-is-after-fill-requires : tie.Need-is-after-fill-requires
-is-after-fill-requires c κs = search needs
-
 returns-2 : tie.Need-returns-2
 returns-2 c =
     let a = c .before .before .before .args in
@@ -45,9 +42,6 @@ returns-3 c =
     let filled : eqb (a .depth) 1 && a .has-fill ≡ false = sym (c .before .before .is-after-fill .ensures) ∙ c .before .if2 .left in
     let misplaced : eqb (a .depth) 0 || eqb (a .depth) 1 && a .has-fill ≡ false = rw (ne-eqb (a .depth) 0 (c .before .before .before .if1 .left), filled) in
     first-at tests 1 5 (misplaced, (le-leb 4 (a .depth) (omega (arith, c .if3 .taken)), refl))
-
-is-misnumbered-requires : tie.Need-is-misnumbered-requires
-is-misnumbered-requires c κs = search needs
 
 returns-4 : tie.Need-returns-4
 returns-4 c =
@@ -72,9 +66,6 @@ returns-5 c =
     let level = lt-leb 4 (a .depth) (omega (arith, c .before .before .before .before .if3 .left)) in
     let numbered = sym (c .before .before .before .is-misnumbered .ensures) ∙ c .before .before .if4 .left in
     first-at tests 3 7 (misplaced, (level, (numbered, (lt-ltb 1 (h .groupType) (c .if5 .taken), refl))))
-
-is-miscounted-requires : tie.Need-is-miscounted-requires
-is-miscounted-requires c κs = search needs
 
 returns-6 : tie.Need-returns-6
 returns-6 c =
@@ -109,12 +100,12 @@ group-fault-spec =
     tie.close
     (tie.spec
     returns
-    is-after-fill-requires
+    (λ c κs. search needs)
     returns-2
     returns-3
-    is-misnumbered-requires
+    (λ c κs. search needs)
     returns-4
     returns-5
-    is-miscounted-requires
+    (λ c κs. search needs)
     returns-6
     returns-7)

@@ -7,11 +7,8 @@ use Rattle.frame_rules.proofs.is_misnumbered.Tie as tie
 returns : tie.Need-returns
 returns c = rw (eq-eqb _ _ (c .if1 .taken))
 
-is-in-requires : tie.Need-is-in-requires
-is-in-requires c κs = search needs
-
 returns-2 : tie.Need-returns-2
 returns-2 c = rw (ne-eqb _ _ (c .before .if1 .left)) (c .is-in .ensures)
 
 pub is-misnumbered-spec : {M : Type 1} → statement M
-is-misnumbered-spec = tie.close (tie.spec returns is-in-requires returns-2)
+is-misnumbered-spec = tie.close (tie.spec returns (λ c κs. search needs) returns-2)

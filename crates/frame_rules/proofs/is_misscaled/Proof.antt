@@ -14,9 +14,6 @@ returns c =
     let a = c .before .before .args in
     sym (kinds.no-scale (inSet (a .scales .now) (a .point .scale)) (pointForm (a .point)) (c .before .if1 .taken))
 
-scalable-requires : tie.Need-scalable-requires
-scalable-requires c κs = search needs
-
 returns-2 : tie.Need-returns-2
 returns-2 c =
     let may = c .before .scalable in
@@ -24,12 +21,6 @@ returns-2 c =
     let a = c .before .before .before .args in
     let known = inSet (a .scales .now) (a .point .scale) in
     sym (kinds.not-scalable known (pointForm (a .point)) (c .before .before .if1 .left) may-not)
-
-scale-factor-in-range-requires : tie.Need-scale-factor-in-range-requires
-scale-factor-in-range-requires c κs = search needs
-
-is-in-requires : tie.Need-is-in-requires
-is-in-requires c κs = search needs
 
 returns-3 : tie.Need-returns-3
 returns-3 c =
@@ -59,10 +50,10 @@ is-misscaled-spec =
     tie.close
     (tie.spec
     returns
-    scalable-requires
+    (λ c κs. search needs)
     returns-2
-    scale-factor-in-range-requires
-    is-in-requires
+    (λ c κs. search needs)
+    (λ c κs. search needs)
     returns-3
     returns-4
     returns-5)

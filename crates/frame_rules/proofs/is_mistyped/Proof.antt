@@ -5,9 +5,6 @@ use borrow.Author.Needs.{needs}
 use Rattle.frame_rules.proofs.is_mistyped.Statement.{statement}
 use Rattle.frame_rules.proofs.is_mistyped.Tie as tie
 
-is-size-of-requires : tie.Need-is-size-of-requires
-is-size-of-requires c κs = search needs
-
 returns : tie.Need-returns
 returns c = rw (← c .before .is-size-of .ensures, not-true (c .before .is-size-of .result) (c .if1 .taken))
 
@@ -23,4 +20,4 @@ returns-3 c =
     refl
 
 pub is-mistyped-spec : {M : Type 1} → statement M
-is-mistyped-spec = tie.close (tie.spec is-size-of-requires returns returns-2 returns-3)
+is-mistyped-spec = tie.close (tie.spec (λ c κs. search needs) returns returns-2 returns-3)

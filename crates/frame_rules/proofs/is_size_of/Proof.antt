@@ -7,12 +7,6 @@ use borrow.Author.Needs.{needs}
 use Rattle.frame_rules.proofs.is_size_of.Statement.{statement}
 use Rattle.frame_rules.proofs.is_size_of.Tie as tie
 
-register-count-requires : tie.Need-register-count-requires
-register-count-requires c κs = search needs
-
-enum-known-count : tie.Need-enum-known-count
-enum-known-count c = search needs
-
 returns : tie.Need-returns
 unfolding isSizeOf
 returns c =
@@ -41,4 +35,4 @@ returns-3 c = simp (isSizeOf, sym (c .before .before .register-count .ensures) �
 pub is-size-of-spec : {M : Type 1} → statement M
 is-size-of-spec =
     tie.close
-    (tie.spec register-count-requires enum-known-count returns enum-told returns-2 returns-3)
+    (tie.spec (λ c κs. search needs) (λ c. search needs) returns enum-told returns-2 returns-3)

@@ -37,9 +37,6 @@ returns-3 c =
     rw (ne-eqb (a .id) 0 (c .before .if2 .left), eq-eqb (a .id) 65535 (c .if3 .taken)) in
     first-at tests 1 6 (no-model, (bad, refl))
 
-is-in-requires : tie.Need-is-in-requires
-is-in-requires c κs = search needs
-
 returns-4 : tie.Need-returns-4
 returns-4 c =
     let a = c .before .before .before .before .before .args in
@@ -64,4 +61,4 @@ returns-5 c =
 
 pub model-fault-spec : {M : Type 1} → statement M
 model-fault-spec =
-    tie.close (tie.spec returns returns-2 returns-3 is-in-requires returns-4 returns-5)
+    tie.close (tie.spec returns returns-2 returns-3 (λ c κs. search needs) returns-4 returns-5)

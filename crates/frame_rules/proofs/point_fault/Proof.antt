@@ -31,9 +31,6 @@ returns-2 c =
     let misplaced : eqb (a .depth) 0 || a .has-group ≡ true = rw (ne-eqb (a .depth) 0 (c .before .if1 .left), c .if2 .taken) in
     first-at tests 0 4 (misplaced, refl)
 
-is-misnumbered-requires : tie.Need-is-misnumbered-requires
-is-misnumbered-requires c κs = search needs
-
 returns-3 : tie.Need-returns-3
 returns-3 c =
     let a = c .before .before .before .before .args in
@@ -43,9 +40,6 @@ returns-3 c =
     let misplaced : eqb (a .depth) 0 || a .has-group ≡ false = rw (ne-eqb (a .depth) 0 (c .before .before .before .if1 .left), c .before .before .if2 .left) in
     let numbered = sym (c .before .is-misnumbered .ensures) ∙ c .if3 .taken in
     first-at tests 1 6 (misplaced, (numbered, refl))
-
-is-mistyped-requires : tie.Need-is-mistyped-requires
-is-mistyped-requires c κs = search needs
 
 returns-4 : tie.Need-returns-4
 returns-4 c =
@@ -57,9 +51,6 @@ returns-4 c =
     let numbered = sym (c .before .before .before .is-misnumbered .ensures) ∙ c .before .before .if3 .left in
     let typed = sym (c .before .is-mistyped .ensures) ∙ c .if4 .taken in
     first-at tests 2 7 (misplaced, (numbered, (typed, refl)))
-
-is-misscaled-requires : tie.Need-is-misscaled-requires
-is-misscaled-requires c κs = search needs
 
 returns-5 : tie.Need-returns-5
 returns-5 c =
@@ -91,10 +82,10 @@ point-fault-spec =
     (tie.spec
     returns
     returns-2
-    is-misnumbered-requires
+    (λ c κs. search needs)
     returns-3
-    is-mistyped-requires
+    (λ c κs. search needs)
     returns-4
-    is-misscaled-requires
+    (λ c κs. search needs)
     returns-5
     returns-6)

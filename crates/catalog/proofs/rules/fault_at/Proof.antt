@@ -15,44 +15,14 @@ use borrow.Author.Needs.{needs}
 use Rattle.catalog.proofs.rules.fault_at.Statement.{statement}
 use Rattle.catalog.proofs.rules.fault_at.Tie as tie
 
-read-frame-requires : tie.Need-read-frame-requires
-read-frame-requires c κs = search needs
-
-enum-known-frame : tie.Need-enum-known-frame
-enum-known-frame c = search needs
-
-model-fault-requires : tie.Need-model-fault-requires
-model-fault-requires c κs = search needs
-
-enum-known-frame-2 : tie.Need-enum-known-frame-2
-enum-known-frame-2 c = search needs
-
-group-fault-requires : tie.Need-group-fault-requires
-group-fault-requires c κs = search needs
-
-enum-known-frame-3 : tie.Need-enum-known-frame-3
-enum-known-frame-3 c = search needs
-
-point-fault-requires : tie.Need-point-fault-requires
-point-fault-requires c κs = search needs
-
 enum-told : tie.Need-enum-told
 enum-told c = search needs
-
-innermost-requires : tie.Need-innermost-requires
-innermost-requires c κs = search needs
 
 word-of-requires : tie.Need-word-of-requires
 word-of-requires c κs =
     let s = c .before .before .before .before .before in
     let inside = s .pre .1 .0 .passed (s .args .state .depth - 1) in
     (omega (arith, inside, c .innermost .ensures, s .pre .0), search needs)
-
-end-fault-requires : tie.Need-end-fault-requires
-end-fault-requires c κs = search needs
-
-enum-told-2 : tie.Need-enum-told-2
-enum-told-2 c = search needs
 
 returns : tie.Need-returns
 returns c =
@@ -107,18 +77,18 @@ pub fault-at-spec : {M : Type 1} → statement M
 fault-at-spec =
     tie.close
     (tie.spec
-    read-frame-requires
-    enum-known-frame
-    model-fault-requires
-    enum-known-frame-2
-    group-fault-requires
-    enum-known-frame-3
-    point-fault-requires
+    (λ c κs. search needs)
+    (λ c. search needs)
+    (λ c κs. search needs)
+    (λ c. search needs)
+    (λ c κs. search needs)
+    (λ c. search needs)
+    (λ c κs. search needs)
     enum-told
-    innermost-requires
+    (λ c κs. search needs)
     word-of-requires
-    end-fault-requires
-    enum-told-2
+    (λ c κs. search needs)
+    (λ c. search needs)
     returns
     returns-2
     returns-3

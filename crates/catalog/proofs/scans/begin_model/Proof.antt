@@ -8,9 +8,6 @@ use borrow.Author.Needs.{needs}
 use Rattle.catalog.proofs.scans.begin_model.Statement.{statement}
 use Rattle.catalog.proofs.scans.begin_model.Tie as tie
 
-word-of-requires : tie.Need-word-of-requires
-word-of-requires c κs = search needs
-
 returns : tie.Need-returns
 returns c =
     let a = c .before .before .before .args in
@@ -21,18 +18,6 @@ returns c =
       kept = marks.marks-none _ _ _ (λ n. refl);
       counts = rw other refl;
     }
-
-word-of-requires-2 : tie.Need-word-of-requires-2
-word-of-requires-2 c κs = search needs
-
-mark-requires : tie.Need-mark-requires
-mark-requires c κs = search needs
-
-take-numbers-out-requires : tie.Need-take-numbers-out-requires
-take-numbers-out-requires c κs = search needs
-
-add-first-uncounted : tie.Need-add-first-uncounted
-add-first-uncounted c = search needs
 
 first-uncounted-requires : tie.Need-first-uncounted-requires
 first-uncounted-requires c κs =
@@ -61,11 +46,11 @@ pub begin-model-spec : {M : Type 1} → statement M
 begin-model-spec =
     tie.close
     (tie.spec
-    word-of-requires
+    (λ c κs. search needs)
     returns
-    word-of-requires-2
-    mark-requires
-    take-numbers-out-requires
-    add-first-uncounted
+    (λ c κs. search needs)
+    (λ c κs. search needs)
+    (λ c κs. search needs)
+    (λ c. search needs)
     first-uncounted-requires
     returns-2)

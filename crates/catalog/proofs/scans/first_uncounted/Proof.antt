@@ -5,15 +5,6 @@ use borrow.Author.Needs.{needs}
 use Rattle.catalog.proofs.scans.first_uncounted.Statement.{statement}
 use Rattle.catalog.proofs.scans.first_uncounted.Tie as tie
 
-mark-run-requires : tie.Need-mark-run-requires
-mark-run-requires c κs = search needs
-
-first-stop-requires : tie.Need-first-stop-requires
-first-stop-requires c κs = search needs
-
-mark-run-requires-2 : tie.Need-mark-run-requires-2
-mark-run-requires-2 c κs = search needs
-
 returns : tie.Need-returns
 returns c =
     let blank = c .before .before .before .before .before .before .before .pre .1 in
@@ -24,4 +15,4 @@ returns c =
 pub first-uncounted-spec : {M : Type 1} → statement M
 first-uncounted-spec =
     tie.close
-    (tie.spec mark-run-requires first-stop-requires mark-run-requires-2 returns)
+    (tie.spec (λ c κs. search needs) (λ c κs. search needs) (λ c κs. search needs) returns)

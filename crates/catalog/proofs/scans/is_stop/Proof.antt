@@ -5,17 +5,11 @@ use Rattle.catalog_frames.specs.Frames.{countByPoint}
 use Rattle.catalog.proofs.scans.is_stop.Statement.{statement}
 use Rattle.catalog.proofs.scans.is_stop.Tie as tie
 
-word-of-requires : tie.Need-word-of-requires
-word-of-requires c κs = search needs
-
 returns : tie.Need-returns
 returns c = rw (← c .before .word-of .ensures, eq-eqb _ 1 (c .if1 .taken))
 
 returns-2 : tie.Need-returns-2
 returns-2 c = rw (← c .before .before .word-of .ensures, ne-eqb _ 1 (c .before .if1 .left), ne-eqb _ 2 (c .if2 .taken))
-
-word-of-requires-2 : tie.Need-word-of-requires-2
-word-of-requires-2 c κs = search needs
 
 returns-3 : tie.Need-returns-3
 returns-3 c =
@@ -26,12 +20,6 @@ returns-3 c =
       ← c .before .word-of2 .ensures,
       ne-eqb _ countByPoint (c .if3 .taken),
     )
-
-word-of-requires-3 : tie.Need-word-of-requires-3
-word-of-requires-3 c κs = search needs
-
-is-in-requires : tie.Need-is-in-requires
-is-in-requires c κs = search needs
 
 returns-4 : tie.Need-returns-4
 returns-4 c =
@@ -49,11 +37,11 @@ pub is-stop-spec : {M : Type 1} → statement M
 is-stop-spec =
     tie.close
     (tie.spec
-    word-of-requires
+    (λ c κs. search needs)
     returns
     returns-2
-    word-of-requires-2
+    (λ c κs. search needs)
     returns-3
-    word-of-requires-3
-    is-in-requires
+    (λ c κs. search needs)
+    (λ c κs. search needs)
     returns-4)

@@ -6,9 +6,6 @@ use borrow.Author.Needs.{needs}
 use Rattle.catalog.proofs.scans.mark_number.Statement.{statement}
 use Rattle.catalog.proofs.scans.mark_number.Tie as tie
 
-word-of-requires : tie.Need-word-of-requires
-word-of-requires c κs = search needs
-
 returns : tie.Need-returns
 returns c =
     let kind = c .before .word-of in
@@ -20,12 +17,6 @@ returns-2 c =
     let kind = c .before .before .word-of in
     let low = le-leb 2 (kind .result) (omega (arith, c .before .if1 .left)) in
     marks.marks-none _ _ _ (λ n. rw (← kind .ensures, low, lt-leb _ _ (c .if2 .taken)))
-
-word-of-requires-2 : tie.Need-word-of-requires-2
-word-of-requires-2 c κs = search needs
-
-mark-requires : tie.Need-mark-requires
-mark-requires c κs = search needs
 
 returns-3 : tie.Need-returns-3
 returns-3 c =
@@ -39,4 +30,4 @@ returns-3 c =
 pub mark-number-spec : {M : Type 1} → statement M
 mark-number-spec =
     tie.close
-    (tie.spec word-of-requires returns returns-2 word-of-requires-2 mark-requires returns-3)
+    (tie.spec (λ c κs. search needs) returns returns-2 (λ c κs. search needs) (λ c κs. search needs) returns-3)

@@ -9,21 +9,12 @@ use borrow.Author.Needs.{needs}
 use Rattle.catalog.proofs.scans.mark_point.Statement.{statement}
 use Rattle.catalog.proofs.scans.mark_point.Tie as tie
 
-is-of-kind-requires : tie.Need-is-of-kind-requires
-is-of-kind-requires c κs = search needs
-
 returns : tie.Need-returns
 returns c =
     let a = c .before .before .before .args in
     let p = pointWords (a .catalog .now) (a .j) in
     let other = sym (c .before .is-of-kind .ensures) ∙ not-true _ (c .if1 .taken) in
     marks.marks-none _ _ _ (λ n. laws.other-kind (a .target) n p other)
-
-word-of-requires : tie.Need-word-of-requires
-word-of-requires c κs = search needs
-
-mark-requires : tie.Need-mark-requires
-mark-requires c κs = search needs
 
 returns-2 : tie.Need-returns-2
 returns-2 c =
@@ -37,4 +28,4 @@ returns-2 c =
 pub mark-point-spec : {M : Type 1} → statement M
 mark-point-spec =
     tie.close
-    (tie.spec is-of-kind-requires returns word-of-requires mark-requires returns-2)
+    (tie.spec (λ c κs. search needs) returns (λ c κs. search needs) (λ c κs. search needs) returns-2)

@@ -23,24 +23,12 @@ abbrev μ-loop : tie.MeasureT-loop
 loop-holds : tie.Need-loop-holds Inv-loop μ-loop
 loop-holds c = λ after m. m
 
-word-of-requires : tie.Need-word-of-requires Inv-loop μ-loop
-word-of-requires c κs = search needs
-
 returns : tie.Need-returns Inv-loop μ-loop
 returns c =
     let l = c .before .before .before .loop in
     let a = c .before .before .before .before .before .args in
     let ends = run-ends (a .catalog .now) (l .j) _ (omega arith) (c .before .word-of .ensures) (c .if1 .taken) in
     l .inv _ (marks.marks-none _ _ _ (λ n. laws.no-run (a .catalog .now) (l .j) (a .target) n ends))
-
-mark-point-requires : tie.Need-mark-point-requires Inv-loop μ-loop
-mark-point-requires c κs = search needs
-
-add-j : tie.Need-add-j Inv-loop μ-loop
-add-j c = search needs
-
-loop-less : tie.Need-loop-less Inv-loop μ-loop
-loop-less c = search needs
 
 loop-again : tie.Need-loop-again Inv-loop μ-loop
 loop-again c =
@@ -67,10 +55,10 @@ mark-run-spec =
     Inv-loop
     μ-loop
     loop-holds
-    word-of-requires
+    (λ c κs. search needs)
     returns
-    mark-point-requires
-    add-j
-    loop-less
+    (λ c κs. search needs)
+    (λ c. search needs)
+    (λ c. search needs)
     loop-again
     returns-2)

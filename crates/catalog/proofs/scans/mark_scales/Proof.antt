@@ -5,24 +5,12 @@ use borrow.Author.Needs.{needs}
 use Rattle.catalog.proofs.scans.mark_scales.Statement.{statement}
 use Rattle.catalog.proofs.scans.mark_scales.Tie as tie
 
-word-of-requires : tie.Need-word-of-requires
-word-of-requires c κs = search needs
-
 returns : tie.Need-returns
 returns c = marks.marks-none _ _ _ (λ n. rw (← c .before .word-of .ensures, eq-eqb _ _ (c .if1 .taken)))
-
-mark-run-requires : tie.Need-mark-run-requires
-mark-run-requires c κs = search needs
 
 returns-2 : tie.Need-returns-2
 returns-2 c =
     rw (← c .before .before .before .before .word-of .ensures, c .before .before .if2 .taken) (c .mark-run .ensures)
-
-add-mark-run : tie.Need-add-mark-run
-add-mark-run c = search needs
-
-mark-run-requires-2 : tie.Need-mark-run-requires-2
-mark-run-requires-2 c κs = search needs
 
 returns-3 : tie.Need-returns-3
 returns-3 c =
@@ -34,10 +22,10 @@ pub mark-scales-spec : {M : Type 1} → statement M
 mark-scales-spec =
     tie.close
     (tie.spec
-    word-of-requires
+    (λ c κs. search needs)
     returns
-    mark-run-requires
+    (λ c κs. search needs)
     returns-2
-    add-mark-run
-    mark-run-requires-2
+    (λ c. search needs)
+    (λ c κs. search needs)
     returns-3)

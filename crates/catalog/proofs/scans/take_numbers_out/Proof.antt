@@ -25,15 +25,6 @@ loop-holds c =
     let none = a .first - a .first in
     (search needs, search needs, marks.marks-none _ _ _ (λ n. number-nowhere (a .catalog .now) (a .first) n none (omega arith)))
 
-mark-number-requires : tie.Need-mark-number-requires Inv-loop μ-loop
-mark-number-requires c κs = search needs
-
-add-j : tie.Need-add-j Inv-loop μ-loop
-add-j c = search needs
-
-loop-less : tie.Need-loop-less Inv-loop μ-loop
-loop-less c = search needs
-
 loop-again : tie.Need-loop-again Inv-loop μ-loop
 loop-again c =
     let l = c .before .before .before .loop in
@@ -54,4 +45,4 @@ returns c =
 pub take-numbers-out-spec : {M : Type 1} → statement M
 take-numbers-out-spec =
     tie.close
-    (tie.spec Inv-loop μ-loop loop-holds mark-number-requires add-j loop-less loop-again returns)
+    (tie.spec Inv-loop μ-loop loop-holds (λ c κs. search needs) (λ c. search needs) (λ c. search needs) loop-again returns)

@@ -6,22 +6,10 @@ use borrow.Author.Needs.{needs}
 use Rattle.catalog.proofs.state.after.Statement.{statement}
 use Rattle.catalog.proofs.state.after.Tie as tie
 
-word-of-requires : tie.Need-word-of-requires
-word-of-requires c κs = search needs
-
-add-opened : tie.Need-add-opened
-add-opened c = search needs
-
 opened-requires : tie.Need-opened-requires
 opened-requires c κs =
     let kind = c .before .before .word-of .ensures in
     (search needs, c .before .before .before .before .pre .1 .opens (omega (arith, kind, c .before .match .keys1)))
-
-word-of-requires-2 : tie.Need-word-of-requires-2
-word-of-requires-2 c κs = search needs
-
-is-fill-in-requires : tie.Need-is-fill-in-requires
-is-fill-in-requires c κs = search needs
 
 opened-requires-2 : tie.Need-opened-requires-2
 opened-requires-2 c κs =
@@ -53,11 +41,11 @@ pub after-spec : {M : Type 1} → statement M
 after-spec =
     tie.close
     (tie.spec
-    word-of-requires
-    add-opened
+    (λ c κs. search needs)
+    (λ c. search needs)
     opened-requires
-    word-of-requires-2
-    is-fill-in-requires
+    (λ c κs. search needs)
+    (λ c κs. search needs)
     opened-requires-2
     ended-requires
     returns
