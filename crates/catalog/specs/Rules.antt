@@ -7,11 +7,9 @@ use lib.Dec.{eqb, leb, ltb}
 use lib.ListN.{length}
 use Rattle.lists.specs.Members.{among}
 use Rattle.lists.specs.Tests.{oneHolds, firstBroken}
-use Rattle.point_types.specs.Rows.{mayScale}
-use Rattle.values.specs.Classes.{twosComplement, isScaleFactor}
-use Rattle.catalog_frames.specs.Frames.{Point, Head, Frame, modelFrame, groupFrame, pointFrame, endFrame, malformed, noScale}
-use Rattle.catalog_frames.specs.Frames.{fixedScale, scaleByPoint, constantCount, countByPoint, fill, uint16, sunssf, readOnly}
-use Rattle.frame_rules.specs.FrameTests.{isMistyped}
+use Rattle.catalog_frames.specs.Frames.{Point, Head, Frame, modelFrame, groupFrame, pointFrame, endFrame, malformed}
+use Rattle.catalog_frames.specs.Frames.{uint16, sunssf, readOnly}
+use Rattle.frame_rules.specs.FrameTests.{isMistyped, scaleTests, countTests}
 use Rattle.catalog.specs.State.{OpenGroup, State}
 
 -- ---- What the rules look at (where a rule behind 4 needs an open model, 4 has decided without one)
@@ -116,13 +114,7 @@ isMisnumbered s malformed = false
 
 -- 8, clause by clause, of a point and the points in its reach.
 abbrev pub scaleFaults : List Point → Point → List Bool
-scaleFaults reach p =
-    ltb 2 (p .scaleKind)
-    ∷ (eqb (p .scaleKind) noScale && not (eqb (p .scale) 0))
-    ∷ (not (eqb (p .scaleKind) noScale) && not (mayScale (p .typeCode)))
-    ∷ (eqb (p .scaleKind) fixedScale && not (isScaleFactor (twosComplement 16 (p .scale))))
-    ∷ (eqb (p .scaleKind) scaleByPoint && not (hasScaleFactor (p .scale) reach))
-    ∷ []
+scaleFaults reach p = scaleTests (hasScaleFactor (p .scale) reach) p
 
 -- 8: a scale kind over 2; no scale factor but word 5 not 0; a scale factor on a type that may not carry one; a fixed one outside
 -- −10 to 10; a reference that no sunssf point in reach answers.
@@ -135,13 +127,7 @@ isMisscaled s ahead malformed = false
 
 -- 9, clause by clause, of a group: `top` is the points of the top group, `direct` whether the group stands directly in it.
 abbrev pub countFaults : List Point → Bool → Head → List Bool
-countFaults top direct h =
-    ltb 2 (h .countKind)
-    ∷ (eqb (h .countKind) constantCount && eqb (h .count) 0)
-    ∷ (eqb (h .countKind) countByPoint && not (hasCountPoint (h .count) top))
-    ∷ (eqb (h .countKind) fill && not direct)
-    ∷ (eqb (h .countKind) fill && not (eqb (h .count) 0))
-    ∷ []
+countFaults top direct h = countTests (hasCountPoint (h .count) top) direct h
 
 -- 9: a count kind over 2; a constant 0; a count point that is no uint16 R point directly in the top group; fill outside the top
 -- group, or with word 4 not 0.

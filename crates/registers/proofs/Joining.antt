@@ -73,6 +73,11 @@ pub shown : (rs : List ℕ) → length rs ≤ 4 → shownRaw rs ≡ join rs
 unfolding shownRaw
 shown rs h = simp (shownRaw, le-leb _ _ h)
 
+-- More than four are shown as 0.
+pub not-shown : (rs : List ℕ) → 4 < length rs → shownRaw rs ≡ 0
+unfolding shownRaw
+not-shown rs h = simp (shownRaw, lt-leb _ _ h)
+
 -- The first k registers of k or more hold a pattern of k registers.
 pub first-fit : (rs : List ℕ) (k raw : ℕ) → k ≤ length rs → raw < 65536 ^ length (take k rs) → raw < 2 ^ (16 * k)
 first-fit rs k raw h l = rw (← sixteen-each k) (rw (length-take-le k rs h) at l)

@@ -1,7 +1,9 @@
 -- `part`: what is left behind the start decides.
+use mathlib.Core.Path.{ap}
 use native.Mathlib.Nat.{add-sub-cancel-left}
 use native.Mathlib.Omega.{arith}
 use borrow.Author.Needs.{needs}
+use lib.ListN.{take, drop}
 use Rattle.registers.proofs.RegisterParts.{part-behind, part-rest}
 use Rattle.registers.proofs.part.Statement.{statement}
 use Rattle.registers.proofs.part.Tie as tie
@@ -16,9 +18,14 @@ returns-2 c =
     let a = c .before .before .before .args in
     part-rest (a .registers .now) (a .start) (a .count) (c .before .if2 .taken)
 
+returns-3 : tie.Need-returns-3
+returns-3 c =
+    let a = c .before .before .before .args in
+    ap (λ n. take n (drop (a .start) (a .registers .now))) (add-sub-cancel-left (a .start) (a .count))
+
 pub part-spec : {M : Type 1} → statement M
 part-spec =
     tie.close
     (tie.spec (λ c. search needs) returns (λ c. search needs) (λ c. search needs) (λ c. search needs) (λ c. search needs)
     (λ c. search needs) returns-2 (λ c. search needs) (λ c. search needs) (λ c. search needs) (λ c. search needs)
-    (λ c. search needs) (λ c. rw add-sub-cancel-left))
+    (λ c. search needs) returns-3)

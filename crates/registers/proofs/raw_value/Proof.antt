@@ -7,7 +7,7 @@ use borrow.Author.Needs.{needs}
 use borrow.Author.Tests.{le-leb, lt-leb}
 use lib.ListN.{length, drop}
 use Rattle.registers.specs.Registers.{join, shownRaw}
-use Rattle.registers.proofs.Joining.{join-start, join-step, join-end, one-more, room, positive}
+use Rattle.registers.proofs.Joining.{join-start, join-step, join-end, not-shown, one-more, room, positive}
 use Rattle.registers.proofs.raw_value.Statement.{statement}
 use Rattle.registers.proofs.raw_value.Tie as tie
 
@@ -22,8 +22,10 @@ abbrev μ-loop : tie.MeasureT-loop
 μ-loop registers raw₀ left₀ raw left = left
 
 returns : tie.Need-returns Inv-loop μ-loop
-unfolding shownRaw
-returns c = (simp (shownRaw, lt-leb _ _ (c .if1 .taken)), positive (length (c .before .before .args .registers .now)))
+returns c =
+    let rs = c .before .before .args .registers .now in
+    let long : 4 < length rs = omega (arith, c .if1 .taken) in
+    (sym (not-shown rs long), positive (length rs))
 
 loop-holds : tie.Need-loop-holds Inv-loop μ-loop
 loop-holds c =
