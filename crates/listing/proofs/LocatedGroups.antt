@@ -96,13 +96,28 @@ total-size : (count : Head → ℕ) (h : Head) (ps : List Point) (inside behind 
 unfolding measured
 total-size count h ps inside behind = refl
 
-module _ {ws table : List ℕ} {fill levels frame offset : ℕ} (asks : LocateAsks ws table fill levels frame offset) {h : Head}
-    (e : headOf (frameIn ws frame) ≡ some h) {r : Shape} (shape : ShapeOf ws (countOf (scopeIn table) fill) h frame r) where
+-- The search is at a group with a head and a shape.
+pub record AtGroup (ws table : List ℕ) (fill levels frame offset : ℕ) (h : Head) (r : Shape) : Type 0 where
+  pub asks : LocateAsks ws table fill levels frame offset
+  pub head : headOf (frameIn ws frame) ≡ some h
+  pub shape : ShapeOf ws (countOf (scopeIn table) fill) h frame r
+
+module _ {ws table : List ℕ} {fill levels frame offset : ℕ} {h : Head} {r : Shape}
+    (there : AtGroup ws table fill levels frame offset h r) where
+  abbrev asks : LocateAsks ws table fill levels frame offset
+  asks = there .asks
+
+  abbrev e : headOf (frameIn ws frame) ≡ some h
+  e = there .head
+
+  abbrev shape : ShapeOf ws (countOf (scopeIn table) fill) h frame r
+  shape = there .shape
+
   abbrev at : AtGroups ws frame levels
-  at = asks .standing
+  at = there .asks .standing
 
   abbrev few : levels ≤ 3
-  few = asks .atMost3
+  few = there .asks .atMost3
 
   abbrev count : Head → ℕ
   count = countOf (scopeIn table) fill

@@ -18,6 +18,7 @@ use Rattle.definition_frames.specs.Answers.{groupOrForm}
 use Rattle.listing.specs.Answers.{locatedForm}
 use Rattle.listing.specs.Promises.{LocateAsks}
 use Rattle.listing.proofs.LocatedGroups as steps
+use Rattle.listing.proofs.LocatedGroups.{AtGroup}
 use Rattle.listing.proofs.locating.locate_groups.Reads as reads
 use Rattle.listing.proofs.locating.locate_groups.Kinds as kinds
 use Rattle.listing.proofs.locating.+locate_groups.Lts-locate_groups as lts
@@ -72,10 +73,18 @@ module _ (t : ℕ) where
   abbrev AtNumber : Type 0
   AtNumber = lts.After-number-at (known t) (asked t) reads.Post Inv-loop μ-loop
 
-  -- The head of the group.
-  head-there : (c : AtShape)
-      → headOf (frameIn (c .before .before .before .before .before .before .before .before .before .before .args .catalog .now) (c .before .before .before .before .before .before .before .loop .at .frame)) ≡ some (headForm (c .before .before .next .given .0 .0))
-  head-there c = sym (c .before .before .before .before .group-at .ensures) ∙ ap groupOrForm (c .before .before .next .given .1)
+  -- The search is at this group.
+  there : (c : AtShape)
+      → let a = c .before .before .before .before .before .before .before .before .before .before .args in
+      let at = c .before .before .before .before .before .before .before .loop .at in
+      AtGroup (a .catalog .now) (a .table .now) (a .fill) (a .levels) (at .frame) (at .offset)
+      (headForm (c .before .before .next .given .0 .0)) (c .shape-of .result)
+  there c =
+      record {
+        asks = c .before .before .before .before .before .before .before .loop .inv .0;
+        head = sym (c .before .before .before .before .group-at .ensures) ∙ ap groupOrForm (c .before .before .next .given .1);
+        shape = c .shape-of .ensures;
+      }
 
   loop-holds : lts.Need-loop-holds (known t) (asked t) reads.Post Inv-loop μ-loop
   loop-holds c = (c .before .before .pre .1 .0, refl, refl)
@@ -105,96 +114,103 @@ module _ (t : ℕ) where
 
   mul-locate-own : lts.Need-mul-locate-own (known t) (asked t) reads.Post Inv-loop μ-loop
   mul-locate-own c =
-      let a = c .before .before .before .before .before .before .before .before .before .before .before .before .before .before .before .args in
-      let l : c .before .before .before .before .number-at .result < c .before .before .before .before .before .shape-of .result .count = omega (arith, c .before .before .if2) in
+      let here = c .before .before .before .before in
+      let a = here .before .before .before .before .before .before .before .before .before .before .before .args in
+      let l : here .number-at .result < here .before .shape-of .result .count = omega (arith, c .before .before .if2) in
       omega (
         arith,
-        steps.instance-within (c .before .before .before .before .before .before .before .before .before .before .before .before .loop .inv .0) (head-there (c .before .before .before .before .before)) (c .before .before .before .before .before .shape-of .ensures) (a .key .number) (a .key .path .instances)
-            (at-number (c .before .before .before .before)) l,
+        steps.instance-within (there (here .before)) (a .key .number) (a .key .path .instances)
+            (at-number here) l,
       )
 
   add-locate-own : lts.Need-add-locate-own (known t) (asked t) reads.Post Inv-loop μ-loop
   add-locate-own c =
-      let a = c .before .before .before .before .before .before .before .before .before .before .before .before .before .before .before .before .args in
-      let l : c .before .before .before .before .before .number-at .result < c .before .before .before .before .before .before .shape-of .result .count = omega (arith, c .before .before .before .if2) in
+      let here = c .before .before .before .before .before in
+      let a = here .before .before .before .before .before .before .before .before .before .before .before .args in
+      let l : here .number-at .result < here .before .shape-of .result .count = omega (arith, c .before .before .before .if2) in
       omega (
         arith,
-        steps.instance-within (c .before .before .before .before .before .before .before .before .before .before .before .before .before .loop .inv .0) (head-there (c .before .before .before .before .before .before)) (c .before .before .before .before .before .before .shape-of .ensures) (a .key .number) (a .key .path .instances)
-            (at-number (c .before .before .before .before .before)) l,
+        steps.instance-within (there (here .before)) (a .key .number) (a .key .path .instances)
+            (at-number here) l,
       )
 
   add-locate-groups-2 : lts.Need-add-locate-groups-2 (known t) (asked t) reads.Post Inv-loop μ-loop
   add-locate-groups-2 c =
-      let a = c .before .before .before .before .before .before .before .before .before .before .before .before .before .before .before .before .before .before .args in
-      let l : c .before .before .before .before .before .before .before .number-at .result < c .before .before .before .before .before .before .before .before .shape-of .result .count = omega (arith, c .before .before .before .before .before .if2) in
+      let here = c .before .before .before .before .before .before .before in
+      let a = here .before .before .before .before .before .before .before .before .before .before .before .args in
+      let l : here .number-at .result < here .before .shape-of .result .count = omega (arith, c .before .before .before .before .before .if2) in
       omega (
         arith,
-        steps.own-within (c .before .before .before .before .before .before .before .before .before .before .before .before .before .before .before .loop .inv .0) (head-there (c .before .before .before .before .before .before .before .before)) (c .before .before .before .before .before .before .before .before .shape-of .ensures) (a .key .number) (a .key .path .instances)
-            (at-number (c .before .before .before .before .before .before .before)) l,
+        steps.own-within (there (here .before)) (a .key .number) (a .key .path .instances)
+            (at-number here) l,
       )
 
   sub-locate-own : lts.Need-sub-locate-own (known t) (asked t) reads.Post Inv-loop μ-loop
   sub-locate-own c =
-      steps.level-left (c .before .before .before .before .before .before .before .before .before .before .before .before .before .before .before .loop .inv .0) (head-there (c .before .before .before .before .before .before .before .before)) (c .before .before .before .before .before .before .before .before .shape-of .ensures)
+      steps.level-left (there (c .before .before .before .before .before .before .before .before))
 
   locate-own-requires : lts.Need-locate-own-requires (known t) (asked t) reads.Post Inv-loop μ-loop
   locate-own-requires c κs =
-      let a = c .before .before .before .before .before .before .before .before .before .before .before .before .before .before .before .before .before .before .args in
-      let l : c .before .before .before .before .before .before .before .number-at .result < c .before .before .before .before .before .before .before .before .shape-of .result .count = omega (arith, c .before .before .before .before .before .if2) in
-      let asks = c .before .before .before .before .before .before .before .before .before .before .before .before .before .before .before .loop .inv .0 in (
-        (steps.own-stands (c .before .before .before .before .before .before .before .before .before .before .before .before .before .before .before .loop .inv .0) (head-there (c .before .before .before .before .before .before .before .before)) (c .before .before .before .before .before .before .before .before .shape-of .ensures), asks .standing .few),
+      let here = c .before .before .before .before .before .before .before in
+      let a = here .before .before .before .before .before .before .before .before .before .before .before .args in
+      let l : here .number-at .result < here .before .shape-of .result .count = omega (arith, c .before .before .before .before .before .if2) in
+      let asks = here .before .before .before .before .before .before .before .before .loop .inv .0 in (
+        (steps.own-stands (there (here .before)), asks .standing .few),
         (
-          steps.own-within (c .before .before .before .before .before .before .before .before .before .before .before .before .before .before .before .loop .inv .0) (head-there (c .before .before .before .before .before .before .before .before)) (c .before .before .before .before .before .before .before .before .shape-of .ensures) (a .key .number) (a .key .path .instances)
-              (at-number (c .before .before .before .before .before .before .before)) l,
+          steps.own-within (there (here .before)) (a .key .number) (a .key .path .instances)
+              (at-number here) l,
           omega (arith, asks .atMost3),
-          c .before .before .before .before .before .before .before .before .before .before .before .before .before .before .before .before .before .before .pre .1 .1,
+          here .before .before .before .before .before .before .before .before .before .before .before .pre .1 .1,
         ),
       )
 
   returns : lts.Need-returns (known t) (asked t) reads.Post Inv-loop μ-loop
   returns c =
-      let a = c .before .before .before .before .before .before .before .before .before .before .before .before .before .before .before .before .before .before .before .before .before .before .args in
-      let l : c .before .before .before .before .before .before .before .before .before .before .before .number-at .result < c .before .before .before .before .before .before .before .before .before .before .before .before .shape-of .result .count = omega (arith, c .before .before .before .before .before .before .before .before .before .if2) in
+      let here = c .before .before .before .before .before .before .before .before .before .before .before in
+      let a = here .before .before .before .before .before .before .before .before .before .before .before .args in
+      let l : here .number-at .result < here .before .shape-of .result .count = omega (arith, c .before .before .before .before .before .before .before .before .before .if2) in
       let e = sym (c .before .before .before .locate-own .ensures) ∙ ap locatedForm (c .before .found .given .1) in
-      steps.found-own (c .before .before .before .before .before .before .before .before .before .before .before .before .before .before .before .before .before .before .before .loop .inv .0) (head-there (c .before .before .before .before .before .before .before .before .before .before .before .before)) (c .before .before .before .before .before .before .before .before .before .before .before .before .shape-of .ensures) (a .key .number) (a .key .path .instances)
-      (at-number (c .before .before .before .before .before .before .before .before .before .before .before)) l e ∙ c .before .before .before .before .before .before .before .before .before .before .before .before .before .before .before .before .before .before .before .loop .inv .1
+      steps.found-own (there (here .before)) (a .key .number) (a .key .path .instances)
+      (at-number here) l e ∙ here .before .before .before .before .before .before .before .before .loop .inv .1
 
   enum-told : lts.Need-enum-told (known t) (asked t) reads.Post Inv-loop μ-loop
   enum-told c = search needs
 
   sub-locate-groups : lts.Need-sub-locate-groups (known t) (asked t) reads.Post Inv-loop μ-loop
   sub-locate-groups c =
-      steps.level-left (c .before .before .before .before .before .before .before .before .before .before .before .before .before .before .before .before .before .before .loop .inv .0) (head-there (c .before .before .before .before .before .before .before .before .before .before .before)) (c .before .before .before .before .before .before .before .before .before .before .before .shape-of .ensures)
+      steps.level-left (there (c .before .before .before .before .before .before .before .before .before .before .before))
 
   locate-groups-requires : lts.Need-locate-groups-requires (known t) (asked t) reads.Post Inv-loop μ-loop
   locate-groups-requires c κs =
-      let a = c .before .before .before .before .before .before .before .before .before .before .before .before .before .before .before .before .before .before .before .before .before .args in
-      let l : c .before .before .before .before .before .before .before .before .before .before .number-at .result < c .before .before .before .before .before .before .before .before .before .before .before .shape-of .result .count = omega (arith, c .before .before .before .before .before .before .before .before .if2) in
-      let z = steps.level-left (c .before .before .before .before .before .before .before .before .before .before .before .before .before .before .before .before .before .before .loop .inv .0) (head-there (c .before .before .before .before .before .before .before .before .before .before .before)) (c .before .before .before .before .before .before .before .before .before .before .before .shape-of .ensures) in (
-        omega (arith, z, c .before .before .before .before .before .before .before .before .before .before .before .before .before .before .before .before .before .before .before .before .before .pre .0),
+      let here = c .before .before .before .before .before .before .before .before .before .before in
+      let a = here .before .before .before .before .before .before .before .before .before .before .before .args in
+      let l : here .number-at .result < here .before .shape-of .result .count = omega (arith, c .before .before .before .before .before .before .before .before .if2) in
+      let z = steps.level-left (there (here .before)) in (
+        omega (arith, z, here .before .before .before .before .before .before .before .before .before .before .before .pre .0),
         (
-          steps.lower-asks (c .before .before .before .before .before .before .before .before .before .before .before .before .before .before .before .before .before .before .loop .inv .0) (head-there (c .before .before .before .before .before .before .before .before .before .before .before)) (c .before .before .before .before .before .before .before .before .before .before .before .shape-of .ensures) (a .key .number) (a .key .path .instances)
-              (at-number (c .before .before .before .before .before .before .before .before .before .before)) l,
-          c .before .before .before .before .before .before .before .before .before .before .before .before .before .before .before .before .before .before .before .before .before .pre .1 .1,
+          steps.lower-asks (there (here .before)) (a .key .number) (a .key .path .instances)
+              (at-number here) l,
+          here .before .before .before .before .before .before .before .before .before .before .before .pre .1 .1,
         ),
       )
 
   returns-2 : lts.Need-returns-2 (known t) (asked t) reads.Post Inv-loop μ-loop
   returns-2 c =
-      let a = c .before .before .before .before .before .before .before .before .before .before .before .before .before .before .before .before .before .before .before .before .before .before .before .before .before .args in
-      let l : c .before .before .before .before .before .before .before .before .before .before .before .before .before .before .number-at .result < c .before .before .before .before .before .before .before .before .before .before .before .before .before .before .before .shape-of .result .count = omega (arith, c .before .before .before .before .before .before .before .before .before .before .before .before .if2) in
+      let here = c .before .before .before .before .before .before .before .before .before .before .before .before .before .before in
+      let a = here .before .before .before .before .before .before .before .before .before .before .before .args in
+      let l : here .number-at .result < here .before .shape-of .result .count = omega (arith, c .before .before .before .before .before .before .before .before .before .before .before .before .if2) in
       let e = sym (c .before .before .before .before .before .before .locate-own .ensures) ∙ ap locatedForm (c .before .before .before .before .enum-told .given .1) in
       let f = sym (c .before .before .before .locate-groups .ensures) ∙ ap locatedForm (c .before .found2 .given .1) in
-      steps.found-lower (c .before .before .before .before .before .before .before .before .before .before .before .before .before .before .before .before .before .before .before .before .before .before .loop .inv .0) (head-there (c .before .before .before .before .before .before .before .before .before .before .before .before .before .before .before)) (c .before .before .before .before .before .before .before .before .before .before .before .before .before .before .before .shape-of .ensures) (a .key .number) (a .key .path .instances)
-      (at-number (c .before .before .before .before .before .before .before .before .before .before .before .before .before .before)) l e f ∙ c .before .before .before .before .before .before .before .before .before .before .before .before .before .before .before .before .before .before .before .before .before .before .loop .inv .1
+      steps.found-lower (there (here .before)) (a .key .number) (a .key .path .instances)
+      (at-number here) l e f ∙ here .before .before .before .before .before .before .before .before .loop .inv .1
 
   mul-t21 : lts.Need-mul-t21 (known t) (asked t) reads.Post Inv-loop μ-loop
   mul-t21 c =
-      omega (arith, steps.past-asks (c .before .before .before .before .before .before .before .before .before .before .before .loop .inv .0) (head-there (c .before .before .before .before)) (c .before .before .before .before .shape-of .ensures) .inside)
+      omega (arith, steps.past-asks (there (c .before .before .before .before)) .inside)
 
   add-t26 : lts.Need-add-t26 (known t) (asked t) reads.Post Inv-loop μ-loop
   add-t26 c =
-      omega (arith, steps.past-asks (c .before .before .before .before .before .before .before .before .before .before .before .before .loop .inv .0) (head-there (c .before .before .before .before .before)) (c .before .before .before .before .before .shape-of .ensures) .inside)
+      omega (arith, steps.past-asks (there (c .before .before .before .before .before)) .inside)
 
   loop-less : lts.Need-loop-less (known t) (asked t) reads.Post Inv-loop μ-loop
   loop-less c =
@@ -203,18 +219,19 @@ module _ (t : ℕ) where
 
   loop-again : lts.Need-loop-again (known t) (asked t) reads.Post Inv-loop μ-loop
   loop-again c =
-      let a = c .before .before .before .before .before .before .before .before .before .before .before .before .before .before .before .args in
+      let here = c .before .before .before .before in
+      let a = here .before .before .before .before .before .before .before .before .before .before .before .args in
       let same = ⊎-elim
       (λ w.
-      let l : c .before .before .before .before .number-at .result < c .before .before .before .before .before .shape-of .result .count = omega (arith, w .0) in
-      steps.found-neither (c .before .before .before .before .before .before .before .before .before .before .before .before .loop .inv .0) (head-there (c .before .before .before .before .before)) (c .before .before .before .before .before .shape-of .ensures) (a .key .number) (a .key .path .instances)
-      (at-number (c .before .before .before .before)) l
+      let l : here .number-at .result < here .before .shape-of .result .count = omega (arith, w .0) in
+      steps.found-neither (there (here .before)) (a .key .number) (a .key .path .instances)
+      (at-number here) l
       (sym (w .6 .ensures) ∙ ap locatedForm (w .8 .given .1))
       (sym (w .9 .ensures) ∙ ap locatedForm (w .11 .given .1)))
-      (λ w. steps.goes-past (c .before .before .before .before .before .before .before .before .before .before .before .before .loop .inv .0) (head-there (c .before .before .before .before .before)) (c .before .before .before .before .before .shape-of .ensures) (a .key .number) (a .key .path .instances)
-      (at-number (c .before .before .before .before)) (omega (arith, w)))
+      (λ w. steps.goes-past (there (here .before)) (a .key .number) (a .key .path .instances)
+      (at-number here) (omega (arith, w)))
       (c .before .before .if2 .came) in
-      (steps.past-asks (c .before .before .before .before .before .before .before .before .before .before .before .before .loop .inv .0) (head-there (c .before .before .before .before .before)) (c .before .before .before .before .before .shape-of .ensures), sym same ∙ c .before .before .before .before .before .before .before .before .before .before .before .before .loop .inv .1, refl)
+      (steps.past-asks (there (here .before)), sym same ∙ here .before .before .before .before .before .before .before .before .loop .inv .1, refl)
 
   returns-3 : lts.Need-returns-3 (known t) (asked t) reads.Post Inv-loop μ-loop
   returns-3 c =
