@@ -15,7 +15,7 @@ use group_instances::number_at;
 ghost use mathlib.Core.Path.{_≡_};
 ghost use mathlib.Core.Option.{some};
 ghost use Prim.Native.Nat.{_+_, _-_, _/_, _≤_};
-ghost use lib.ListN.{length, drop, getD};
+ghost use lib.ListN.{length};
 ghost use lib.ListN as Lists;
 ghost use Rattle.catalog_frames.specs.Frames.{frameIn};
 ghost use Rattle.catalog_frames.specs.Forms.{headForm};

@@ -1,17 +1,15 @@
 -- `listing::locating::locate_groups` meets its contract: at each group, the instance or what is past the group decides as all do.
 use mathlib.Core.Path.{_≡_, refl, sym, ap, _∙_}
 use mathlib.Core.Logic.{⊎-elim}
-use mathlib.Core.Option.{some}
 use Prim.Native.Nat.{ℕ, _-_, _/_, _<_}
 use native.Mathlib.Omega.{arith}
 use borrow.Author.Needs.{needs}
 use borrow.Fn.Kinds.{In}
 use borrow.Fn.PlainCycle.{Measures, is, falls, and}
 use lib.ListN.{length, getD}
-use Rattle.catalog_frames.specs.Frames.{frameIn}
 use Rattle.catalog_frames.specs.Forms.{headForm}
 use Rattle.layout.specs.Layout.{countOf}
-use Rattle.layout.specs.Walks.{heldAt, headOf, levelOf, scopeIn}
+use Rattle.layout.specs.Walks.{heldAt, levelOf, scopeIn}
 use Rattle.layout.specs.Locating.{locatedIn}
 use Rattle.layout.proofs.Standing as standing
 use Rattle.definition_frames.specs.Answers.{groupOrForm}
