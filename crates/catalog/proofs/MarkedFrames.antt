@@ -24,7 +24,7 @@ use Rattle.catalog.specs.Rules.{run, hasScaleFactor, isScaleFactorPoint,
 use Rattle.catalog.specs.Answers.{IdFits}
 use Rattle.catalog.specs.Scans.{framesOnward, hasNumber, isModel, numbersBefore, runsOf}
 use Rattle.catalog.specs.Tracking.{Tracks, Opens, modelRules, groupRules, pointRules, endRules, codeRules, runIn}
-use Rattle.catalog.specs.Tracking.{numbersSoFar}
+use Rattle.catalog.specs.Tracking.{codeStart, numbersSoFar}
 use Rattle.catalog.specs.Marks.{Begun, BlankAtModel, Counted, CountsAfter, Indexed, ScalesAfter, inRun, stops}
 use Rattle.catalog.specs.declared.scans.Target.{Target}
 use Rattle.catalog.specs.declared.state.State.{State}
@@ -38,7 +38,7 @@ use Rattle.catalog.proofs.WordScans.{has-either, number-here, scope-mor
 -- Before the first frame.
 pub indexed-start : (ws : List ℕ)
     → Indexed ws (replicate 1024 0) (replicate 1024 0) 0 0
-    (record { models = 0; depth = 0; firsts = 0 ∷ 0 ∷ 0 ∷ 0 ∷ []; «has_group» = false; «has_fill» = false })
+    codeStart
 unfolding numbersBefore runsOf
 indexed-start ws =
     record {

@@ -21,7 +21,7 @@ use Rattle.catalog.specs.State as check
 use Rattle.catalog.specs.State.{OpenGroup, start, next}
 use Rattle.catalog.specs.Rules.{run, noModel, inTop, afterGroup, isMalformed, rules, fault}
 use Rattle.catalog.specs.Scans.{framesOnward, isModel, isNumbered, numbersBefore}
-use Rattle.catalog.specs.Tracking.{Within, Tracks, Opens, Room, aheadOf, numbersSoFar, withOpened, withEnded, stateOf}
+use Rattle.catalog.specs.Tracking.{codeStart, Within, Tracks, Opens, Room, aheadOf, numbersSoFar, withOpened, withEnded, stateOf}
 use Rattle.catalog.specs.declared.state.State.{State}
 use Rattle.catalog.proofs.FrameWords.{eight-back}
 use Rattle.catalog.proofs.OpenGroups.{one-deeper}
@@ -38,7 +38,7 @@ first-alone n b h (suc (suc (suc (suc k)))) = omega arith
 -- Before the first frame.
 pub tracks-start : (ws : List ℕ)
     → Tracks ws (replicate 1024 0) 0
-    (record { models = 0; depth = 0; firsts = 0 ∷ 0 ∷ 0 ∷ 0 ∷ []; «has_group» = false; «has_fill» = false }) start
+    codeStart start
 unfolding numbersBefore
 tracks-start ws =
     record {

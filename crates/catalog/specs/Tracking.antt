@@ -51,6 +51,13 @@ codeRules ws used i c (pointFrame p) = pointRules ws i c p
 codeRules ws used i c endFrame = endRules ws c
 codeRules ws used i c malformed = (true, 3) ∷ []
 
+-- ---- The code's state
+
+-- Before the first frame.
+abbrev pub codeStart : State
+codeStart =
+    record { models = 0; depth = 0; firsts = 0 ∷ 0 ∷ 0 ∷ 0 ∷ []; «has_group» = false; «has_fill» = false }
+
 -- ---- The code's state after frame i
 
 -- With a group opened, which may be the top group of a model.

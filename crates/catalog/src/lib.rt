@@ -22,8 +22,8 @@ use rules::fault_at;
 use scans::begin_model;
 use scans::mark_number;
 use scans::mark_scales;
-use state::State;
 use state::after;
+use state::at_start;
 use state::innermost;
 ghost use mathlib.Core.Path.{_≡_};
 ghost use Prim.Native.Nat.{_/_, _≤_};
@@ -67,13 +67,7 @@ fn check_frames(catalog: &[u16]) -> Checked
     ensures { λ r. ⌜ answer r ≡ framesChecked (now (catalog .entry)) ⌝ }
 {
     let frames = catalog.len() / WORDS;
-    let mut state = State {
-        models: 0,
-        depth: 0,
-        firsts: [0, 0, 0, 0],
-        has_group: false,
-        has_fill: false,
-    };
+    let mut state = at_start();
     let mut ids = [0u64; SET_WORDS];
     let mut numbers = [0u64; SET_WORDS];
     let mut scales = [0u64; SET_WORDS];

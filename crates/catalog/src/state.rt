@@ -11,7 +11,7 @@ ghost use Prim.Native.Nat.{_-_, _/_, _<_, _≤_};
 ghost use lib.Dec.{eqb};
 ghost use lib.ListN.{length, getD};
 ghost use Rattle.catalog_frames.specs.Frames.{word, fill};
-ghost use Rattle.catalog.specs.Tracking.{Room, withOpened, withEnded, stateOf};
+ghost use Rattle.catalog.specs.Tracking.{Room, codeStart, withOpened, withEnded, stateOf};
 
 // The number of models so far, an open one included; the number of open groups, and the first frame inside each, that of
 // the top group first; whether a group is directly in the innermost; whether a fill group is in the top group.
@@ -21,6 +21,19 @@ pub(crate) struct State {
     pub(crate) firsts: [usize; LEVELS],
     pub(crate) has_group: bool,
     pub(crate) has_fill: bool,
+}
+
+// The state before the first frame.
+pub(crate) fn at_start() -> State
+    ensures { λ r. ⌜ r ≡ codeStart ⌝ }
+{
+    State {
+        models: 0,
+        depth: 0,
+        firsts: [0, 0, 0, 0],
+        has_group: false,
+        has_fill: false,
+    }
 }
 
 // The first frame inside the innermost open group. With none open, that of the last top group.

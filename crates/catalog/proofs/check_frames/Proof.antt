@@ -23,9 +23,9 @@ abbrev μ-loop : tie.MeasureT-loop
 
 loop-holds : tie.Need-loop-holds Inv-loop μ-loop
 loop-holds c =
-    let ws = c .before .args .catalog .now in
+    let ws = c .before .before .args .catalog .now in
     let decides : frame.Decides ws _ 0 _ = record { state = start; tracks = tracks-start ws; rest = from-first ws } in
-    (search needs, record { decides = decides; fresh = fresh-start; indexed = indexed-start ws })
+    (search needs, rw (c .at-start .ensures) record { decides = decides; fresh = fresh-start; indexed = indexed-start ws })
 
 fault-at-requires : tie.Need-fault-at-requires Inv-loop μ-loop
 fault-at-requires c κs =
@@ -68,7 +68,7 @@ add-i c =
     let c5 = c .before .before .before .before .before in
     let c10 = c5 .before .before .before .before .before in
     let c15 = c10 .before .before .before .before .before in
-    omega (arith, c15 .loop-test .taken, c15 .before .before .before .pre)
+    omega (arith, c15 .loop-test .taken, c15 .before .before .before .before .pre)
 
 loop-again : tie.Need-loop-again Inv-loop μ-loop
 loop-again c =
@@ -101,6 +101,7 @@ check-frames-spec =
     (tie.spec
     Inv-loop
     μ-loop
+    (λ c κs. search needs)
     loop-holds
     fault-at-requires
     returns
