@@ -80,7 +80,7 @@ list-spec =
     tie.close
     (tie.spec
     slice-aggregate-survey-plant
-    (λ c κs. search needs)
+    (λ c κs. length-replicate {A = ℕ} 65536 0)
     (λ c. search needs)
     (λ c κs. search needs)
     returns

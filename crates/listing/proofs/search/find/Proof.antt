@@ -60,7 +60,7 @@ find-spec =
     tie.close
     (tie.spec
     slice-aggregate-survey-plant
-    (λ c κs. search needs)
+    (λ c κs. length-replicate {A = ℕ} 65536 0)
     enum-told
     (λ c. search needs)
     search-map-requires
