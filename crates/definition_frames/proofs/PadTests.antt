@@ -10,7 +10,7 @@ use Rattle.catalog_frames.specs.Frames.{Point, Head, frameIn}
 use Rattle.model_definitions.specs.Definitions.{pointsSize}
 use Rattle.layout.specs.Reading.{endsWithPad, hasNoGroup, padLeftOut}
 use Rattle.layout.specs.Walks.{heldAt, Stands, headOf}
-use Rattle.layout.proofs.LeftOutPad.{group-behind, no-group-behind}
+use Rattle.layout.proofs.LeftOutPad.{group-after, no-group-after}
 use Rattle.definition_frames.specs.Answers.{PointRun, RunOf, isNone, lacksPad, runForm}
 use Rattle.definition_frames.specs.declared.runs.Run.{Run}
 
@@ -51,5 +51,5 @@ held-pad ws first s r x id len =
     ps = heldAt ws first .points
 
     go : (o : Option Head) → headOf (frameIn ws (r .next)) ≡ o → isNone o ≡ hasNoGroup (heldAt ws first .groups)
-    go none e = sym (no-group-behind ws first (r .next) s (x .next) e)
-    go (some h) e = sym (group-behind ws first (r .next) s (x .next) h e)
+    go none e = sym (no-group-after ws first (r .next) s (x .next) e)
+    go (some h) e = sym (group-after ws first (r .next) s (x .next) h e)

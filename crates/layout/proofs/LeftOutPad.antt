@@ -105,9 +105,9 @@ no-fill c body e = go (c .groups) e
 -- ---- The frame after the points
 
 module _ (ws : List ℕ) (first next : ℕ) (s : Stands ws first) (n : next ≡ first + length (heldAt ws first .points)) where
-  -- Behind the points stands a group frame where there are groups,
-  pub group-behind : (h : Head) → headOf (frameIn ws next) ≡ some h → hasNoGroup (heldAt ws first .groups) ≡ false
-  group-behind h e =
+  -- After the points is a group frame where there are groups,
+  pub group-after : (h : Head) → headOf (frameIn ws next) ≡ some h → hasNoGroup (heldAt ws first .groups) ≡ false
+  group-after h e =
       let r = standing.behind-run ws first s in
       let at = first + length (heldAt ws first .points) in
       let f : headOf (frameIn ws at) ≡ some h = ap (λ i. headOf (frameIn ws i)) (sym n) ∙ e in
@@ -115,8 +115,8 @@ module _ (ws : List ℕ) (first next : ℕ) (s : Stands ws first) (n : next ≡ 
       ap hasNoGroup (sym (r .1) ∙ g)
 
   -- and none where there are none.
-  pub no-group-behind : headOf (frameIn ws next) ≡ none → hasNoGroup (heldAt ws first .groups) ≡ true
-  no-group-behind e =
+  pub no-group-after : headOf (frameIn ws next) ≡ none → hasNoGroup (heldAt ws first .groups) ≡ true
+  no-group-after e =
       let r = standing.behind-run ws first s in
       let at = first + length (heldAt ws first .points) in
       let f : headOf (frameIn ws at) ≡ none = ap (λ i. headOf (frameIn ws i)) (sym n) ∙ e in

@@ -1,6 +1,6 @@
 -- The claims
 pub mod Headers
-pub mod BehindTheEnd
+pub mod PastTheEnd
 pub mod Tiling
 pub mod OneRecord
 pub mod RawValues

@@ -109,16 +109,16 @@ module _ (read : Model → Reading) (ending : Ending) where
                 ∙ ap (λ k. recordOf (index + length (m ∷ o .front)) k (o .own .id) (r .point)) size;
           }
 
-  -- One model, of an index, is read anew, with points that are pairs of its old ones: then so are its records; and where records
+  -- One model, of an index, is read again, with points that are pairs of its old ones: then so are its records; and where records
   -- of another index are pairs of themselves, all records are pairs.
   module _ (R : ModelPoint → ModelPoint → Type 0) (Q : Record → Record → Type 0) (m n : Model) (size : sizeOf n ≡ sizeOf m)
       (ps qs : List ModelPoint) (old : read m ≡ points ps) (new : read n ≡ points qs) (pairs : Pairwise R ps qs)
       (j : ℕ) (others : (r : Record) → (r .index ≡ j → ⊥) → Q r r)
       (own : (x : ℕ) (p q : ModelPoint) → R p q → Q (recordOf j x (m .id) p) (recordOf j x (n .id) q)) where
-    pub records-anew : (front behind : List Model) (index at : ℕ) (rs : List Record) (headers : ℕ) → j ≡ index + length front
+    pub records-replaced : (front behind : List Model) (index at : ℕ) (rs : List Record) (headers : ℕ) → j ≡ index + length front
         → walk read ending index at (front ++ m ∷ behind) ≡ listed rs headers
         → (ss : List Record) × (walk read ending index at (front ++ n ∷ behind) ≡ listed ss headers) × Pairwise Q rs ss
-    records-anew [] behind index at rs headers i e =
+    records-replaced [] behind index at rs headers i e =
         let here : index ≡ j = omega arith in
         let s = records-first index at m behind rs headers e in
         let later : walk read ending (index + 1) (at + sizeOf n) behind ≡ listed (s .0) headers = rw size (s .1) in
@@ -136,9 +136,9 @@ module _ (read : Model → Reading) (ending : Ending) where
               (pairwise-map R Q (recordOf index at (m .id)) (recordOf index at (n .id)) own′ ps qs pairs)
               (pairwise-same Q (s .0) above)),
         )
-    records-anew (f ∷ front) behind index at rs headers i e =
+    records-replaced (f ∷ front) behind index at rs headers i e =
         let s = records-first index at f (front ++ m ∷ behind) rs headers e in
-        let r = records-anew front behind (index + 1) (at + sizeOf f) (s .0) headers (omega arith) (s .1) in
+        let r = records-replaced front behind (index + 1) (at + sizeOf f) (s .0) headers (omega arith) (s .1) in
         let records = map (recordOf index at (f .id)) (pointsOf (read f)) in
         let here : (r : Record) → In r records → Q r r = λ r o.
         let q = in-records index at (f .id) (pointsOf (read f)) r o in

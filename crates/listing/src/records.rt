@@ -87,12 +87,12 @@ pub(crate) fn put_model(
         offset: 0,
         frame: first,
     };
-    let behind_points = put_run(catalog, table, out, visit, body, top, start);
-    if behind_points.offset == body.len() {
-        return behind_points.records;
+    let after_points = put_run(catalog, table, out, visit, body, top, start);
+    if after_points.offset == body.len() {
+        return after_points.records;
     }
     let model = Model { visit, fill };
-    let behind = put_groups(
+    let end = put_groups(
         catalog,
         table,
         out,
@@ -100,9 +100,9 @@ pub(crate) fn put_model(
         body,
         LOWER_LEVELS,
         top,
-        behind_points,
+        after_points,
     );
-    behind.records
+    end.records
 }
 
 // Walks the points of an instance. Ends where the body does, so that a pad that is left out has no record.
@@ -180,7 +180,7 @@ fn put_groups(
     at
 }
 
-// Puts the points of an instance into the table and walks them; they stand behind the group frame.
+// Records the points of an instance in the table and walks them; they are after the group frame.
 fn put_own(
     catalog: &[u16],
     table: &mut [u16],
@@ -196,13 +196,13 @@ fn put_own(
     ensures { λ _. ⌜ now (out .exit) ≡ written visit (at .records) (pointsAt (now (body .entry)) (record { scope = within (now (body .entry)) (at .offset) (heldAt (now (catalog .entry)) (at .frame + 1) .points) (scopeIn (now (table .entry))); path = instance .path .instances }) (at .offset) (heldAt (now (catalog .entry)) (at .frame + 1) .points)) (now (out .entry)) ⌝ }
     ensures { λ _. ⌜ now (table .exit) ≡ noted (now (body .entry)) (at .offset) (heldAt (now (catalog .entry)) (at .frame + 1) .points) (now (table .entry)) ⌝ }
 {
-    let behind = at.frame + 1;
+    let inside = at.frame + 1;
     let first = Progress {
         records: at.records,
         offset: at.offset,
-        frame: behind,
+        frame: inside,
     };
-    note_run(catalog, behind, body, at.offset, table);
+    note_run(catalog, inside, body, at.offset, table);
     put_run(catalog, table, out, visit, body, instance, first)
 }
 

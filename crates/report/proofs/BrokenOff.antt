@@ -8,7 +8,7 @@ use native.Mathlib.Omega.{arith}
 use lib.ListN.{take}
 use Rattle.lists.proofs.TestOutcomes.{impossible}
 use Rattle.listing.specs.Listing.{Record, Answer, refused, listed}
-use Rattle.listed_records.proofs.BehindTheEnd.{listed-behind}
+use Rattle.listed_records.proofs.PastTheEnd.{listed-past-end}
 use Rattle.input.specs.Parsing as Parsing
 use Rattle.input.proofs.CutWords.{Continued, cut-words}
 use Rattle.input.proofs.Refusals.{Outcome, outcome}
@@ -27,7 +27,7 @@ by-whole rs headers Continued.partRefused o e = impossible (cc)
 by-whole rs headers (Continued.badLine place) o e = inr (badLine place)
 by-whole rs headers (Continued.noRoom place) o e = inr (noRoom place)
 by-whole rs headers (Continued.further catalog map more) (Outcome.given c m k eights frames fits) e =
-    inl (listed-behind catalog map more listRoom rs headers e (omega arith))
+    inl (listed-past-end catalog map more listRoom rs headers e (omega arith))
 
 pub broken-off : (input : List ℕ) (n : ℕ) (rs : List Record) (headers : ℕ) → found (take n input) ≡ listed rs headers
     → (found input ≡ listed rs headers) ⊎ RefusedAtLine (found input)

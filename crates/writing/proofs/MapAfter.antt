@@ -24,7 +24,7 @@ use Rattle.listing.specs.Listing.{Record, recordOf, listed, walk, allRecords}
 use Rattle.listing.specs.Finding.{isRecord, targetOf}
 use Rattle.listing.proofs.ListingCases.{records-walk, walk-records}
 use Rattle.listed_records.proofs.WalksBehind.{headers-walked}
-use Rattle.listed_records.proofs.WalkedModels.{records-anew}
+use Rattle.listed_records.proofs.WalkedModels.{records-replaced}
 use Rattle.listed_records.proofs.RecordSources.{record-source, read-with}
 use Rattle.writing.specs.Writing.{refusal, rewritten}
 use Rattle.writing.specs.AfterWriting.{PointAfter, PointBecomes, RecordAfter}
@@ -94,7 +94,7 @@ module _ (catalog map : List ℕ) (rs : List Record) (headers : ℕ)
       ap (λ ms. walk read marked 0 2 ms) (sym (o .stands))
       ∙ ap (λ x. walk read x 0 2 (scan map .models)) (sym ends)
       ∙ walks .walks in
-      let r = records-anew read marked R Q m n size (o .all) qs (o .reads) new (a .2) (w .index) (other-model ds w raw)
+      let r = records-replaced read marked R Q m n size (o .all) qs (o .reads) new (a .2) (w .index) (other-model ds w raw)
       (λ x. own-model ds w raw (d .top) top x (m .id)) (o .front) (o .behind) 0 2 rs headers index old in
       let scanned = scan-anew map (o .front) m (o .behind) (o .made) (p .offset) vs inside (w .address) (o .address) in (
         r .0,

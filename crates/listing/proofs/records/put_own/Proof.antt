@@ -16,8 +16,8 @@ use Rattle.listing.specs.declared.records.Progress.{Progress}
 use Rattle.listing.proofs.records.put_own.Statement.{statement}
 use Rattle.listing.proofs.records.put_own.Tie as tie
 
-add-behind : tie.Need-add-behind
-add-behind c =
+add-inside : tie.Need-add-inside
+add-inside c =
     let s = c .before .before .before .before .before in
     omega (arith, stands-within (s .args .catalog .now) (s .args .at .frame + 1) (s .pre .1 .stands), s .pre .1 .few)
 
@@ -72,4 +72,4 @@ returns c =
 
 pub put-own-spec : {M : Type 1} → statement M
 put-own-spec =
-    tie.close (tie.spec add-behind (λ c κs. search needs) put-run-requires (λ c. search needs) (λ c. search needs) returns)
+    tie.close (tie.spec add-inside (λ c κs. search needs) put-run-requires (λ c. search needs) (λ c. search needs) returns)

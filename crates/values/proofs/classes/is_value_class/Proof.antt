@@ -1,19 +1,25 @@
 -- `is_value_class` meets its contract, class by class.
 use mathlib.Core.Path.{sym, ap}
+use mathlib.Core.Bool.{Bool}
 use borrow.Author.Needs.{needs}
 use Rattle.values.specs.Classes.{ofClass, isValue}
 use Rattle.values.specs.Answers.{classAnswer}
+use Rattle.values.specs.declared.Class.{Class}
 use Rattle.values.proofs.classes.is_value_class.Statement.{statement}
 use Rattle.values.proofs.classes.is_value_class.Tie as tie
 
+-- The contract's right side, of a class of the code.
+abbrev means : Class → Bool
+means class = isValue (ofClass (classAnswer class))
+
 returns : tie.Need-returns
-returns c = sym (ap (λ class. isValue (ofClass (classAnswer class))) (c .enum-told .given .1))
+returns c = sym (ap means (c .enum-told .given .1))
 
 returns-2 : tie.Need-returns-2
-returns-2 c = sym (ap (λ class. isValue (ofClass (classAnswer class))) (c .enum-told2 .given .1))
+returns-2 c = sym (ap means (c .enum-told2 .given .1))
 
 returns-3 : tie.Need-returns-3
-returns-3 c = sym (ap (λ class. isValue (ofClass (classAnswer class))) (c .enum-told3 .given .1))
+returns-3 c = sym (ap means (c .enum-told3 .given .1))
 
 pub is-value-class-spec : {M : Type 1} → statement M
 is-value-class-spec =

@@ -1,4 +1,4 @@
--- Registers behind the end marker count for nothing: the answer is the same without them.
+-- Registers past the end marker do not matter: the answer is the same without them.
 use mathlib.Core.Path.{_≡_, refl, sym, ap, _∙_}
 use mathlib.Core.List.{List, _++_}
 use mathlib.Core.Option.{Option, none, some}
@@ -34,14 +34,14 @@ module _ (catalog map more : List ℕ) (room : ℕ) (ends : scan map .ending ≡
       ∙ sym (accepted-listed catalog map room c)
 
   -- Of a map whose models end at the marker, with at most 65,536 registers (20).
-  pub behind-the-end : listing catalog (map ++ more) room ≡ listing catalog map room
-  behind-the-end = by-verdict (Checking.checked catalog) refl
+  pub past-the-end : listing catalog (map ++ more) room ≡ listing catalog map room
+  past-the-end = by-verdict (Checking.checked catalog) refl
 
 -- So of a map that is listed.
-pub listed-behind : (catalog map more : List ℕ) (room : ℕ) (rs : List Record) (headers : ℕ)
+pub listed-past-end : (catalog map more : List ℕ) (room : ℕ) (rs : List Record) (headers : ℕ)
     → listing catalog map room ≡ listed rs headers
     → length (map ++ more) ≤ 65536
     → listing catalog (map ++ more) room ≡ listed rs headers
-listed-behind catalog map more room rs headers e fits =
+listed-past-end catalog map more room rs headers e fits =
     let ends = headers-walked catalog map (listed-walks catalog map room rs headers e .0) .1 in
-    behind-the-end catalog map more room ends fits ∙ e
+    past-the-end catalog map more room ends fits ∙ e
