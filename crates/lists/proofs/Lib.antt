@@ -1,6 +1,7 @@
 -- Tests
 pub mod TestOutcomes
 pub mod TestLaws
+pub mod FirstBroken
 pub mod EveryLaws
 -- Lists
 pub mod EachLaws

@@ -10,7 +10,7 @@ use Rattle.lists.proofs.TestLaws.{none-broken}
 use Rattle.number_sets.specs.NumberSets.{inSet}
 use Rattle.catalog_frames.specs.Forms.{headForm}
 use Rattle.frame_rules.specs.FrameTests.{groupTests, countTests}
-use Rattle.frame_rules.proofs.FirstBroken.{first-at}
+use Rattle.lists.proofs.FirstBroken.{first-at}
 use Rattle.frame_rules.proofs.group_fault.Statement.{statement}
 use Rattle.frame_rules.proofs.group_fault.Tie as tie
 

@@ -7,7 +7,7 @@ use borrow.Author.Needs.{needs}
 use Rattle.lists.proofs.TestLaws.{none-broken}
 use Rattle.number_sets.specs.NumberSets.{inSet}
 use Rattle.frame_rules.specs.FrameTests.{modelTests}
-use Rattle.frame_rules.proofs.FirstBroken.{first-at}
+use Rattle.lists.proofs.FirstBroken.{first-at}
 use Rattle.frame_rules.proofs.model_fault.Statement.{statement}
 use Rattle.frame_rules.proofs.model_fault.Tie as tie
 

@@ -9,7 +9,7 @@ use Rattle.lists.proofs.TestLaws.{none-broken}
 use Rattle.number_sets.specs.NumberSets.{inSet}
 use Rattle.catalog_frames.specs.Forms.{pointForm}
 use Rattle.frame_rules.specs.FrameTests.{pointTests, scaleTests}
-use Rattle.frame_rules.proofs.FirstBroken.{first-at}
+use Rattle.lists.proofs.FirstBroken.{first-at}
 use Rattle.frame_rules.proofs.point_fault.Statement.{statement}
 use Rattle.frame_rules.proofs.point_fault.Tie as tie
 
