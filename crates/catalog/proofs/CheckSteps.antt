@@ -13,7 +13,7 @@ use Rattle.catalog_frames.specs.Frames.{Frame}
 use Rattle.catalog.specs.State.{State, start, next}
 use Rattle.catalog.specs.Rules.{noModel, run, fault}
 use Rattle.catalog.specs.Checking.{Verdict, accepted, refused, checkFrom, framesChecked, checked}
-use Rattle.catalog.specs.Scans.{framesOnward}
+use Rattle.catalog.specs.InternalScans.{framesOnward}
 
 module _ (ws : List ℕ) where
   -- 1 and 2 come before any frame.

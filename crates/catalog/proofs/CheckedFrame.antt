@@ -15,17 +15,17 @@ use Rattle.catalog_frames.specs.Frames.{frameAt, word}
 use Rattle.catalog.specs.State as check
 use Rattle.catalog.specs.Rules.{run, noModel, rules, fault}
 use Rattle.catalog.specs.Checking.{accepted, refused, checkFrom, framesChecked}
-use Rattle.catalog.specs.Answers.{IdFits}
-use Rattle.catalog.specs.Scans.{framesOnward, hasNumber}
-use Rattle.catalog.specs.Tracking.{Tracks, Room, codeRules, stateOf}
-use Rattle.catalog.specs.Marks.{Begun, BlankAtModel, Indexed, ScalesAfter}
+use Rattle.catalog.specs.CodeTypes.{IdFits}
+use Rattle.catalog.specs.InternalScans.{framesOnward, hasNumber}
+use Rattle.catalog.specs.InternalTracking.{Tracks, Capacity, codeRules, stateOf}
+use Rattle.catalog.specs.InternalMarks.{AfterModelFrame, BlankAtModel, Indexed, ScalesAfter}
 use Rattle.catalog.specs.declared.state.State.{State}
 use Rattle.catalog.proofs.WordScans.{frames-more, frames-none}
 use Rattle.catalog.proofs.CheckSteps as steps
 use Rattle.catalog.proofs.FreshNumbers.{Fresh, fresh-next}
 use Rattle.catalog.proofs.MarkedFrames as marked
 use Rattle.catalog.proofs.TrackedRules.{same-fault, none-open}
-use Rattle.catalog.proofs.TrackedState.{tracks-next, has-room, state-here}
+use Rattle.catalog.proofs.TrackedState.{tracks-next, has-capacity, state-here}
 
 -- Before frame i the code's state and set of ids agree with a state from which the rest decides.
 pub record Decides (ws used : List ℕ) (i : ℕ) (c : State) : Type 0 where
@@ -61,9 +61,9 @@ module _ (ws used numbers scales : List ℕ) (u i : ℕ) (c : State) (d : Holds 
     unbroken : fault (d .decides .state) (frameAt ws i) (run (framesOnward ws i)) ≡ none
     unbroken = sym (n ∙ fault-here)
 
-    pub room-here : Room (word ws i 0) c
-    room-here =
-        has-room ws used i c (d .decides .state) (d .decides .tracks) (frameAt ws i) (run (framesOnward ws i)) refl unbroken
+    pub capacity-here : Capacity (word ws i 0) c
+    capacity-here =
+        has-capacity ws used i c (d .decides .state) (d .decides .tracks) (frameAt ws i) (run (framesOnward ws i)) refl unbroken
 
     pub blank-here : BlankAtModel ws i scales
     blank-here =
@@ -71,7 +71,7 @@ module _ (ws used numbers scales : List ℕ) (u i : ℕ) (c : State) (d : Holds 
         marked.blank-here ws used numbers scales u i c (e .state) (e .tracks) (d .indexed) (frameAt ws i) refl (sym n)
 
     pub holds-on : (used' numbers' numbers'' scales' scales'' : List ℕ) (u' inner : ℕ)
-        → inner ≡ getD (c .firsts) (c .depth - 1) 0 → Begun ws i inner u u' used used' numbers numbers' scales scales'
+        → inner ≡ getD (c .firsts) (c .depth - 1) 0 → AfterModelFrame ws i inner u u' used used' numbers numbers' scales scales'
         → Marks numbers' numbers'' (λ n. hasNumber ws n i) true → ScalesAfter ws i inner scales' scales''
         → Holds ws used' numbers'' scales'' u' (i + 1) (stateOf (word ws i 0) (word ws i 3) i c)
     holds-on used' numbers' numbers'' scales' scales'' u' inner top b m r =

@@ -51,8 +51,8 @@ eight-words endFrame = refl
 eight-words malformed = refl
 
 -- The words behind a frame's words.
-behind-first : (f : Frame) (ws : List ℕ) → drop 8 (wordsOf f ++ ws) ≡ ws
-behind-first f ws = rw (eight-words f) at (drop-append-seam (wordsOf f) ws)
+after-first : (f : Frame) (ws : List ℕ) → drop 8 (wordsOf f ++ ws) ≡ ws
+after-first f ws = rw (eight-words f) at (drop-append-seam (wordsOf f) ws)
 
 -- Frames have eight times as many words.
 pub length-words : (fs : List Frame) → length (wordsOfAll fs) ≡ 8 * length fs
@@ -68,7 +68,7 @@ unfolding wordsOfAll framesFrom
 frames-back [] = refl
 frames-back (f ∷ fs) =
     let ws = wordsOf f ++ wordsOfAll fs in
-    rw (first-frame f (wordsOfAll fs), frames-later ws 0 (length fs), behind-first f (wordsOfAll fs), frames-back fs)
+    rw (first-frame f (wordsOfAll fs), frames-later ws 0 (length fs), after-first f (wordsOfAll fs), frames-back fs)
 
 -- Reading the words of frames gives the frames.
 pub frames-words : (fs : List Frame) → frames (wordsOfAll fs) ≡ fs

@@ -77,20 +77,20 @@ module _ (numbers : List ℕ) (p : Point) (l : OpenGroup) (ls : List OpenGroup)
       (λ q. kept (split ∙ right-of (hasScaleFactor n (l .points)) (hasScaleFactor n (pointsOf ls)) q))
 
 -- Behind a frame that breaks no rule.
-pub fresh-next : (s : State) (f : Frame) (ahead : List Point) → fault s f ahead ≡ none → Fresh s → Fresh (next s f)
-fresh-next s (modelFrame id) ahead e x = record { inUse = λ n e. clash (sym e); apart = (λ n e. refl, tt) }
-fresh-next s (groupFrame h) ahead e x = go (s .openGroups) (x .inUse) (x .apart)
+pub fresh-next : (s : State) (f : Frame) (upcomingRun : List Point) → fault s f upcomingRun ≡ none → Fresh s → Fresh (next s f)
+fresh-next s (modelFrame id) upcomingRun e x = record { inUse = λ n e. clash (sym e); apart = (λ n e. refl, tt) }
+fresh-next s (groupFrame h) upcomingRun e x = go (s .openGroups) (x .inUse) (x .apart)
   where
     go : (ls : List OpenGroup) → ((n : ℕ) → hasScaleFactor n (pointsOf ls) ≡ true → among n (s .numbers) ≡ true) → Apart ls
         → Fresh (next (record { ids = s .ids; numbers = s .numbers; hasFill = s .hasFill; openGroups = ls }) (groupFrame h))
     go [] u a = record { inUse = λ n e. clash (sym e); apart = tt }
     go (l ∷ ls) u a =
         record { inUse = λ n e. right-of (eqb n (h .number)) (among n (s .numbers)) (u n e); apart = (λ n e. clash (sym e), a) }
-fresh-next s (pointFrame p) ahead e x = go (s .openGroups) (x .inUse) (x .apart)
+fresh-next s (pointFrame p) upcomingRun e x = go (s .openGroups) (x .inUse) (x .apart)
   where
     new : among (p .number) (s .numbers) ≡ false
     new =
-        let numbered = none-broken (rules s (pointFrame p) ahead) .0 e .1 .1 .1 .0 in
+        let numbered = none-broken (rules s (pointFrame p) upcomingRun) .0 e .1 .1 .1 .0 in
         neither (eqb (p .number) 0) (among (p .number) (s .numbers)) .0 numbered .1
 
     go : (ls : List OpenGroup) → ((n : ℕ) → hasScaleFactor n (pointsOf ls) ≡ true → among n (s .numbers) ≡ true) → Apart ls
@@ -98,7 +98,7 @@ fresh-next s (pointFrame p) ahead e x = go (s .openGroups) (x .inUse) (x .apart)
     go [] u a = record { inUse = λ n e. clash (sym e); apart = tt }
     go (l ∷ ls) u a =
         record { inUse = point-in-use (s .numbers) p l ls u new; apart = point-apart (s .numbers) p l ls u new a }
-fresh-next s endFrame ahead e x = go (s .openGroups) (x .inUse) (x .apart)
+fresh-next s endFrame upcomingRun e x = go (s .openGroups) (x .inUse) (x .apart)
   where
     go : (ls : List OpenGroup) → ((n : ℕ) → hasScaleFactor n (pointsOf ls) ≡ true → among n (s .numbers) ≡ true) → Apart ls
         → Fresh (next (record { ids = s .ids; numbers = s .numbers; hasFill = s .hasFill; openGroups = ls }) endFrame)
@@ -109,4 +109,4 @@ fresh-next s endFrame ahead e x = go (s .openGroups) (x .inUse) (x .apart)
               ∙ right-of (hasScaleFactor n (l .points)) (hasScaleFactor n (pointsOf ls)) e);
           apart = a .1;
         }
-fresh-next s malformed ahead e x = x
+fresh-next s malformed upcomingRun e x = x

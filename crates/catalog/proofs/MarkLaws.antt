@@ -11,9 +11,9 @@ use lib.ListN.{length}
 use Rattle.number_sets.specs.NumberSets.{inSet, Marks, Blank}
 use Rattle.catalog_frames.specs.Frames.{Point, uint16, readOnly}
 use Rattle.catalog.specs.Rules.{run}
-use Rattle.catalog_frames.specs.Words.{pointWords}
-use Rattle.catalog.specs.Scans.{framesOnward, isTarget, isOfKind}
-use Rattle.catalog.specs.Marks.{Counted, inRun, stops, firstStop}
+use Rattle.catalog_frames.specs.InternalWords.{pointWords}
+use Rattle.catalog.specs.InternalScans.{framesOnward, isTarget, isOfKind}
+use Rattle.catalog.specs.InternalMarks.{Counted, inRun, stops, firstStop}
 use Rattle.catalog.specs.declared.scans.Target.{Target}
 
 -- ---- Points

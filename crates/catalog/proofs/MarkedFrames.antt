@@ -21,17 +21,17 @@ use Rattle.catalog_frames.specs.Frames.{Point, Head, Frame, modelFrame, groupFr
 use Rattle.catalog.specs.State as check
 use Rattle.catalog.specs.State.{OpenGroup}
 use Rattle.catalog.specs.Rules.{run, hasScaleFactor, isScaleFactorPoint, pointsOf, countFaults}
-use Rattle.catalog.specs.Answers.{IdFits}
-use Rattle.catalog.specs.Scans.{framesOnward, hasNumber, isModel, numbersBefore, runsOf}
-use Rattle.catalog.specs.Tracking.{Tracks, Opens, modelRules, groupRules, pointRules, endRules, codeRules, runIn}
-use Rattle.catalog.specs.Tracking.{codeStart, numbersSoFar}
-use Rattle.catalog.specs.Marks.{Begun, BlankAtModel, Counted, CountsAfter, Indexed, ScalesAfter, inRun, stops}
+use Rattle.catalog.specs.CodeTypes.{IdFits}
+use Rattle.catalog.specs.InternalScans.{framesOnward, hasNumber, isModel, numbersBefore, runsOf}
+use Rattle.catalog.specs.InternalTracking.{Tracks, Opens, modelRules, groupRules, pointRules, endRules, codeRules, runIn}
+use Rattle.catalog.specs.InternalTracking.{codeStart, numbersSoFar}
+use Rattle.catalog.specs.InternalMarks.{AfterModelFrame, BlankAtModel, Counted, CountsAfter, Indexed, ScalesAfter, inRun, stops}
 use Rattle.catalog.specs.declared.scans.Target.{Target}
 use Rattle.catalog.specs.declared.state.State.{State}
 use Rattle.catalog.proofs.FreshNumbers.{Fresh, Apart}
 use Rattle.catalog.proofs.MarkLaws.{stop-later}
 use Rattle.catalog.proofs.OpenGroups.{runs-points}
-use Rattle.catalog.proofs.TrackedRules.{no-point-ahead}
+use Rattle.catalog.proofs.TrackedRules.{no-upcoming-point}
 use Rattle.catalog.proofs.TrackedState.{stateBy, word-here, kind-here}
 use Rattle.catalog.proofs.WordScans.{has-either, number-here, scope-more}
 
@@ -72,7 +72,7 @@ module _ (ws used numbers scales : List ℕ) (u i : ℕ) (c : State) (s : check.
         }
 
   module _ (used' numbers' numbers'' scales' scales'' : List ℕ) (u' inner : ℕ) (here : i < length ws / 8)
-      (top : inner ≡ getD (c .firsts) (c .depth - 1) 0) (b : Begun ws i inner u u' used used' numbers numbers' scales scales')
+      (top : inner ≡ getD (c .firsts) (c .depth - 1) 0) (b : AfterModelFrame ws i inner u u' used used' numbers numbers' scales scales')
       (m : Marks numbers' numbers'' (λ n. hasNumber ws n i) true) (r : ScalesAfter ws i inner scales' scales'') where
     number-words : length numbers'' ≡ 1024
     number-words = m .words ∙ b .freed .words ∙ x .numberWords
@@ -91,9 +91,9 @@ module _ (ws used numbers scales : List ℕ) (u i : ℕ) (c : State) (s : check.
         let four = t .within .four in
         let stored = getD-set-same (c .firsts) (c .depth) (i + 1) 0 (omega arith) in
         let kept = runs-kept ws (c .firsts) (c .depth) (i + 1) (c .depth) (omega arith) in
-        let ahead = run (framesOnward ws (i + 1)) in
+        let upcomingRun = run (framesOnward ws (i + 1)) in
         opens k kind small ∙ ap (λ b. inRun ws (i + 1) Target.ScaleFactor n || b) (same-scales n h ∙ x .inScope n h)
-        ∙ sym (has-either (isScaleFactorPoint n) ahead (runsOf ws (c .firsts) (c .depth)))
+        ∙ sym (has-either (isScaleFactorPoint n) upcomingRun (runsOf ws (c .firsts) (c .depth)))
         ∙ rw (add-one (c .depth), runsOf, stored, kept)
       where
         opens : (k : ℕ) → word ws i 0 ≡ k → k ≤ 2 → inSet scales'' n ≡ inRun ws (i + 1) Target.ScaleFactor n || inSet scales' n
@@ -180,7 +180,7 @@ module _ (ws used numbers scales : List ℕ) (u i : ℕ) (c : State) (s : check.
           counted = λ g. counted-on (rw kind) (x .counted g) (rw kind);
         }
 
-    module _ (fresh : Fresh s) (e : frameAt ws i ≡ endFrame) (none-ahead : run (framesOnward ws i) ≡ [])
+    module _ (fresh : Fresh s) (e : frameAt ws i ≡ endFrame) (none-upcoming : run (framesOnward ws i) ≡ [])
         (ok : firstBroken (endRules ws c) ≡ none) where
       some-open : 1 ≤ c .depth
       some-open = let n = eqb-false (c .depth) 0 (none-broken (endRules ws c) .0 ok .0) in omega (arith, n)
@@ -196,7 +196,7 @@ module _ (ws used numbers scales : List ℕ) (u i : ℕ) (c : State) (s : check.
           go (l ∷ ls) q a h =
               let d : c .depth ≡ suc (length ls) = t .depth ∙ ap length q in
               let m : c .depth - 1 ≡ length ls = omega (arith, d) in
-              let o = subst (Opens ws (c .firsts) (c .«has_group») []) q (no-point-ahead ws used i c s t none-ahead) in
+              let o = subst (Opens ws (c .firsts) (c .«has_group») []) q (no-upcoming-point ws used i c s t none-upcoming) in
               let own : runIn ws c (c .depth - 1) ≡ l .points =
               ap (λ k. runIn ws c k) m ∙ o .0 ∙ append-nil (l .points) in
               let around : runsOf ws (c .firsts) (c .depth - 1) ≡ pointsOf ls =

@@ -11,10 +11,10 @@ use Rattle.lists.specs.Tests.{firstBroken, oneHolds}
 use Rattle.number_sets.specs.NumberSets.{inSet}
 use Rattle.catalog_frames.specs.Frames.{Point, Head, groupFrame, word, frameAt, countByPoint}
 use Rattle.catalog.specs.Rules.{hasCountPoint, noPoint, run}
-use Rattle.catalog.specs.Scans.{framesOnward}
+use Rattle.catalog.specs.InternalScans.{framesOnward}
 use Rattle.frame_rules.specs.FrameTests.{countTests, groupTests, pointTests, scaleTests}
-use Rattle.catalog.specs.Tracking.{groupRules, pointRules, runIn}
-use Rattle.catalog.specs.Marks.{Indexed, Counted, stops}
+use Rattle.catalog.specs.InternalTracking.{groupRules, pointRules, runIn}
+use Rattle.catalog.specs.InternalMarks.{Indexed, Counted, stops}
 use Rattle.catalog.specs.declared.state.State.{State}
 use Rattle.catalog.proofs.MarkLaws.{stop-here, stop-later, stop-from}
 use Rattle.catalog.proofs.TrackedState.{word-here}

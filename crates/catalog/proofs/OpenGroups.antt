@@ -9,9 +9,9 @@ use lib.ListN.{length, getD, set}
 use lib.Seq.{getD-set-other}
 use Rattle.catalog_frames.specs.Frames.{Point}
 use Rattle.catalog.specs.State.{OpenGroup}
-use Rattle.catalog.specs.Rules.{run, pointsOf, inReach, topPoints}
-use Rattle.catalog.specs.Scans.{framesOnward, runsOf}
-use Rattle.catalog.specs.Tracking.{Opens}
+use Rattle.catalog.specs.Rules.{run, pointsOf, pointsInScope, topPoints}
+use Rattle.catalog.specs.InternalScans.{framesOnward, runsOf}
+use Rattle.catalog.specs.InternalTracking.{Opens}
 
 module _ (ws firsts : List ℕ) where
   -- All runs together are the points of the groups.
@@ -21,11 +21,11 @@ module _ (ws firsts : List ℕ) where
   runs-points b (l ∷ ls) o = rw (o .0, append-nil (l .points), runs-points true ls (o .2))
 
   -- With what is ahead of the innermost group, they are the points that a scale reference may name.
-  pub runs-in-reach : (b : Bool) (ahead : List Point) (l : OpenGroup) (ls : List OpenGroup) → Opens ws firsts b ahead (l ∷ ls)
-      → runsOf ws firsts (suc (length ls)) ≡ inReach (l ∷ ls) ahead
+  pub runs-in-scope : (b : Bool) (upcomingRun : List Point) (l : OpenGroup) (ls : List OpenGroup) → Opens ws firsts b upcomingRun (l ∷ ls)
+      → runsOf ws firsts (suc (length ls)) ≡ pointsInScope (l ∷ ls) upcomingRun
   unfolding runsOf
-  runs-in-reach b ahead l ls o =
-      ap (λ ps. ps ++ runsOf ws firsts (length ls)) (o .0) ∙ ap (λ ps. (l .points ++ ahead) ++ ps) (runs-points true ls (o .2))
+  runs-in-scope b upcomingRun l ls o =
+      ap (λ ps. ps ++ runsOf ws firsts (length ls)) (o .0) ∙ ap (λ ps. (l .points ++ upcomingRun) ++ ps) (runs-points true ls (o .2))
 
   -- The outermost run is the points of the top group.
   pub run-of-top : (b : Bool) (l : OpenGroup) (ls : List OpenGroup) → Opens ws firsts b [] (l ∷ ls)
@@ -34,9 +34,9 @@ module _ (ws firsts : List ℕ) where
   run-of-top b l (k ∷ ls) o = run-of-top true k ls (o .2)
 
   -- The first frame inside a further group is stored behind those of the groups around it.
-  pub one-deeper : (b : Bool) (ahead : List Point) (ls : List OpenGroup) (d v : ℕ) → length ls ≤ d → Opens ws firsts b ahead ls
-      → Opens ws (set firsts d v) b ahead ls
-  one-deeper b ahead [] d v h o = tt
-  one-deeper b ahead (l ∷ ls) d v h o =
+  pub one-deeper : (b : Bool) (upcomingRun : List Point) (ls : List OpenGroup) (d v : ℕ) → length ls ≤ d → Opens ws firsts b upcomingRun ls
+      → Opens ws (set firsts d v) b upcomingRun ls
+  one-deeper b upcomingRun [] d v h o = tt
+  one-deeper b upcomingRun (l ∷ ls) d v h o =
       let n : length ls ≢ d = λ e. omega (arith, e, h) in
       (rw (getD-set-other firsts d (length ls) v 0 n) (o .0), o .1, one-deeper true [] ls d v (omega arith) (o .2))

@@ -14,14 +14,14 @@ use Rattle.number_sets.specs.NumberSets.{inSet}
 use Rattle.catalog_frames.specs.Frames.{Point, Head, Frame, modelFrame, groupFrame, pointFrame, endFrame, malformed}
 use Rattle.catalog.specs.State as check
 use Rattle.catalog.specs.State.{OpenGroup}
-use Rattle.frame_rules.specs.FrameTests.{isMistyped}
-use Rattle.catalog.specs.Rules.{run, inReach, noModel, isMisplaced, isMisnumbered, isMisscaled, scaleFaults}
+use Rattle.frame_rules.specs.FrameTests.{hasBadType}
+use Rattle.catalog.specs.Rules.{run, pointsInScope, noModel, hasBadPlace, hasBadNumber, hasBadScale, scaleFaults}
 use Rattle.catalog.specs.Rules.{fault}
-use Rattle.catalog.specs.Answers.{IdFits}
-use Rattle.catalog.specs.Scans.{framesOnward, runsOf}
-use Rattle.catalog.specs.Tracking.{Tracks, Opens, aheadOf, codeRules, numbersSoFar}
+use Rattle.catalog.specs.CodeTypes.{IdFits}
+use Rattle.catalog.specs.InternalScans.{framesOnward, runsOf}
+use Rattle.catalog.specs.InternalTracking.{Tracks, Opens, upcomingRunAt, codeRules, numbersSoFar}
 use Rattle.catalog.specs.declared.state.State.{State}
-use Rattle.catalog.proofs.OpenGroups.{runs-in-reach, run-of-top}
+use Rattle.catalog.proofs.OpenGroups.{runs-in-scope, run-of-top}
 
 -- The depth tells whether a model is open, and whether the top group is the innermost open one.
 pub none-open : (d : ℕ) (ls : List OpenGroup) → d ≡ length ls → eqb d 0 ≡ noModel ls
@@ -45,38 +45,38 @@ same-tests a b d e m x y p q r =
     ap (λ t. pointFault t d m x) p ∙ ap (λ t. pointFault b t m x) q ∙ ap (λ t. pointFault b e m t) r
 
 -- Nothing is ahead of the innermost group at a frame that is no point's.
-nothing-ahead : (ws : List ℕ) (i : ℕ) (b : Bool) → run (framesOnward ws i) ≡ [] → aheadOf ws i b ≡ []
-nothing-ahead ws i true e = refl
-nothing-ahead ws i false e = e
+nothing-upcoming : (ws : List ℕ) (i : ℕ) (b : Bool) → run (framesOnward ws i) ≡ [] → upcomingRunAt ws i b ≡ []
+nothing-upcoming ws i true e = refl
+nothing-upcoming ws i false e = e
 
 module _ (ws used : List ℕ) (i : ℕ) (c : State) (s : check.State) (t : Tracks ws used i c s) where
   -- The open groups, at a frame that is no point's.
-  pub no-point-ahead : run (framesOnward ws i) ≡ [] → Opens ws (c .firsts) (c .«has_group») [] (s .openGroups)
-  no-point-ahead e =
-      let none-left = nothing-ahead ws i (c .«has_group») e in
+  pub no-upcoming-point : run (framesOnward ws i) ≡ [] → Opens ws (c .firsts) (c .«has_group») [] (s .openGroups)
+  no-upcoming-point e =
+      let none-left = nothing-upcoming ws i (c .«has_group») e in
       subst (λ (ps : List Point). Opens ws (c .firsts) (c .«has_group») ps (s .openGroups)) none-left (t .openGroups)
 
   -- The same fault, kind by kind.
-  model-fault : (id : ℕ) (ahead : List Point) → id < 65536
-      → firstBroken (codeRules ws used i c (modelFrame id)) ≡ fault s (modelFrame id) ahead
-  model-fault id ahead h =
-      let placed : not (eqb (c .depth) 0) ≡ isMisplaced s (modelFrame id) =
+  model-fault : (id : ℕ) (upcomingRun : List Point) → id < 65536
+      → firstBroken (codeRules ws used i c (modelFrame id)) ≡ fault s (modelFrame id) upcomingRun
+  model-fault id upcomingRun h =
+      let placed : not (eqb (c .depth) 0) ≡ hasBadPlace s (modelFrame id) =
       ap not (none-open (c .depth) (s .openGroups) (t .depth)) in
-      let numbered : eqb id 0 || eqb id 65535 || inSet used id ≡ isMisnumbered s (modelFrame id) =
+      let numbered : eqb id 0 || eqb id 65535 || inSet used id ≡ hasBadNumber s (modelFrame id) =
       ap (λ (b : Bool). eqb id 0 || eqb id 65535 || b) (t .ids id h) in
       ap (λ (b : Bool). modelFault b (eqb id 0 || eqb id 65535 || inSet used id)) placed
-      ∙ ap (modelFault (isMisplaced s (modelFrame id))) numbered
+      ∙ ap (modelFault (hasBadPlace s (modelFrame id))) numbered
 
-  group-fault : (h : Head) (ahead : List Point) → run (framesOnward ws i) ≡ []
-      → firstBroken (codeRules ws used i c (groupFrame h)) ≡ fault s (groupFrame h) ahead
-  group-fault h ahead e = go (s .openGroups) refl
+  group-fault : (h : Head) (upcomingRun : List Point) → run (framesOnward ws i) ≡ []
+      → firstBroken (codeRules ws used i c (groupFrame h)) ≡ fault s (groupFrame h) upcomingRun
+  group-fault h upcomingRun e = go (s .openGroups) refl
     where
       go : (ls : List OpenGroup) → s .openGroups ≡ ls
-          → firstBroken (codeRules ws used i c (groupFrame h)) ≡ fault s (groupFrame h) ahead
+          → firstBroken (codeRules ws used i c (groupFrame h)) ≡ fault s (groupFrame h) upcomingRun
       go [] q = rw (none-open (c .depth) [] (t .depth ∙ ap length q), q)
       go (l ∷ ls) q =
           let d : c .depth ≡ suc (length ls) = t .depth ∙ ap length q in
-          let o = subst (Opens ws (c .firsts) (c .«has_group») []) q (no-point-ahead e) in
+          let o = subst (Opens ws (c .firsts) (c .«has_group») []) q (no-upcoming-point e) in
           rw (
             none-open (c .depth) (l ∷ ls) d,
             one-open (c .depth) ls d,
@@ -92,10 +92,10 @@ module _ (ws used : List ℕ) (i : ℕ) (c : State) (s : check.State) (t : Track
   point-fault p = go (s .openGroups) refl
     where
       opens : (l : OpenGroup) (ls : List OpenGroup) → s .openGroups ≡ l ∷ ls → (b : Bool) → c .«has_group» ≡ b
-          → Opens ws (c .firsts) b (aheadOf ws i b) (l ∷ ls)
+          → Opens ws (c .firsts) b (upcomingRunAt ws i b) (l ∷ ls)
       opens l ls q b g =
-          subst (λ x. Opens ws (c .firsts) x (aheadOf ws i x) (l ∷ ls)) g
-          (subst (Opens ws (c .firsts) (c .«has_group») (aheadOf ws i (c .«has_group»))) q (t .openGroups))
+          subst (λ x. Opens ws (c .firsts) x (upcomingRunAt ws i x) (l ∷ ls)) g
+          (subst (Opens ws (c .firsts) (c .«has_group») (upcomingRunAt ws i (c .«has_group»))) q (t .openGroups))
 
       inside : (l : OpenGroup) (ls : List OpenGroup) → s .openGroups ≡ l ∷ ls → (b : Bool) → c .«has_group» ≡ b
           → firstBroken (codeRules ws used i c (pointFrame p)) ≡ fault s (pointFrame p) (run (framesOnward ws i))
@@ -104,32 +104,32 @@ module _ (ws used : List ℕ) (i : ℕ) (c : State) (s : check.State) (t : Track
       inside l ls q false g =
           let d : c .depth ≡ suc (length ls) = t .depth ∙ ap length q in
           let o = opens l ls q false g in
-          let r : runsOf ws (c .firsts) (c .depth) ≡ inReach (l ∷ ls) (run (framesOnward ws i)) =
-          ap (runsOf ws (c .firsts)) d ∙ runs-in-reach ws (c .firsts) false (run (framesOnward ws i)) l ls o in
-          let placed : eqb (c .depth) 0 || c .«has_group» ≡ isMisplaced s (pointFrame p) =
+          let r : runsOf ws (c .firsts) (c .depth) ≡ pointsInScope (l ∷ ls) (run (framesOnward ws i)) =
+          ap (runsOf ws (c .firsts)) d ∙ runs-in-scope ws (c .firsts) false (run (framesOnward ws i)) l ls o in
+          let placed : eqb (c .depth) 0 || c .«has_group» ≡ hasBadPlace s (pointFrame p) =
           rw (none-open (c .depth) (l ∷ ls) d, g, q, o .1) in
-          let numbered : eqb (p .number) 0 || among (p .number) (numbersSoFar ws i c) ≡ isMisnumbered s (pointFrame p) =
+          let numbered : eqb (p .number) 0 || among (p .number) (numbersSoFar ws i c) ≡ hasBadNumber s (pointFrame p) =
           ap (λ ns. eqb (p .number) 0 || among (p .number) ns) (sym (t .numbers (omega (arith, d)))) in
           let scaled : oneHolds (scaleFaults (runsOf ws (c .firsts) (c .depth)) p)
-          ≡ isMisscaled s (run (framesOnward ws i)) (pointFrame p) =
-          ap (λ reach. oneHolds (scaleFaults reach p)) (r ∙ sym (ap (λ ls. inReach ls (run (framesOnward ws i))) q)) in
-          same-tests _ _ _ _ (isMistyped (pointFrame p)) _ _ placed numbered scaled
+          ≡ hasBadScale s (run (framesOnward ws i)) (pointFrame p) =
+          ap (λ inScope. oneHolds (scaleFaults inScope p)) (r ∙ sym (ap (λ ls. pointsInScope ls (run (framesOnward ws i))) q)) in
+          same-tests _ _ _ _ (hasBadType (pointFrame p)) _ _ placed numbered scaled
 
       go : (ls : List OpenGroup) → s .openGroups ≡ ls
           → firstBroken (codeRules ws used i c (pointFrame p)) ≡ fault s (pointFrame p) (run (framesOnward ws i))
       go [] q = rw (none-open (c .depth) [] (t .depth ∙ ap length q), q)
       go (l ∷ ls) q = inside l ls q (c .«has_group») refl
 
-  end-fault : (ahead : List Point) → run (framesOnward ws i) ≡ []
-      → firstBroken (codeRules ws used i c endFrame) ≡ fault s endFrame ahead
-  end-fault ahead e = go (s .openGroups) refl
+  end-fault : (upcomingRun : List Point) → run (framesOnward ws i) ≡ []
+      → firstBroken (codeRules ws used i c endFrame) ≡ fault s endFrame upcomingRun
+  end-fault upcomingRun e = go (s .openGroups) refl
     where
-      go : (ls : List OpenGroup) → s .openGroups ≡ ls → firstBroken (codeRules ws used i c endFrame) ≡ fault s endFrame ahead
+      go : (ls : List OpenGroup) → s .openGroups ≡ ls → firstBroken (codeRules ws used i c endFrame) ≡ fault s endFrame upcomingRun
       go [] q = rw (none-open (c .depth) [] (t .depth ∙ ap length q), q)
       go (l ∷ ls) q =
           let d : c .depth ≡ suc (length ls) = t .depth ∙ ap length q in
           let m : c .depth - 1 ≡ length ls = omega (arith, d) in
-          let o = subst (Opens ws (c .firsts) (c .«has_group») []) q (no-point-ahead e) in
+          let o = subst (Opens ws (c .firsts) (c .«has_group») []) q (no-upcoming-point e) in
           rw (none-open (c .depth) (l ∷ ls) d, one-open (c .depth) ls d, m, o .0, append-nil (l .points), ← o .1, q)
 
   -- The same fault, whatever the frame.

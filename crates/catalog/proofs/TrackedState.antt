@@ -20,12 +20,12 @@ use Rattle.catalog_frames.specs.Frames.{wordsOf, fill}
 use Rattle.catalog.specs.State as check
 use Rattle.catalog.specs.State.{OpenGroup, start, next}
 use Rattle.catalog.specs.Rules.{run, noModel, inTop, afterGroup, isMalformed, rules, fault}
-use Rattle.catalog.specs.Scans.{framesOnward, isModel, isNumbered, numbersBefore}
-use Rattle.catalog.specs.Tracking.{codeStart, Within, Tracks, Opens, Room, aheadOf, numbersSoFar, withOpened, withEnded, stateOf}
+use Rattle.catalog.specs.InternalScans.{framesOnward, isModel, isNumbered, numbersBefore}
+use Rattle.catalog.specs.InternalTracking.{codeStart, Within, Tracks, Opens, Capacity, upcomingRunAt, numbersSoFar, withOpened, withEnded, stateOf}
 use Rattle.catalog.specs.declared.state.State.{State}
 use Rattle.catalog.proofs.FrameWords.{eight-back}
 use Rattle.catalog.proofs.OpenGroups.{one-deeper}
-use Rattle.catalog.proofs.TrackedRules.{no-point-ahead, none-open}
+use Rattle.catalog.proofs.TrackedRules.{no-upcoming-point, none-open}
 
 -- Of four numbers, all but the first 0, none is over a bound on the first.
 first-alone : (n b : ℕ) → n ≤ b → (k : ℕ) → getD (n ∷ 0 ∷ 0 ∷ 0 ∷ []) k 0 ≤ b
@@ -195,7 +195,7 @@ module _ (ws used : List ℕ) (i : ℕ) (c : State) (s : check.State) (t : Track
         let number : word ws i 1 ≡ h .number = word-here ws i (groupFrame h) e refl 1 in
         let few = t .within .few in
         let d = depth-here in
-        let o = subst (Opens ws (c .firsts) (c .«has_group») []) q (no-point-ahead ws used i c s t r) in
+        let o = subst (Opens ws (c .firsts) (c .«has_group») []) q (no-upcoming-point ws used i c s t r) in
         let f = getD-set-other (c .firsts) (c .depth) 0 (i + 1) 0 (λ z. omega (arith, z, d)) in
         let four = t .within .four in
         let stored = getD-set-same (c .firsts) (c .depth) (i + 1) 0 (omega arith) in
@@ -224,12 +224,12 @@ module _ (ws used : List ℕ) (i : ℕ) (c : State) (s : check.State) (t : Track
         let kind = kind-here ws i (pointFrame p) e refl in
         let number : word ws i 1 ≡ p .number = word-here ws i (pointFrame p) e refl 1 in
         let d = depth-here in
-        let o = subst (Opens ws (c .firsts) (c .«has_group») (aheadOf ws i (c .«has_group»))) q (t .openGroups) in
+        let o = subst (Opens ws (c .firsts) (c .«has_group») (upcomingRunAt ws i (c .«has_group»))) q (t .openGroups) in
         let b : c .«has_group» ≡ false = sym (o .1) ∙ g in
-        let same : aheadOf ws i (c .«has_group») ≡ p ∷ run (framesOnward ws (i + 1)) = ap (aheadOf ws i) b ∙ r in
-        let on : aheadOf ws (i + 1) (c .«has_group») ≡ run (framesOnward ws (i + 1)) = ap (aheadOf ws (i + 1)) b in
-        let behind = append-assoc (l .points) (p ∷ []) (run (framesOnward ws (i + 1))) in
-        let moved = ap (λ ps. (l .points ++ (p ∷ [])) ++ ps) on ∙ behind in
+        let same : upcomingRunAt ws i (c .«has_group») ≡ p ∷ run (framesOnward ws (i + 1)) = ap (upcomingRunAt ws i) b ∙ r in
+        let on : upcomingRunAt ws (i + 1) (c .«has_group») ≡ run (framesOnward ws (i + 1)) = ap (upcomingRunAt ws (i + 1)) b in
+        let following = append-assoc (l .points) (p ∷ []) (run (framesOnward ws (i + 1))) in
+        let moved = ap (λ ps. (l .points ++ (p ∷ [])) ++ ps) on ∙ following in
         record {
           within = later ws used i c s t;
           models = t .models;
@@ -247,7 +247,7 @@ module _ (ws used : List ℕ) (i : ℕ) (c : State) (s : check.State) (t : Track
         let few = t .within .few in
         let deep = t .within .deep in
         let d = depth-here in
-        let o = subst (Opens ws (c .firsts) (c .«has_group») []) q (no-point-ahead ws used i c s t r) in
+        let o = subst (Opens ws (c .firsts) (c .«has_group») []) q (no-upcoming-point ws used i c s t r) in
         record {
           within = record {
             few = omega arith;
@@ -277,26 +277,26 @@ module _ (ws used : List ℕ) (i : ℕ) (c : State) (s : check.State) (t : Track
       go (l ∷ ls) q g = k l ls q
 
   -- A frame that breaks no rule opens at most the fourth group, and ends one that is open.
-  may-follow : (f : Frame) (ahead : List Point) → fault s f ahead ≡ none → Room (getD (wordsOf f) 0 0) c
-  may-follow (modelFrame id) ahead n =
-      let x = not-false _ (none-broken (rules s (modelFrame id) ahead) .0 n .1 .0) in
+  may-follow : (f : Frame) (upcomingRun : List Point) → fault s f upcomingRun ≡ none → Capacity (getD (wordsOf f) 0 0) c
+  may-follow (modelFrame id) upcomingRun n =
+      let x = not-false _ (none-broken (rules s (modelFrame id) upcomingRun) .0 n .1 .0) in
       let closed = eqb-true (c .depth) 0 (none-open (c .depth) (s .openGroups) (t .depth) ∙ x) in
       record { opens = λ k. omega arith; ends = λ k. omega arith }
-  may-follow (groupFrame h) ahead n =
+  may-follow (groupFrame h) upcomingRun n =
       let d = t .depth in
-      let y = leb-false 4 (length (s .openGroups)) (none-broken (rules s (groupFrame h) ahead) .0 n .1 .1 .0) in
+      let y = leb-false 4 (length (s .openGroups)) (none-broken (rules s (groupFrame h) upcomingRun) .0 n .1 .1 .0) in
       record { opens = λ k. omega arith; ends = λ k. omega arith }
-  may-follow (pointFrame p) ahead n = record { opens = λ k. absurd (omega arith); ends = λ k. absurd (omega arith) }
-  may-follow endFrame ahead n =
-      let x = none-broken (rules s endFrame ahead) .0 n .1 .0 in
+  may-follow (pointFrame p) upcomingRun n = record { opens = λ k. absurd (omega arith); ends = λ k. absurd (omega arith) }
+  may-follow endFrame upcomingRun n =
+      let x = none-broken (rules s endFrame upcomingRun) .0 n .1 .0 in
       record {
         opens = λ k. absurd (omega arith);
         ends = λ k. inside (1 ≤ c .depth) x (λ l ls q. let d = t .depth ∙ ap length q in omega arith);
       }
-  may-follow malformed ahead n = impossible (cc)
+  may-follow malformed upcomingRun n = impossible (cc)
 
-  pub has-room : (f : Frame) (ahead : List Point) → frameAt ws i ≡ f → fault s f ahead ≡ none → Room (word ws i 0) c
-  has-room f ahead e n = rw (kind-here ws i f e (none-broken (rules s f ahead) .0 n .0)) (may-follow f ahead n)
+  pub has-capacity : (f : Frame) (upcomingRun : List Point) → frameAt ws i ≡ f → fault s f upcomingRun ≡ none → Capacity (word ws i 0) c
+  has-capacity f upcomingRun e n = rw (kind-here ws i f e (none-broken (rules s f upcomingRun) .0 n .0)) (may-follow f upcomingRun n)
 
 -- After a frame that breaks no rule.
 module _ (ws used : List ℕ) (i : ℕ) (c : State) (s : check.State) (t : Tracks ws used i c s) (used' : List ℕ)

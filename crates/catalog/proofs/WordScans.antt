@@ -10,8 +10,8 @@ use lib.ListN.{length, getD}
 use Rattle.lists.specs.Members.{among}
 use Rattle.catalog_frames.specs.Frames.{Point, Frame, modelFrame, groupFrame, endFrame, word, frameAt, framesFrom}
 use Rattle.catalog.specs.Rules.{run, hasPoint, hasScaleFactor, isScaleFactorPoint}
-use Rattle.catalog_frames.specs.Words.{zeroWords, headWords, pointWords}
-use Rattle.catalog.specs.Scans.{isNumbered, hasNumber, numbersBefore, framesOnward, runsOf}
+use Rattle.catalog_frames.specs.InternalWords.{zeroWords, headWords, pointWords}
+use Rattle.catalog.specs.InternalScans.{isNumbered, hasNumber, numbersBefore, framesOnward, runsOf}
 use Rattle.catalog_frames.proofs.FrameKinds as kinds
 
 -- ---- Numbers of frames

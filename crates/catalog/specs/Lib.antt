@@ -1,7 +1,7 @@
 pub mod State
 pub mod Rules
 pub mod Checking
-pub mod Answers
-pub mod Scans
-pub mod Tracking
-pub mod Marks
+pub mod CodeTypes
+pub mod InternalScans
+pub mod InternalTracking
+pub mod InternalMarks

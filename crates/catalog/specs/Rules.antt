@@ -9,7 +9,7 @@ use Rattle.lists.specs.Members.{among}
 use Rattle.lists.specs.Tests.{oneHolds, firstBroken}
 use Rattle.catalog_frames.specs.Frames.{Point, Head, Frame, modelFrame, groupFrame, pointFrame, endFrame, malformed}
 use Rattle.catalog_frames.specs.Frames.{uint16, sunssf, readOnly}
-use Rattle.frame_rules.specs.FrameTests.{isMistyped, scaleTests, countTests}
+use Rattle.frame_rules.specs.FrameTests.{hasBadType, scaleTests, countTests}
 use Rattle.catalog.specs.State.{OpenGroup, State}
 
 -- ---- What the rules look at (where a rule behind 4 needs an open model, 4 has decided without one)
@@ -45,9 +45,9 @@ pointsOf (l ∷ ls) = l .points ++ pointsOf ls
 
 -- The points that a scale reference may name: those of the same unbroken run of point frames, so far and from here on,
 -- and those directly in an enclosing group.
-abbrev pub inReach : List OpenGroup → List Point → List Point
-inReach [] ahead = ahead
-inReach (l ∷ ls) ahead = (l .points ++ ahead) ++ pointsOf ls
+abbrev pub pointsInScope : List OpenGroup → List Point → List Point
+pointsInScope [] upcomingRun = upcomingRun
+pointsInScope (l ∷ ls) upcomingRun = (l .points ++ upcomingRun) ++ pointsOf ls
 
 -- The points of the top group.
 abbrev pub topPoints : List OpenGroup → List Point
@@ -87,12 +87,12 @@ isMalformed malformed = true
 
 -- 4: a model frame inside a model; any other with no model open; a point after a group in the same group; a group directly in the
 -- top group after a fill group.
-abbrev pub isMisplaced : State → Frame → Bool
-isMisplaced s (modelFrame id) = not (noModel (s .openGroups))
-isMisplaced s (groupFrame h) = noModel (s .openGroups) || inTop (s .openGroups) && s .hasFill
-isMisplaced s (pointFrame p) = noModel (s .openGroups) || afterGroup (s .openGroups)
-isMisplaced s endFrame = noModel (s .openGroups)
-isMisplaced s malformed = false
+abbrev pub hasBadPlace : State → Frame → Bool
+hasBadPlace s (modelFrame id) = not (noModel (s .openGroups))
+hasBadPlace s (groupFrame h) = noModel (s .openGroups) || inTop (s .openGroups) && s .hasFill
+hasBadPlace s (pointFrame p) = noModel (s .openGroups) || afterGroup (s .openGroups)
+hasBadPlace s endFrame = noModel (s .openGroups)
+hasBadPlace s malformed = false
 
 -- 5: a fifth level; the top group is level 1.
 abbrev pub isTooDeep : State → Frame → Bool
@@ -103,27 +103,27 @@ isTooDeep s endFrame = false
 isTooDeep s malformed = false
 
 -- 6: a model id 0, 65535 or already used; a point's or group's number 0 or already used in this model.
-abbrev pub isMisnumbered : State → Frame → Bool
-isMisnumbered s (modelFrame id) = eqb id 0 || eqb id 65535 || among id (s .ids)
-isMisnumbered s (groupFrame h) = eqb (h .number) 0 || among (h .number) (s .numbers)
-isMisnumbered s (pointFrame p) = eqb (p .number) 0 || among (p .number) (s .numbers)
-isMisnumbered s endFrame = false
-isMisnumbered s malformed = false
+abbrev pub hasBadNumber : State → Frame → Bool
+hasBadNumber s (modelFrame id) = eqb id 0 || eqb id 65535 || among id (s .ids)
+hasBadNumber s (groupFrame h) = eqb (h .number) 0 || among (h .number) (s .numbers)
+hasBadNumber s (pointFrame p) = eqb (p .number) 0 || among (p .number) (s .numbers)
+hasBadNumber s endFrame = false
+hasBadNumber s malformed = false
 
--- 7: an unknown type or wrong size; group type, mandatory or access not 0 or 1. It is `isMistyped` of `frame_rules`.
+-- 7: an unknown type or wrong size; group type, mandatory or access not 0 or 1. It is `hasBadType` of `frame_rules`.
 
 -- 8, clause by clause, of a point and the points in its reach.
 abbrev pub scaleFaults : List Point → Point → List Bool
-scaleFaults reach p = scaleTests (hasScaleFactor (p .scale) reach) p
+scaleFaults inScope p = scaleTests (hasScaleFactor (p .scale) inScope) p
 
 -- 8: a scale kind over 2; no scale factor but word 5 not 0; a scale factor on a type that may not carry one; a fixed one outside
 -- −10 to 10; a reference that no sunssf point in reach answers.
-abbrev pub isMisscaled : State → List Point → Frame → Bool
-isMisscaled s ahead (modelFrame id) = false
-isMisscaled s ahead (groupFrame h) = false
-isMisscaled s ahead (pointFrame p) = oneHolds (scaleFaults (inReach (s .openGroups) ahead) p)
-isMisscaled s ahead endFrame = false
-isMisscaled s ahead malformed = false
+abbrev pub hasBadScale : State → List Point → Frame → Bool
+hasBadScale s upcomingRun (modelFrame id) = false
+hasBadScale s upcomingRun (groupFrame h) = false
+hasBadScale s upcomingRun (pointFrame p) = oneHolds (scaleFaults (pointsInScope (s .openGroups) upcomingRun) p)
+hasBadScale s upcomingRun endFrame = false
+hasBadScale s upcomingRun malformed = false
 
 -- 9, clause by clause, of a group: `top` is the points of the top group, `direct` whether the group stands directly in it.
 abbrev pub countFaults : List Point → Bool → Head → List Bool
@@ -131,12 +131,12 @@ countFaults top direct h = countTests (hasCountPoint (h .count) top) direct h
 
 -- 9: a count kind over 2; a constant 0; a count point that is no uint16 R point directly in the top group; fill outside the top
 -- group, or with word 4 not 0.
-abbrev pub isMiscounted : State → Frame → Bool
-isMiscounted s (modelFrame id) = false
-isMiscounted s (groupFrame h) = oneHolds (countFaults (topPoints (s .openGroups)) (inTop (s .openGroups)) h)
-isMiscounted s (pointFrame p) = false
-isMiscounted s endFrame = false
-isMiscounted s malformed = false
+abbrev pub hasBadCount : State → Frame → Bool
+hasBadCount s (modelFrame id) = false
+hasBadCount s (groupFrame h) = oneHolds (countFaults (topPoints (s .openGroups)) (inTop (s .openGroups)) h)
+hasBadCount s (pointFrame p) = false
+hasBadCount s endFrame = false
+hasBadCount s malformed = false
 
 -- Has the group no point of its own?
 abbrev pub noPoint : List Point → Bool
@@ -154,19 +154,19 @@ lacksContent ls malformed = false
 
 -- ---- The rules in order
 
--- The rules of a frame in their order, each with its number. `ahead` is the run of points from the frame on.
+-- The rules of a frame in their order, each with its number. `upcomingRun` is the run of points from the frame on.
 abbrev pub rules : State → Frame → List Point → List (Bool × ℕ)
-rules s f ahead =
+rules s f upcomingRun =
     (isMalformed f, 3)
-    ∷ (isMisplaced s f, 4)
+    ∷ (hasBadPlace s f, 4)
     ∷ (isTooDeep s f, 5)
-    ∷ (isMisnumbered s f, 6)
-    ∷ (isMistyped f, 7)
-    ∷ (isMisscaled s ahead f, 8)
-    ∷ (isMiscounted s f, 9)
+    ∷ (hasBadNumber s f, 6)
+    ∷ (hasBadType f, 7)
+    ∷ (hasBadScale s upcomingRun f, 8)
+    ∷ (hasBadCount s f, 9)
     ∷ (lacksContent (s .openGroups) f, 10)
     ∷ []
 
 -- The number of the rule that a frame breaks, if it breaks one.
 abbrev pub fault : State → Frame → List Point → Option ℕ
-fault s f ahead = firstBroken (rules s f ahead)
+fault s f upcomingRun = firstBroken (rules s f upcomingRun)

@@ -29,7 +29,7 @@ ghost use mathlib.Core.Path.{_≡_};
 ghost use Prim.Native.Nat.{_/_, _≤_};
 ghost use lib.ListN.{length};
 ghost use Rattle.catalog.specs.Checking.{checked, framesChecked};
-ghost use Rattle.catalog.specs.Answers.{answer};
+ghost use Rattle.catalog.specs.CodeTypes.{toSpecChecked};
 
 // The most frames of a catalog.
 const FRAMES: usize = 4096;
@@ -43,7 +43,7 @@ pub enum Checked {
 
 // Checks a catalog: 1 and 2 first, then frame by frame.
 pub fn check(catalog: &[u16]) -> Checked
-    ensures { λ r. ⌜ answer r ≡ checked (now (catalog .entry)) ⌝ }
+    ensures { λ r. ⌜ toSpecChecked r ≡ checked (now (catalog .entry)) ⌝ }
 {
     if catalog.len() % WORDS != 0 {
         return Checked::Refused {
@@ -64,7 +64,7 @@ pub fn check(catalog: &[u16]) -> Checked
 // frames: each is read once itself, and a few times more with its model, its run of points and its group's end.
 fn check_frames(catalog: &[u16]) -> Checked
     requires { ⌜ length (now catalog) / 8 ≤ 4096 ⌝ }
-    ensures { λ r. ⌜ answer r ≡ framesChecked (now (catalog .entry)) ⌝ }
+    ensures { λ r. ⌜ toSpecChecked r ≡ framesChecked (now (catalog .entry)) ⌝ }
 {
     let frames = catalog.len() / WORDS;
     let mut state = at_start();

@@ -15,10 +15,10 @@ ghost use Prim.Native.Nat.{_/_, _<_};
 ghost use lib.ListN.{length};
 ghost use Rattle.lists.specs.Tests.{firstBroken};
 ghost use Rattle.catalog_frames.specs.Frames.{frameAt};
-ghost use Rattle.catalog.specs.Answers.{IdFits};
-ghost use Rattle.frame_rules.specs.FrameTests.{faultForm};
-ghost use Rattle.catalog.specs.Tracking.{Within, codeRules};
-ghost use Rattle.catalog.specs.Marks.{Indexed};
+ghost use Rattle.catalog.specs.CodeTypes.{IdFits};
+ghost use Rattle.frame_rules.specs.FrameTests.{toSpecFault};
+ghost use Rattle.catalog.specs.InternalTracking.{Within, codeRules};
+ghost use Rattle.catalog.specs.InternalMarks.{Indexed};
 
 // The number of the first rule that frame i breaks, or 0 if it breaks none. `ids` are the model ids so far, `numbers`
 // the numbers used in the open model, `scales` the scale factors in scope, `uncounted` the first group whose count no
@@ -35,7 +35,7 @@ pub(crate) fn fault_at(
     requires { ⌜ i < length (now catalog) / 8 ⌝ }
     requires { ⌜ Within i state ⌝ }
     requires { ⌜ Indexed (now catalog) (now numbers) (now scales) uncounted i state ⌝ }
-    ensures { λ r. ⌜ faultForm r ≡ firstBroken (codeRules (now (catalog .entry)) (now (ids .entry)) i state (frameAt (now (catalog .entry)) i)) ⌝ }
+    ensures { λ r. ⌜ toSpecFault r ≡ firstBroken (codeRules (now (catalog .entry)) (now (ids .entry)) i state (frameAt (now (catalog .entry)) i)) ⌝ }
     ensures { λ _. ⌜ IdFits (frameAt (now (catalog .entry)) i) ⌝ }
 {
     let frame = read_frame(catalog, i);

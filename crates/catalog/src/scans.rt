@@ -18,9 +18,9 @@ ghost use Prim.Native.Nat.{_+_, _-_, _/_, _≤_, _<_};
 ghost use lib.ListN.{length};
 ghost use Rattle.lists.specs.Members.{among};
 ghost use Rattle.number_sets.specs.NumberSets.{Marks, Blank};
-ghost use Rattle.catalog_frames.specs.Words.{pointWords};
-ghost use Rattle.catalog.specs.Scans.{hasNumber, isOfKind, isTarget, numbersBefore};
-ghost use Rattle.catalog.specs.Marks.{Begun, BlankAtModel, Counted, ScalesAfter, firstStop, inRun, stops, unchanged};
+ghost use Rattle.catalog_frames.specs.InternalWords.{pointWords};
+ghost use Rattle.catalog.specs.InternalScans.{hasNumber, isOfKind, isTarget, numbersBefore};
+ghost use Rattle.catalog.specs.InternalMarks.{AfterModelFrame, BlankAtModel, Counted, ScalesAfter, firstStop, inRun, stops, unchanged};
 
 // The points that a reference names.
 pub(crate) enum Target {
@@ -181,7 +181,7 @@ pub(crate) fn begin_model(
 ) -> usize
     requires { ⌜ (i < length (now catalog) / 8) × (first ≤ i) ⌝ }
     requires { ⌜ BlankAtModel (now catalog) i (now scales) ⌝ }
-    ensures { λ r. ⌜ Begun (now (catalog .entry)) i first uncounted r (now (ids .entry)) (now (ids .exit)) (now (numbers .entry)) (now (numbers .exit)) (now (scales .entry)) (now (scales .exit)) ⌝ }
+    ensures { λ r. ⌜ AfterModelFrame (now (catalog .entry)) i first uncounted r (now (ids .entry)) (now (ids .exit)) (now (numbers .entry)) (now (numbers .exit)) (now (scales .entry)) (now (scales .exit)) ⌝ }
 {
     if word_of(catalog, i, 0) != MODEL {
         return uncounted;

@@ -11,7 +11,7 @@ ghost use Prim.Native.Nat.{_-_, _/_, _<_, _≤_};
 ghost use lib.Dec.{eqb};
 ghost use lib.ListN.{length, getD};
 ghost use Rattle.catalog_frames.specs.Frames.{word, fill};
-ghost use Rattle.catalog.specs.Tracking.{Room, codeStart, withOpened, withEnded, stateOf};
+ghost use Rattle.catalog.specs.InternalTracking.{Capacity, codeStart, withOpened, withEnded, stateOf};
 
 // The number of models so far, an open one included; the number of open groups, and the first frame inside each, that of
 // the top group first; whether a group is directly in the innermost; whether a fill group is in the top group.
@@ -50,7 +50,7 @@ pub(crate) fn innermost(state: State) -> usize
 // The state after frame i, which breaks no rule.
 pub(crate) fn after(catalog: &[u16], i: usize, state: State) -> State
     requires { ⌜ (i < length (now catalog) / 8) × (i < 4096) × (state .models ≤ i) ⌝ }
-    requires { ⌜ Room (word (now catalog) i 0) state ⌝ }
+    requires { ⌜ Capacity (word (now catalog) i 0) state ⌝ }
     ensures { λ r. ⌜ r ≡ stateOf (word (now (catalog .entry)) i 0) (word (now (catalog .entry)) i 3) i state ⌝ }
 {
     let kind = word_of(catalog, i, 0);

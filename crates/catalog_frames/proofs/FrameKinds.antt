@@ -7,8 +7,8 @@ use borrow.Author.Tests.{eqb-true, eqb-false, not-true, not-false}
 use lib.Dec.{eqb}
 use Rattle.lists.proofs.TestOutcomes.{by-test, clash}
 use Rattle.catalog_frames.specs.Frames.{Frame, modelFrame, groupFrame, pointFrame, endFrame, malformed, word, frameOf, frameAt}
-use Rattle.catalog_frames.specs.Forms.{IsHead, IsPoint, headForm, pointForm}
-use Rattle.catalog_frames.specs.Words.{zeroWords, namedWords, headWords, pointWords}
+use Rattle.catalog_frames.specs.CodeTypes.{IsHead, IsPoint, toSpecHead, toSpecPoint}
+use Rattle.catalog_frames.specs.InternalWords.{zeroWords, namedWords, headWords, pointWords}
 use Rattle.catalog_frames.specs.declared.Head.{Head}
 use Rattle.catalog_frames.specs.declared.Point.{Point}
 
@@ -61,11 +61,11 @@ module _ (ws : List ℕ) (i k : ℕ) (kind : k ≡ word ws i 0) where
           let z = rw (named, h) at (sym q ∙ not-false all-zero t) in
           ap modelFrame e ∙ sym (is-formed (zeroWords ws i 2 6) (modelFrame (word ws i 1)) (rw (← kind, h)) z)
 
-      pub group-here : k ≡ 2 → (r : Head) → IsHead r (headWords ws i) → groupFrame (headForm r) ≡ frameAt ws i
+      pub group-here : k ≡ 2 → (r : Head) → IsHead r (headWords ws i) → groupFrame (toSpecHead r) ≡ frameAt ws i
       unfolding frameOf zeroWords
       group-here h r e =
           let z = rw (named, h) at (sym q ∙ not-false all-zero t) in
-          let same : headForm r ≡ headWords ws i = rw (e .number, e .groupType, e .countKind, e .count) in
+          let same : toSpecHead r ≡ headWords ws i = rw (e .number, e .groupType, e .countKind, e .count) in
           ap groupFrame same ∙ sym (is-formed (zeroWords ws i 5 3) (groupFrame (headWords ws i)) (rw (← kind, h)) z)
 
       pub end-here : k ≡ 4 → endFrame ≡ frameAt ws i
@@ -74,8 +74,8 @@ module _ (ws : List ℕ) (i k : ℕ) (kind : k ≡ word ws i 0) where
           let z = rw (named, h) at (sym q ∙ not-false all-zero t) in
           sym (is-formed (zeroWords ws i 1 7) endFrame (rw (← kind, h)) z)
 
-  pub point-here : k ≡ 3 → (r : Point) → IsPoint r (pointWords ws i) → pointFrame (pointForm r) ≡ frameAt ws i
+  pub point-here : k ≡ 3 → (r : Point) → IsPoint r (pointWords ws i) → pointFrame (toSpecPoint r) ≡ frameAt ws i
   point-here h r e =
-      let same : pointForm r ≡ pointWords ws i =
+      let same : toSpecPoint r ≡ pointWords ws i =
       rw (e .number, e .typeCode, e .size, e .scaleKind, e .scale, e .mandatory, e .access) in
       ap pointFrame same ∙ sym (kind-3 h)

@@ -7,7 +7,7 @@ use native.Mathlib.Numerals.{add-one}
 use native.Mathlib.Omega.{arith}
 use borrow.Author.Tests.{eq-eqb, ne-eqb}
 use Rattle.catalog_frames.specs.Frames.{word}
-use Rattle.catalog_frames.specs.Words.{zeroWords}
+use Rattle.catalog_frames.specs.InternalWords.{zeroWords}
 
 module _ (ws : List ℕ) (i k n : ℕ) where
   pub zero-none : n ≤ 0 → zeroWords ws i k n ≡ true

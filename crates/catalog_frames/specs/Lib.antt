@@ -1,3 +1,3 @@
 pub mod Frames
-pub mod Forms
-pub mod Words
+pub mod CodeTypes
+pub mod InternalWords

@@ -3,8 +3,8 @@ ghost use mathlib.Core.Path.{_≡_};
 ghost use Prim.Native.Nat.{_/_, _-_, _<_, _≤_};
 ghost use lib.ListN.{length};
 ghost use Rattle.catalog_frames.specs.Frames.{word, frameAt, frameIn};
-ghost use Rattle.catalog_frames.specs.Forms.{IsHead, IsPoint, frameForm};
-ghost use Rattle.catalog_frames.specs.Words.{headWords, namedWords, pointWords, zeroWords};
+ghost use Rattle.catalog_frames.specs.CodeTypes.{IsHead, IsPoint, toSpecFrame};
+ghost use Rattle.catalog_frames.specs.InternalWords.{headWords, namedWords, pointWords, zeroWords};
 
 // The words of a frame.
 pub const WORDS: usize = 8;
@@ -81,7 +81,7 @@ fn word_of(catalog: &[u16], i: usize, k: usize) -> u16
 // Frame i.
 fn frame_at(catalog: &[u16], i: usize) -> Frame
     requires { ⌜ i < length (now catalog) / 8 ⌝ }
-    ensures { λ r. ⌜ frameForm r ≡ frameAt (now (catalog .entry)) i ⌝ }
+    ensures { λ r. ⌜ toSpecFrame r ≡ frameAt (now (catalog .entry)) i ⌝ }
 {
     let kind = word_of(catalog, i, 0);
     if !zero_from(catalog, i, named_words(kind)) {
@@ -111,7 +111,7 @@ fn named_words(kind: u16) -> usize
 
 // Frame i; malformed where the catalog has no such whole frame.
 pub fn read_frame(catalog: &[u16], i: usize) -> Frame
-    ensures { λ r. ⌜ frameForm r ≡ frameIn (now (catalog .entry)) i ⌝ }
+    ensures { λ r. ⌜ toSpecFrame r ≡ frameIn (now (catalog .entry)) i ⌝ }
 {
     if catalog.len() / WORDS <= i {
         return Frame::Malformed;

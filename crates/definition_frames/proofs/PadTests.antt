@@ -9,9 +9,9 @@ use lib.Dec.{eqb}
 use Rattle.catalog_frames.specs.Frames.{Point, Head, frameIn}
 use Rattle.model_definitions.specs.Definitions.{pointsSize}
 use Rattle.layout.specs.Reading.{endsWithPad, hasNoGroup, padLeftOut}
-use Rattle.layout.specs.Walks.{heldAt, Stands, headOf}
+use Rattle.layout.specs.InternalWalks.{contentFrom, ParsesAt, headOf}
 use Rattle.layout.proofs.LeftOutPad.{group-after, no-group-after}
-use Rattle.definition_frames.specs.Answers.{PointRun, RunOf, isNone, lacksPad, runForm}
+use Rattle.definition_frames.specs.CodeTypes.{PointRun, RunOf, isNone, lacksPad, toSpecRun}
 use Rattle.definition_frames.specs.declared.runs.Run.{Run}
 
 -- In the order of the tests.
@@ -38,9 +38,9 @@ groups-first false l true = refl
 groups-first false l false = refl
 
 -- Where a group is open, the run of its points and the frame after them decide as its content does.
-pub held-pad : (ws : List ℕ) (first : ℕ) → Stands ws first → (r : Run) → RunOf (heldAt ws first .points) first r → (id len : ℕ)
-    → lacksPad id (runForm r) (headOf (frameIn ws (r .next))) len ≡ padLeftOut id (heldAt ws first) len
-held-pad ws first s r x id len =
+pub content-pad : (ws : List ℕ) (first : ℕ) → ParsesAt ws first → (r : Run) → RunOf (contentFrom ws first .points) first r → (id len : ℕ)
+    → lacksPad id (toSpecRun r) (headOf (frameIn ws (r .next))) len ≡ padLeftOut id (contentFrom ws first) len
+content-pad ws first s r x id len =
     ap (λ b. eqb id 1 && b)
     (ap (λ b. b && (eqb (len + 1) (r .size) && isNone (headOf (frameIn ws (r .next))))) (x .pad)
     ∙ ap (λ n. endsWithPad ps && (eqb (len + 1) n && isNone (headOf (frameIn ws (r .next))))) (x .size)
@@ -48,8 +48,8 @@ held-pad ws first s r x id len =
     ∙ ap (λ b. b && (endsWithPad ps && eqb (len + 1) (pointsSize ps))) (go (headOf (frameIn ws (r .next))) refl))
   where
     ps : List Point
-    ps = heldAt ws first .points
+    ps = contentFrom ws first .points
 
-    go : (o : Option Head) → headOf (frameIn ws (r .next)) ≡ o → isNone o ≡ hasNoGroup (heldAt ws first .groups)
+    go : (o : Option Head) → headOf (frameIn ws (r .next)) ≡ o → isNone o ≡ hasNoGroup (contentFrom ws first .groups)
     go none e = sym (no-group-after ws first (r .next) s (x .next) e)
     go (some h) e = sym (group-after ws first (r .next) s (x .next) h e)

@@ -11,11 +11,11 @@ use Rattle.catalog_frames.specs.Frames.{Point, pad}
 use Rattle.catalog.specs.Rules.{run}
 use Rattle.model_definitions.specs.Definitions.{pointsSize}
 use Rattle.layout.specs.Reading.{endsWithPad}
-use Rattle.layout.specs.Walks.{onward, heldAt, Stands}
-use Rattle.definition_frames.specs.Answers.{RunOf, PointRun, runForm, runOf}
+use Rattle.layout.specs.InternalWalks.{onward, contentFrom, ParsesAt}
+use Rattle.definition_frames.specs.CodeTypes.{RunOf, PointRun, toSpecRun, runOf}
 use Rattle.definition_frames.specs.declared.runs.Run.{Run}
-use Rattle.layout.proofs.Standing.{past-end-within}
-use Rattle.layout.proofs.FrameRuns.{run-held}
+use Rattle.layout.proofs.FramePosition.{past-end-within}
+use Rattle.layout.proofs.FrameRuns.{run-content}
 
 -- Is the last of these points a pad, or where there is none, was the one before them?
 abbrev pub lastIsPad : Bool → List Point → Bool
@@ -75,20 +75,20 @@ module _ (all left : List Point) (first size points i : ℕ) (before : Bool) (r 
       }
 
 -- In a catalog of up to 4,096 frames, where a group is open, the run is the points that it still holds.
-run-whole : (ws : List ℕ) (i : ℕ) → Stands ws i → length ws / 8 ≤ 4096
-    → take 4096 (run (onward ws i)) ≡ heldAt ws i .points
+run-whole : (ws : List ℕ) (i : ℕ) → ParsesAt ws i → length ws / 8 ≤ 4096
+    → take 4096 (run (onward ws i)) ≡ contentFrom ws i .points
 run-whole ws i s few =
     let w = past-end-within ws i s in
-    ap (take 4096) (run-held ws i s) ∙ take-all 4096 (heldAt ws i .points) (omega arith)
+    ap (take 4096) (run-content ws i s) ∙ take-all 4096 (contentFrom ws i .points) (omega arith)
 
 -- A run as one equation.
-pub run-form : {ps : List Point} {first : ℕ} {r : Run} → RunOf ps first r → runForm r ≡ runOf ps first
-run-form x = λ k. record { size = x .size k; points = x .points k; next = x .next k; pad = x .pad k }
+pub to-spec-run : {ps : List Point} {first : ℕ} {r : Run} → RunOf ps first r → toSpecRun r ≡ runOf ps first
+to-spec-run x = λ k. record { size = x .size k; points = x .points k; next = x .next k; pad = x .pad k }
 
 -- Of a definition's frames, the run that `run_extent` finds is the points of the group there.
-pub held-run : (ws : List ℕ) (first : ℕ) → Stands ws first → length ws / 8 ≤ 4096 → (r : Run)
-    → runForm r ≡ runOf (take 4096 (run (onward ws first))) first → RunOf (heldAt ws first .points) first r
-held-run ws first s few r e =
+pub content-run : (ws : List ℕ) (first : ℕ) → ParsesAt ws first → length ws / 8 ≤ 4096 → (r : Run)
+    → toSpecRun r ≡ runOf (take 4096 (run (onward ws first))) first → RunOf (contentFrom ws first .points) first r
+content-run ws first s few r e =
     let same = e ∙ ap (λ ps. runOf ps first) (run-whole ws first s few) in
     record {
       size = ap (λ (x : PointRun). x .size) same;

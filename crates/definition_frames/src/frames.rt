@@ -7,8 +7,8 @@ ghost use mathlib.Core.Path.{_≡_};
 ghost use Prim.Native.Nat.{_+_, _/_, _≤_};
 ghost use lib.ListN.{length};
 ghost use Rattle.catalog_frames.specs.Frames.{frameIn};
-ghost use Rattle.layout.specs.Walks.{pointOf, headOf, openBehind, onward, framesOfGroup};
-ghost use Rattle.definition_frames.specs.Answers.{pointOrForm, groupOrForm};
+ghost use Rattle.layout.specs.InternalWalks.{pointOf, headOf, openAfter, onward, framesOfGroup};
+ghost use Rattle.definition_frames.specs.CodeTypes.{toSpecPointOr, toSpecGroupOr};
 
 // A point frame, or any other.
 pub enum PointOr {
@@ -24,7 +24,7 @@ pub enum GroupOr {
 
 // Is frame i a point, and which?
 pub fn point_at(catalog: &[u16], i: usize) -> PointOr
-    ensures { λ r. ⌜ pointOrForm r ≡ pointOf (frameIn (now (catalog .entry)) i) ⌝ }
+    ensures { λ r. ⌜ toSpecPointOr r ≡ pointOf (frameIn (now (catalog .entry)) i) ⌝ }
 {
     let found = read_frame(catalog, i);
     match found {
@@ -38,7 +38,7 @@ pub fn point_at(catalog: &[u16], i: usize) -> PointOr
 
 // Is frame i a group, and which?
 pub fn group_at(catalog: &[u16], i: usize) -> GroupOr
-    ensures { λ r. ⌜ groupOrForm r ≡ headOf (frameIn (now (catalog .entry)) i) ⌝ }
+    ensures { λ r. ⌜ toSpecGroupOr r ≡ headOf (frameIn (now (catalog .entry)) i) ⌝ }
 {
     let frame = read_frame(catalog, i);
     match frame {
@@ -74,7 +74,7 @@ pub fn after_group(catalog: &[u16], i: usize) -> usize
 // The number of groups that are open after the frame `at`, given the number before it.
 fn depth_after(catalog: &[u16], at: usize, depth: usize) -> usize
     requires { ⌜ (1 ≤ depth) × (depth ≤ length (now catalog) / 8) ⌝ }
-    ensures { λ r. ⌜ r ≡ openBehind (frameIn (now (catalog .entry)) at) depth ⌝ }
+    ensures { λ r. ⌜ r ≡ openAfter (frameIn (now (catalog .entry)) at) depth ⌝ }
 {
     let frame = read_frame(catalog, at);
     match frame {

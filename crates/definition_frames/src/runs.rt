@@ -8,8 +8,8 @@ ghost use mathlib.Core.Path.{_≡_};
 ghost use lib.ListN.{take};
 ghost use Rattle.catalog_frames.specs.Frames.{frameIn};
 ghost use Rattle.catalog.specs.Rules.{run};
-ghost use Rattle.layout.specs.Walks.{headOf, onward};
-ghost use Rattle.definition_frames.specs.Answers.{lacksPad, runForm, runOf};
+ghost use Rattle.layout.specs.InternalWalks.{headOf, onward};
+ghost use Rattle.definition_frames.specs.CodeTypes.{lacksPad, toSpecRun, runOf};
 
 // The most frames of a catalog.
 const FRAMES: usize = 4096;
@@ -24,7 +24,7 @@ pub struct Run {
 
 // The run of point frames from frame `first` on. Of one that is longer than any catalog, the first 4,096 frames.
 pub fn run_extent(catalog: &[u16], first: usize) -> Run
-    ensures { λ r. ⌜ runForm r ≡ runOf (take 4096 (run (onward (now (catalog .entry)) first))) first ⌝ }
+    ensures { λ r. ⌜ toSpecRun r ≡ runOf (take 4096 (run (onward (now (catalog .entry)) first))) first ⌝ }
 {
     let mut size = 0usize;
     let mut points = 0usize;
@@ -60,7 +60,7 @@ pub fn run_extent(catalog: &[u16], first: usize) -> Run
 // Is the last pad of a model left out? Only in a model of id 1 that has no groups and is one register shorter than its
 // points, which are `run`.
 pub fn is_pad_left_out(catalog: &[u16], id: u16, run: Run, length: usize) -> bool
-    ensures { λ r. ⌜ r ≡ lacksPad id (runForm run) (headOf (frameIn (now (catalog .entry)) (run .next))) length ⌝ }
+    ensures { λ r. ⌜ r ≡ lacksPad id (toSpecRun run) (headOf (frameIn (now (catalog .entry)) (run .next))) length ⌝ }
 {
     if id != 1 {
         return false;

@@ -9,7 +9,7 @@ use Rattle.values.specs.Classes.{isScaleFactor}
 use Rattle.values.specs.Unscaled.{Unscaled, number, noValue, notScalable, unscaled}
 use Rattle.values.proofs.UnscaledRange.{Within64, unscaled-range}
 use Rattle.display.specs.Amounts.{Amount, amount, refused, amountOf, zeros, places}
-use Rattle.display.specs.Parts.{partsOf, acceptedForm, TenAtMost}
+use Rattle.display.specs.InternalParts.{toCodeParts, toCodeAccepted, TenAtMost}
 use Rattle.display.specs.declared.quantities.ScaledNumber.{ScaledNumber}
 use Rattle.display.specs.declared.quantities.Accepted.{Accepted}
 use Rattle.display.proofs.ScaleFactors.{ten-at-most}
@@ -51,7 +51,7 @@ module _ (code raw : ℕ) (scale : ℤ) where
   scale-within value s e = let a = amount-of value s e in rw (← a .same-scale) (ten-at-most scale (a .in-range))
 
 -- What the code's reading of a quantity tells of its amount.
-pub was-refused : (a : Amount) (n : ℕ) → Accepted.Refused n ≡ acceptedForm a → a ≡ refused n
+pub was-refused : (a : Amount) (n : ℕ) → Accepted.Refused n ≡ toCodeAccepted a → a ≡ refused n
 was-refused (amount value scale) n e = cc
 was-refused (refused m) n e = cc
 
@@ -59,14 +59,14 @@ pub record WasAmount (a : Amount) (parts : ScaledNumber) : Type 0 where
   pub value : ℤ
   pub scale : ℤ
   pub is : a ≡ amount value scale
-  pub form : parts ≡ partsOf value scale
+  pub form : parts ≡ toCodeParts value scale
 
-pub was-amount : (a : Amount) (parts : ScaledNumber) → Accepted.Of parts ≡ acceptedForm a → WasAmount a parts
+pub was-amount : (a : Amount) (parts : ScaledNumber) → Accepted.Of parts ≡ toCodeAccepted a → WasAmount a parts
 was-amount (amount value scale) parts e = record { value = value; scale = scale; is = refl; form = cc }
 was-amount (refused m) parts e = impossible (cc)
 
 -- The parts are bounded by the scale factor's range.
-pub parts-within : (code raw : ℕ) (s : ℤ) (parts : ScaledNumber) → Accepted.Of parts ≡ acceptedForm (amountOf code raw s)
+pub parts-within : (code raw : ℕ) (s : ℤ) (parts : ScaledNumber) → Accepted.Of parts ≡ toCodeAccepted (amountOf code raw s)
     → TenAtMost (parts .zeros) (parts .places)
 parts-within code raw s parts e =
     let w = was-amount (amountOf code raw s) parts e in
@@ -74,5 +74,5 @@ parts-within code raw s parts e =
 
 -- Parts that agree one by one are the same.
 pub same-parts : (value scale : ℤ) (parts : ScaledNumber) → parts .negative ≡ not (nonNeg value) → parts .magnitude ≡ natAbs value
-    → parts .zeros ≡ zeros scale → parts .places ≡ places scale → parts ≡ partsOf value scale
+    → parts .zeros ≡ zeros scale → parts .places ≡ places scale → parts ≡ toCodeParts value scale
 same-parts value scale parts n m z p = rw (← n, ← m, ← z, ← p)

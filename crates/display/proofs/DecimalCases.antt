@@ -9,15 +9,15 @@ use borrow.Author.Tests.{le-ltb}
 use lib.IntN.{ℤ}
 use Rattle.display.specs.Amounts.{amountOf}
 use Rattle.display.specs.Decimals.{decimalPoint, lastDigits, digitsOf, sign, unsignedText, text, decimalOf}
-use Rattle.display.specs.Parts.{TenAtMost, partsText}
+use Rattle.display.specs.InternalParts.{TenAtMost, partsText}
 use Rattle.display.specs.declared.quantities.ScaledNumber.{ScaledNumber}
 use Rattle.display.proofs.AmountCases.{WasAmount}
 
 -- The text, where the buffer is long enough.
-pub long-buffer : (code raw : ℕ) (scale : ℤ) (room : ℕ) (parts : ScaledNumber) → WasAmount (amountOf code raw scale) parts
-    → 32 ≤ room → decimalOf code raw scale room ≡ text (partsText parts)
+pub long-buffer : (code raw : ℕ) (scale : ℤ) (capacity : ℕ) (parts : ScaledNumber) → WasAmount (amountOf code raw scale) parts
+    → 32 ≤ capacity → decimalOf code raw scale capacity ≡ text (partsText parts)
 unfolding decimalOf
-long-buffer code raw scale room parts was h =
+long-buffer code raw scale capacity parts was h =
     simp (decimalOf, was .is, le-ltb _ _ h) (ap (λ (p : ScaledNumber). text (partsText p)) (sym (was .form)))
 
 -- Without places the text is the whole number.

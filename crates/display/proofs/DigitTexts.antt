@@ -9,7 +9,7 @@ use lib.ListN.{length, take, set, replicate}
 use lib.Pow.{pow-add}
 use lib.Seq.{sets, take-at}
 use Rattle.display.specs.Decimals.{digitZero, digitAt, lastDigits, digitCount, digitsOf}
-use Rattle.display.specs.Answers.{digitsForm}
+use Rattle.display.specs.CodeTypes.{toCodeDigits}
 use Rattle.display.specs.declared.Digits.{Digits}
 use Rattle.display.proofs.PowersOfTen.{positive}
 use Rattle.display.proofs.DigitCount.{appended, one-digit}
@@ -34,7 +34,7 @@ store-digit out i (suc k) n digit h e =
     rw (e, s, add-one i)
 
 -- The digits that were stored at the start of zeros, cut out again.
-pub digits-cut : (d : Digits) (n : ℕ) → d ≡ digitsForm n → take (d .count) (d .bytes) ≡ digitsOf n
+pub digits-cut : (d : Digits) (n : ℕ) → d ≡ toCodeDigits n → take (d .count) (d .bytes) ≡ digitsOf n
 digits-cut d n e = rw (e, take-at (digitsOf n) (replicate (20 - digitCount n) 0) (digitCount n) (number-length n))
 
 -- ---- Appended zeros
@@ -66,16 +66,16 @@ high-digit : (n k j : ℕ) → digitAt (n * 10 ^ k) (k + j) ≡ digitAt n j
 high-digit n k j =
     rw (pow-add 10 k j, ← div-div-eq-div-mul (n * 10 ^ k) (10 ^ k) (10 ^ j), mul-div-cancel n (positive k))
 
-pub zeros-behind : (n k j : ℕ) → lastDigits (k + j) (n * 10 ^ k) ≡ lastDigits j n ++ lastDigits k 0
+pub zeros-appended : (n k j : ℕ) → lastDigits (k + j) (n * 10 ^ k) ≡ lastDigits j n ++ lastDigits k 0
 unfolding lastDigits
-zeros-behind n k zero = ap (λ (x : ℕ). lastDigits x (n * 10 ^ k)) (add-zero k) ∙ all-zeros n k k (omega arith)
-zeros-behind n k (suc j) =
+zeros-appended n k zero = ap (λ (x : ℕ). lastDigits x (n * 10 ^ k)) (add-zero k) ∙ all-zeros n k k (omega arith)
+zeros-appended n k (suc j) =
     ap (λ (x : ℕ). lastDigits x (n * 10 ^ k)) (add-suc k j)
     ∙ ap (λ (d : ℕ). d ∷ lastDigits (k + j) (n * 10 ^ k)) (high-digit n k j)
-    ∙ ap (λ (ds : List ℕ). digitAt n j ∷ ds) (zeros-behind n k j)
+    ∙ ap (λ (ds : List ℕ). digitAt n j ∷ ds) (zeros-appended n k j)
 
 pub appended-zeros : (n k : ℕ) → 1 ≤ n → digitsOf (n * 10 ^ k) ≡ digitsOf n ++ lastDigits k 0
-appended-zeros n k h = ap (λ (c : ℕ). lastDigits c (n * 10 ^ k)) (appended n k h) ∙ zeros-behind n k (digitCount n)
+appended-zeros n k h = ap (λ (c : ℕ). lastDigits c (n * 10 ^ k)) (appended n k h) ∙ zeros-appended n k (digitCount n)
 
 -- Zero is one digit, whatever is appended.
 pub zero-text : (n k : ℕ) → n ≡ 0 → digitsOf (n * 10 ^ k) ≡ lastDigits 1 0

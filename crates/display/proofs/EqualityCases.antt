@@ -2,7 +2,7 @@
 use mathlib.Core.Path.{_≡_, sym, ap}
 use Rattle.display.specs.Amounts.{Amount}
 use Rattle.display.specs.Equality.{equality, equalIf}
-use Rattle.display.specs.Parts.{isSameByParts}
+use Rattle.display.specs.InternalParts.{isSameByParts}
 use Rattle.display.specs.declared.quantities.ScaledNumber.{ScaledNumber}
 use Rattle.display.proofs.AmountCases.{WasAmount}
 use Rattle.display.proofs.SameAmount.{by-parts}

@@ -15,7 +15,7 @@ use Rattle.values.specs.Unscaled.{number, unscaled}
 use Rattle.values.proofs.UnscaledRange.{Within64}
 use Rattle.display.specs.Amounts.{Amount, amount, amountOf, fractionOf, zeros, places}
 use Rattle.display.specs.Decimals.{digitCount, digitsOf, decimalPlaces, unsignedText, decimalText, Decimal, text, decimalOf}
-use Rattle.display.specs.Parts.{TenAtMost}
+use Rattle.display.specs.InternalParts.{TenAtMost}
 use Rattle.display.specs.Reading.{signed, readDecimal}
 use Rattle.display.proofs.PowersOfTen.{positive}
 use Rattle.display.proofs.DigitCount.{at-most}
@@ -71,14 +71,14 @@ text-bound (pos a) scale w t = number-bound a 20 (omega arith) (omega arith) sca
 text-bound (negsuc a) scale w t = omega (arith, number-bound (suc a) 19 (omega arith) (omega arith) scale t)
 
 -- The claim.
-pub exactness : (code raw : ℕ) (scale : ℤ) (room : ℕ) (t : List ℕ) → decimalOf code raw scale room ≡ text t → Exact code raw scale t
+pub exactness : (code raw : ℕ) (scale : ℤ) (capacity : ℕ) (t : List ℕ) → decimalOf code raw scale capacity ≡ text t → Exact code raw scale t
 unfolding decimalOf
-exactness code raw scale room t e = by-amount (amountOf code raw scale) refl e
+exactness code raw scale capacity t e = by-amount (amountOf code raw scale) refl e
   where
-    by-room : (value s : ℤ) → amountOf code raw scale ≡ amount value s → (b : Bool)
+    by-capacity : (value s : ℤ) → amountOf code raw scale ≡ amount value s → (b : Bool)
         → _≡_ {A = Decimal} (elim b [ true ↦ Decimal.refused 46 | false ↦ text (decimalText value s) ]) (text t) → Exact code raw scale t
-    by-room value s a true q = impossible (cc)
-    by-room value s a false q =
+    by-capacity value s a true q = impossible (cc)
+    by-capacity value s a false q =
         let o = amount-of code raw scale value s a in
         let u : t ≡ decimalText value scale = cc in
         record {
@@ -92,8 +92,8 @@ exactness code raw scale room t e = by-amount (amountOf code raw scale) refl e
         → _≡_ {A = Decimal}
         (elim a [
           | Amount.refused n ↦ Decimal.refused n
-          | amount value s ↦ elim (ltb room 32) [ true ↦ Decimal.refused 46 | false ↦ text (decimalText value s) ]
+          | amount value s ↦ elim (ltb capacity 32) [ true ↦ Decimal.refused 46 | false ↦ text (decimalText value s) ]
         ])
         (text t) → Exact code raw scale t
     by-amount (Amount.refused n) a q = impossible (cc)
-    by-amount (amount value s) a q = by-room value s a (ltb room 32) q
+    by-amount (amount value s) a q = by-capacity value s a (ltb capacity 32) q

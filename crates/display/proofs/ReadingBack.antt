@@ -110,11 +110,11 @@ read-unsigned n p =
     begins (digitCount w) w (decimalPlaces p n) (count w .some)
     ∙ read-whole (digitCount w) w 0 (decimalPlaces p n)
     ∙ ap (λ (x : ℕ). readWhole x (decimalPlaces p n)) e
-    ∙ behind p
+    ∙ ends p
   where
-    behind : (q : ℕ) → readWhole (n / 10 ^ q) (decimalPlaces q n) ≡ some (n, 10 ^ q)
-    behind zero = rw (div-one n)
-    behind (suc q) = read-places (suc q) n (n / 10 ^ suc q) 1 ∙ rw (div-add-mod' n (10 ^ suc q), one-mul (10 ^ suc q))
+    ends : (q : ℕ) → readWhole (n / 10 ^ q) (decimalPlaces q n) ≡ some (n, 10 ^ q)
+    ends zero = rw (div-one n)
+    ends (suc q) = read-places (suc q) n (n / 10 ^ suc q) 1 ∙ rw (div-add-mod' n (10 ^ suc q), one-mul (10 ^ suc q))
 
 -- A text without a minus is read as a number without a sign.
 pub no-minus : (n p : ℕ) → readDecimal (unsignedText n p) ≡ signed pos (readUnsigned (unsignedText n p))

@@ -10,7 +10,7 @@ use lib.IntN.{ℤ, pos, _*ℤ_}
 use lib.Pow.{pow-add}
 use Rattle.display.specs.Amounts.{fractionOf, zeros, places}
 use Rattle.display.specs.Equality.{isSameInteger, isSameFraction}
-use Rattle.display.specs.Parts.{partsOf, isSameByParts}
+use Rattle.display.specs.InternalParts.{toCodeParts, isSameByParts}
 use Rattle.display.specs.declared.quantities.ScaledNumber.{ScaledNumber}
 use Rattle.display.proofs.PowersOfTen.{positive}
 use Rattle.display.proofs.Multiples.{same-test}
@@ -20,7 +20,7 @@ use Rattle.display.proofs.ScaledIntegers.{factor-cancels, twice, same-p
 both-powers : (z : ℤ) (i j : ℕ) → z *ℤ pos (10 ^ i) *ℤ pos (10 ^ j) ≡ z *ℤ pos (10 ^ (i + j))
 both-powers z i j = twice z (10 ^ i) (10 ^ j) (positive i) ∙ ap (λ (n : ℕ). z *ℤ pos n) (sym (pow-add 10 i j))
 
-pub by-parts : (v s w t : ℤ) → isSameByParts (partsOf v s) (partsOf w t) ≡ isSameFraction (fractionOf v s) (fractionOf w t)
+pub by-parts : (v s w t : ℤ) → isSameByParts (toCodeParts v s) (toCodeParts w t) ≡ isSameFraction (fractionOf v s) (fractionOf w t)
 unfolding isSameByParts
 by-parts v s w t =
     sym (same-product v w (10 ^ (zeros s + places t)) (10 ^ (zeros t + places s)) (positive (zeros s + places t)) (positive (zeros t + places s)))

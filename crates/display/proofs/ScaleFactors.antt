@@ -10,8 +10,8 @@ use lib.IntN.{ℤ, pos, negsuc}
 use Rattle.values.specs.Classes.{isScaleFactor}
 use Rattle.values.proofs.TwosComplement.{lower-half, upper-half, scale-factor-tail}
 use Rattle.display.specs.Amounts.{zeros, places}
-use Rattle.display.specs.Answers.{scaleFactor}
-use Rattle.display.specs.Parts.{TenAtMost}
+use Rattle.display.specs.CodeTypes.{scaleFactor}
+use Rattle.display.specs.InternalParts.{TenAtMost}
 
 pub from-zero : (register : ℕ) → register ≤ 10 → scaleFactor register ≡ pos register
 from-zero register h = lower-half 16 register (omega arith)

@@ -6,23 +6,23 @@ use native.Mathlib.Nat.{add-zero, add-suc, suc-add}
 use native.Mathlib.Omega.{arith}
 use lib.ListN.{length, length-append, set, drop, replicate, length-replicate, replicate-append-replicate}
 use lib.Seq.{sets, length-sets, sets-eq, drop-at}
-use Rattle.display.specs.Parts.{Put}
+use Rattle.display.specs.InternalParts.{Put}
 
-behind-sets : (out : List ℕ) (i : ℕ) (xs ys : List ℕ) → sets (sets out i xs) (i + length xs) ys ≡ sets out i (xs ++ ys)
-behind-sets out i [] ys = ap (λ (k : ℕ). sets out k ys) (add-zero i)
-behind-sets out i (x ∷ xs) ys =
+sets-joined : (out : List ℕ) (i : ℕ) (xs ys : List ℕ) → sets (sets out i xs) (i + length xs) ys ≡ sets out i (xs ++ ys)
+sets-joined out i [] ys = ap (λ (k : ℕ). sets out k ys) (add-zero i)
+sets-joined out i (x ∷ xs) ys =
     ap (λ (k : ℕ). sets (sets (set out i x) (suc i) xs) k ys) (add-suc i (length xs) ∙ sym (suc-add i (length xs)))
-    ∙ behind-sets (set out i x) (suc i) xs ys
+    ∙ sets-joined (set out i x) (suc i) xs ys
 
 -- One byte.
 pub put-byte : (out : List ℕ) (position byte : ℕ) → Put out (set out position byte) position (byte ∷ []) (position + 1)
-put-byte out position byte = record { stored = refl; behind = refl }
+put-byte out position byte = record { stored = refl; ends = refl }
 
 pub put-both : {a b c : List ℕ} {i j k : ℕ} {xs ys : List ℕ} → Put a b i xs j → Put b c j ys k → Put a c i (xs ++ ys) k
 put-both {a} {b} {c} {i} {j} {k} {xs} {ys} p q =
     record {
-      stored = q .stored ∙ rw (p .stored, p .behind) (behind-sets a i xs ys);
-      behind = omega (arith, p .behind, q .behind, length-append xs ys);
+      stored = q .stored ∙ rw (p .stored, p .ends) (sets-joined a i xs ys);
+      ends = omega (arith, p .ends, q .ends, length-append xs ys);
     }
 
 -- The same text in other words.
@@ -36,14 +36,14 @@ put-length {a} {b} {i} {j} {xs} p = ap length (p .stored) ∙ length-sets a i xs
 pub put-start : {a b : List ℕ} {j : ℕ} {xs : List ℕ} → Put a b 0 xs j → j ≤ length a → b ≡ xs ++ drop (length xs) a
 put-start {a} {b} {j} {xs} p h =
     let e : 0 + length xs ≡ length xs = omega arith in
-    p .stored ∙ sets-eq xs a 0 (omega (arith, p .behind)) ∙ ap (λ (k : ℕ). xs ++ drop k a) e
+    p .stored ∙ sets-eq xs a 0 (omega (arith, p .ends)) ∙ ap (λ (k : ℕ). xs ++ drop k a) e
 
 -- A text at the start of zeros: zeros behind it.
 pub put-on-zeros : {n : ℕ} {b : List ℕ} {j : ℕ} {xs : List ℕ}
     → Put (replicate n 0) b 0 xs j → j ≤ n → b ≡ xs ++ replicate (n - length xs) 0
 put-on-zeros {n} {b} {j} {xs} p h =
     let k = length xs in
-    let e : k + (n - k) ≡ n = omega (arith, p .behind) in
+    let e : k + (n - k) ≡ n = omega (arith, p .ends) in
     let first : List ℕ = replicate k 0 in
     let rest : List ℕ = replicate (n - k) 0 in
     let whole : first ++ rest ≡ replicate n 0 = rw (replicate-append-replicate {A = ℕ} k (n - k) 0, e) in

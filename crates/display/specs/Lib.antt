@@ -2,5 +2,5 @@ pub mod Amounts
 pub mod Decimals
 pub mod Reading
 pub mod Equality
-pub mod Parts
-pub mod Answers
+pub mod InternalParts
+pub mod CodeTypes

@@ -3,8 +3,8 @@ ghost use mathlib.Core.Path.{_≡_};
 ghost use Prim.Native.Nat.{_*_, _^_};
 ghost use lib.Dec.{eqb};
 ghost use Rattle.display.specs.Equality.{equalIf, equality};
-ghost use Rattle.display.specs.Answers.{quantityAmount, equalityAnswer};
-ghost use Rattle.display.specs.Parts.{TenAtMost, isSameByParts};
+ghost use Rattle.display.specs.CodeTypes.{quantityAmount, toSpecEquality};
+ghost use Rattle.display.specs.InternalParts.{TenAtMost, isSameByParts};
 use crate::Equality;
 use crate::Quantity;
 use crate::powers::POWERS;
@@ -15,7 +15,7 @@ use crate::quantities::accept;
 
 // Is value × 10 ^ scale the same number for both? The first quantity's refusal comes before the second's.
 pub fn equal_quantities(a: Quantity, b: Quantity) -> Equality
-    ensures { λ r. ⌜ equalityAnswer r ≡ equality (quantityAmount a) (quantityAmount b) ⌝ }
+    ensures { λ r. ⌜ toSpecEquality r ≡ equality (quantityAmount a) (quantityAmount b) ⌝ }
 {
     let first = accept(a);
     let second = accept(b);
@@ -30,7 +30,7 @@ pub fn equal_quantities(a: Quantity, b: Quantity) -> Equality
 
 // The answer for quantities that are accepted.
 fn equal_if(same: bool) -> Equality
-    ensures { λ r. ⌜ equalityAnswer r ≡ equalIf same ⌝ }
+    ensures { λ r. ⌜ toSpecEquality r ≡ equalIf same ⌝ }
 {
     if same {
         return Equality::Equal;

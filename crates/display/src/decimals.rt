@@ -3,8 +3,8 @@ ghost use mathlib.Core.Path.{_≡_};
 ghost use Prim.Native.Nat.{_+_, _*_, _^_, _≤_, _<_};
 ghost use lib.ListN.{length};
 ghost use Rattle.display.specs.Decimals.{digitAt, lastDigits, digitCount, digitsOf, sign, unsignedText, stored};
-ghost use Rattle.display.specs.Answers.{decimalInto, lengthOf, decimalAnswer, LengthFits, digitsForm};
-ghost use Rattle.display.specs.Parts.{TenAtMost, partsText, Put};
+ghost use Rattle.display.specs.CodeTypes.{decimalInto, lengthOf, toSpecDecimal, LengthFits, toCodeDigits};
+ghost use Rattle.display.specs.InternalParts.{TenAtMost, partsText, Put};
 use crate::DecimalText;
 use crate::Digits;
 use crate::MOST_DIGITS;
@@ -16,12 +16,12 @@ use crate::quantities::ScaledNumber;
 use crate::quantities::accept;
 
 // Every buffer must have room for so many bytes, whatever the text.
-const ROOM: usize = 32;
+const CAPACITY: usize = 32;
 
 // Writes value × 10 ^ scale, exact, at the start of `out`, and answers the length of the text. On a
 // refusal nothing is written.
 pub fn decimal(type_code: u16, raw: u64, scale: u16, out: &mut [u8]) -> DecimalText
-    ensures { λ r. ⌜ decimalAnswer r ≡ lengthOf (decimalInto «type_code» raw scale (now (out .entry))) ⌝ }
+    ensures { λ r. ⌜ toSpecDecimal r ≡ lengthOf (decimalInto «type_code» raw scale (now (out .entry))) ⌝ }
     ensures { λ _. ⌜ now (out .exit) ≡ stored (decimalInto «type_code» raw scale (now (out .entry))) (now (out .entry)) ⌝ }
     ensures { λ r. ⌜ LengthFits (now (out .exit)) r ⌝ }
 {
@@ -33,7 +33,7 @@ pub fn decimal(type_code: u16, raw: u64, scale: u16, out: &mut [u8]) -> DecimalT
     match accepted {
         Accepted::Refused { number } => DecimalText::Refused { number },
         Accepted::Of(amount) => {
-            if out.len() < ROOM {
+            if out.len() < CAPACITY {
                 return DecimalText::Refused { number: 46 };
             }
             DecimalText::Length(put_amount(out, amount))
@@ -43,7 +43,7 @@ pub fn decimal(type_code: u16, raw: u64, scale: u16, out: &mut [u8]) -> DecimalT
 
 // The digits of a number, without a leading zero; 0 is one digit.
 pub fn digits_of(n: u64) -> Digits
-    ensures { λ r. ⌜ r ≡ digitsForm n ⌝ }
+    ensures { λ r. ⌜ r ≡ toCodeDigits n ⌝ }
     ensures { λ r. ⌜ r .count ≤ length (r .bytes) ⌝ }
 {
     let mut bytes = [0u8; MOST_DIGITS];

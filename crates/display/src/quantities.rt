@@ -3,8 +3,8 @@ ghost use mathlib.Core.Path.{_≡_};
 ghost use mathlib.Core.Bool.{true};
 ghost use Rattle.values.specs.Classes.{isScaleFactor};
 ghost use Rattle.display.specs.Amounts.{zeros, places};
-ghost use Rattle.display.specs.Answers.{scaleFactor, quantityAmount};
-ghost use Rattle.display.specs.Parts.{acceptedForm};
+ghost use Rattle.display.specs.CodeTypes.{scaleFactor, quantityAmount};
+ghost use Rattle.display.specs.InternalParts.{toCodeAccepted};
 use crate::Quantity;
 use values::UnscaledValue;
 
@@ -24,7 +24,7 @@ pub(crate) enum Accepted {
 
 // The amount of a quantity. The type is tried first, then the value, then the scale factor.
 pub(crate) fn accept(quantity: Quantity) -> Accepted
-    ensures { λ r. ⌜ r ≡ acceptedForm (quantityAmount quantity) ⌝ }
+    ensures { λ r. ⌜ r ≡ toCodeAccepted (quantityAmount quantity) ⌝ }
 {
     let unscaled = values::unscaled_value(quantity.type_code, quantity.raw);
     let in_range = values::scale_factor_in_range(quantity.scale);

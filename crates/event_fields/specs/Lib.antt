@@ -1,2 +1,2 @@
 pub mod Events
-pub mod Answers
+pub mod CodeTypes

@@ -1,7 +1,7 @@
 // The bits of an event field.
 ghost use mathlib.Core.Path.{_≡_};
 ghost use Rattle.event_fields.specs.Events.{isBitfield, eventBits};
-ghost use Rattle.event_fields.specs.Answers.{eventAnswer};
+ghost use Rattle.event_fields.specs.CodeTypes.{toSpecEventBits};
 
 // The number of bits that are set and the lowest set position, 64 if none. Refused: 41, 42.
 pub enum EventBits {
@@ -11,7 +11,7 @@ pub enum EventBits {
 
 // The bits that are set in a bitfield's value.
 pub fn event_bits(type_code: u16, raw: u64) -> EventBits
-    ensures { λ r. ⌜ eventAnswer r ≡ eventBits «type_code» raw ⌝ }
+    ensures { λ r. ⌜ toSpecEventBits r ≡ eventBits «type_code» raw ⌝ }
 {
     if !is_bitfield(type_code) {
         return EventBits::Refused { number: 41 };

@@ -10,8 +10,8 @@ use Rattle.catalog_frames.specs.Frames.{Point, Head, Frame, modelFrame, groupFr
 use Rattle.catalog_frames.specs.Frames.{fixedScale, scaleByPoint, constantCount, countByPoint, fill}
 
 -- The number of the rule that a frame breaks, if it breaks one: the code writes 0 for none.
-abbrev pub faultForm : ℕ → Option ℕ
-faultForm n = elim (eqb n 0) [ true ↦ none | false ↦ some n ]
+abbrev pub toSpecFault : ℕ → Option ℕ
+toSpecFault n = elim (eqb n 0) [ true ↦ none | false ↦ some n ]
 
 -- Is this a size of the type? An unknown type has none.
 unfoldable pub isSizeOf : ℕ → ℕ → Bool
@@ -19,12 +19,12 @@ isSizeOf code size =
     elim (registersOf code) [ none ↦ false | some r ↦ leb (r .0) size && leb size (r .1) ]
 
 -- 7: an unknown type or wrong size; group type, mandatory or access not 0 or 1.
-abbrev pub isMistyped : Frame → Bool
-isMistyped (modelFrame id) = false
-isMistyped (groupFrame h) = ltb 1 (h .groupType)
-isMistyped (pointFrame p) = not (isSizeOf (p .typeCode) (p .size)) || ltb 1 (p .mandatory) || ltb 1 (p .access)
-isMistyped endFrame = false
-isMistyped malformed = false
+abbrev pub hasBadType : Frame → Bool
+hasBadType (modelFrame id) = false
+hasBadType (groupFrame h) = ltb 1 (h .groupType)
+hasBadType (pointFrame p) = not (isSizeOf (p .typeCode) (p .size)) || ltb 1 (p .mandatory) || ltb 1 (p .access)
+hasBadType endFrame = false
+hasBadType malformed = false
 
 -- ---- The tests of each kind of frame that can hold, with the numbers of their rules, by what the code finds in its sets
 
@@ -32,20 +32,20 @@ isMistyped malformed = false
 abbrev pub modelTests : ℕ → Bool → ℕ → List (Bool × ℕ)
 modelTests depth used id = (not (eqb depth 0), 4) ∷ (eqb id 0 || eqb id 65535 || used, 6) ∷ []
 
--- A group frame: `used` is whether its number is, `miscounted` whether rule 9 is broken.
+-- A group frame: `used` is whether its number is, `badCount` whether rule 9 is broken.
 abbrev pub groupTests : ℕ → Bool → Bool → Bool → Head → List (Bool × ℕ)
-groupTests depth hasFill used miscounted h =
+groupTests depth hasFill used badCount h =
     (eqb depth 0 || eqb depth 1 && hasFill, 4)
     ∷ (leb 4 depth, 5)
     ∷ (eqb (h .number) 0 || used, 6)
     ∷ (ltb 1 (h .groupType), 7)
-    ∷ (miscounted, 9)
+    ∷ (badCount, 9)
     ∷ []
 
--- A point frame: `used` is whether its number is, `misscaled` whether rule 8 is broken.
+-- A point frame: `used` is whether its number is, `badScale` whether rule 8 is broken.
 abbrev pub pointTests : ℕ → Bool → Bool → Bool → Point → List (Bool × ℕ)
-pointTests depth hasGroup used misscaled p =
-    (eqb depth 0 || hasGroup, 4) ∷ (eqb (p .number) 0 || used, 6) ∷ (isMistyped (pointFrame p), 7) ∷ (misscaled, 8) ∷ []
+pointTests depth hasGroup used badScale p =
+    (eqb depth 0 || hasGroup, 4) ∷ (eqb (p .number) 0 || used, 6) ∷ (hasBadType (pointFrame p), 7) ∷ (badScale, 8) ∷ []
 
 -- An end frame: `empty` is whether the group that ends has no point of its own.
 abbrev pub endTests : ℕ → Bool → Bool → List (Bool × ℕ)

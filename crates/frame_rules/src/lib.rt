@@ -16,15 +16,15 @@ ghost use lib.Dec.{eqb};
 ghost use Rattle.lists.specs.Tests.{firstBroken, oneHolds};
 ghost use Rattle.number_sets.specs.NumberSets.{inSet};
 ghost use Rattle.catalog_frames.specs.Frames.{pointFrame};
-ghost use Rattle.catalog_frames.specs.Forms.{headForm, pointForm};
-ghost use Rattle.frame_rules.specs.FrameTests.{faultForm, isSizeOf, isMistyped, countTests, endTests, groupTests, modelTests, pointTests, scaleTests};
+ghost use Rattle.catalog_frames.specs.CodeTypes.{toSpecHead, toSpecPoint};
+ghost use Rattle.frame_rules.specs.FrameTests.{toSpecFault, isSizeOf, hasBadType, countTests, endTests, groupTests, modelTests, pointTests, scaleTests};
 
 // The levels of groups: the top group is level 1.
 pub const LEVELS: usize = 4;
 
 // The rules of a model frame.
 pub fn model_fault(ids: &[u64; SET_WORDS], depth: usize, id: u16) -> u16
-    ensures { λ r. ⌜ faultForm r ≡ firstBroken (modelTests depth (inSet (now (ids .entry)) id) id) ⌝ }
+    ensures { λ r. ⌜ toSpecFault r ≡ firstBroken (modelTests depth (inSet (now (ids .entry)) id) id) ⌝ }
 {
     if depth != 0 {
         return 4;
@@ -49,7 +49,7 @@ pub fn group_fault(
     head: Head,
     counted: bool,
 ) -> u16
-    ensures { λ r. ⌜ faultForm r ≡ firstBroken (groupTests depth «has_fill» (inSet (now (numbers .entry)) (head .number)) (oneHolds (countTests counted (eqb depth 1) (headForm head))) (headForm head)) ⌝ }
+    ensures { λ r. ⌜ toSpecFault r ≡ firstBroken (groupTests depth «has_fill» (inSet (now (numbers .entry)) (head .number)) (oneHolds (countTests counted (eqb depth 1) (toSpecHead head))) (toSpecHead head)) ⌝ }
 {
     if depth == 0 {
         return 4;
@@ -60,13 +60,13 @@ pub fn group_fault(
     if LEVELS <= depth {
         return 5;
     }
-    if is_misnumbered(numbers, head.number) {
+    if has_bad_number(numbers, head.number) {
         return 6;
     }
     if 1 < head.group_type {
         return 7;
     }
-    if is_miscounted(depth, head, counted) {
+    if has_bad_count(depth, head, counted) {
         return 9;
     }
     0
@@ -80,7 +80,7 @@ pub fn point_fault(
     has_group: bool,
     point: Point,
 ) -> u16
-    ensures { λ r. ⌜ faultForm r ≡ firstBroken (pointTests depth «has_group» (inSet (now (numbers .entry)) (point .number)) (oneHolds (scaleTests (inSet (now (scales .entry)) (point .scale)) (pointForm point))) (pointForm point)) ⌝ }
+    ensures { λ r. ⌜ toSpecFault r ≡ firstBroken (pointTests depth «has_group» (inSet (now (numbers .entry)) (point .number)) (oneHolds (scaleTests (inSet (now (scales .entry)) (point .scale)) (toSpecPoint point))) (toSpecPoint point)) ⌝ }
 {
     if depth == 0 {
         return 4;
@@ -88,13 +88,13 @@ pub fn point_fault(
     if has_group {
         return 4;
     }
-    if is_misnumbered(numbers, point.number) {
+    if has_bad_number(numbers, point.number) {
         return 6;
     }
-    if is_mistyped(point) {
+    if has_bad_type(point) {
         return 7;
     }
-    if is_misscaled(scales, point) {
+    if has_bad_scale(scales, point) {
         return 8;
     }
     0
@@ -103,7 +103,7 @@ pub fn point_fault(
 // The rules of an end frame. `empty` is whether the group that ends has no point: points come first in a group, so its
 // first frame shows that.
 pub fn end_fault(depth: usize, has_group: bool, empty: bool) -> u16
-    ensures { λ r. ⌜ faultForm r ≡ firstBroken (endTests depth «has_group» empty) ⌝ }
+    ensures { λ r. ⌜ toSpecFault r ≡ firstBroken (endTests depth «has_group» empty) ⌝ }
 {
     if depth == 0 {
         return 4;
@@ -131,7 +131,7 @@ fn is_after_fill(depth: usize, has_fill: bool) -> bool
 }
 
 // Is the number of a point or group 0, or used in this model?
-fn is_misnumbered(numbers: &[u64; SET_WORDS], number: u16) -> bool
+fn has_bad_number(numbers: &[u64; SET_WORDS], number: u16) -> bool
     ensures { λ r. ⌜ r ≡ eqb number 0 || inSet (now (numbers .entry)) number ⌝ }
 {
     if number == 0 {
@@ -141,8 +141,8 @@ fn is_misnumbered(numbers: &[u64; SET_WORDS], number: u16) -> bool
 }
 
 // Is the type unknown, the size wrong, or mandatory or access not 0 or 1?
-fn is_mistyped(point: Point) -> bool
-    ensures { λ r. ⌜ r ≡ isMistyped (pointFrame (pointForm point)) ⌝ }
+fn has_bad_type(point: Point) -> bool
+    ensures { λ r. ⌜ r ≡ hasBadType (pointFrame (toSpecPoint point)) ⌝ }
 {
     if !is_size_of(point.type_code, point.size) {
         return true;
@@ -170,8 +170,8 @@ fn is_size_of(type_code: u16, size: u16) -> bool
 }
 
 // Is the scale factor of a point wrong? One given by a point must be in scope.
-fn is_misscaled(scales: &[u64; SET_WORDS], point: Point) -> bool
-    ensures { λ r. ⌜ r ≡ oneHolds (scaleTests (inSet (now (scales .entry)) (point .scale)) (pointForm point)) ⌝ }
+fn has_bad_scale(scales: &[u64; SET_WORDS], point: Point) -> bool
+    ensures { λ r. ⌜ r ≡ oneHolds (scaleTests (inSet (now (scales .entry)) (point .scale)) (toSpecPoint point)) ⌝ }
 {
     let kind = point.scale_kind;
     if kind == NO_SCALE {
@@ -188,8 +188,8 @@ fn is_misscaled(scales: &[u64; SET_WORDS], point: Point) -> bool
 }
 
 // Is the count of a group wrong? `counted` is whether a point of the top group gives it, if one is to.
-fn is_miscounted(depth: usize, head: Head, counted: bool) -> bool
-    ensures { λ r. ⌜ r ≡ oneHolds (countTests counted (eqb depth 1) (headForm head)) ⌝ }
+fn has_bad_count(depth: usize, head: Head, counted: bool) -> bool
+    ensures { λ r. ⌜ r ≡ oneHolds (countTests counted (eqb depth 1) (toSpecHead head)) ⌝ }
 {
     let kind = head.count_kind;
     match kind {

@@ -18,6 +18,6 @@ filled len rest size =
     ]
 
 -- What `fill_count` returns.
-abbrev pub fillForm : Fill → Option ℕ
-fillForm (Fill.Count n) = some n
-fillForm Fill.NoFit = none
+abbrev pub toSpecFill : Fill → Option ℕ
+toSpecFill (Fill.Count n) = some n
+toSpecFill Fill.NoFit = none

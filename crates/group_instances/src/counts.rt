@@ -8,10 +8,10 @@ ghost use mathlib.Core.Bool.{_&&_};
 ghost use Prim.Native.Nat.{_≤_, max};
 ghost use lib.Dec.{eqb};
 ghost use Rattle.catalog_frames.specs.Frames.{countByPoint};
-ghost use Rattle.catalog_frames.specs.Forms.{headForm};
+ghost use Rattle.catalog_frames.specs.CodeTypes.{toSpecHead};
 ghost use Rattle.layout.specs.Layout.{countOf};
-ghost use Rattle.layout.specs.Walks.{scopeIn};
-ghost use Rattle.group_instances.specs.Fills.{filled, fillForm};
+ghost use Rattle.layout.specs.InternalWalks.{scopeIn};
+ghost use Rattle.group_instances.specs.Fills.{filled, toSpecFill};
 
 // The count of a fill group, or that the length of the model does not fit (29).
 pub enum Fill {
@@ -21,7 +21,7 @@ pub enum Fill {
 
 // The number of instances of a group. `fill` is the count of a fill group.
 pub fn count_of(table: &[u16], head: Head, fill: usize) -> usize
-    ensures { λ r. ⌜ r ≡ countOf (scopeIn (now (table .entry))) fill (headForm head) ⌝ }
+    ensures { λ r. ⌜ r ≡ countOf (scopeIn (now (table .entry))) fill (toSpecHead head) ⌝ }
     ensures { λ r. ⌜ r ≤ max fill 65535 ⌝ }
 {
     let kind = head.count_kind;
@@ -35,7 +35,7 @@ pub fn count_of(table: &[u16], head: Head, fill: usize) -> usize
 // Does the group's count point read FFFF?
 pub fn is_unimplemented(table: &[u16], head: Head) -> bool
     ensures { λ r. ⌜ r
-        ≡ (eqb (headForm head .countKind) countByPoint && eqb (scopeIn (now (table .entry)) (headForm head .count)) 0xFFFF) ⌝ }
+        ≡ (eqb (toSpecHead head .countKind) countByPoint && eqb (scopeIn (now (table .entry)) (toSpecHead head .count)) 0xFFFF) ⌝ }
 {
     if head.count_kind != COUNT_BY_POINT {
         return false;
@@ -46,7 +46,7 @@ pub fn is_unimplemented(table: &[u16], head: Head) -> bool
 // The count of a fill group whose instances have `size` registers, in what `rest` registers leave of a length. Where there is
 // no fill group, `size` is 0 and nothing may be left.
 pub fn fill_count(length: usize, rest: usize, size: usize) -> Fill
-    ensures { λ r. ⌜ fillForm r ≡ filled length rest size ⌝ }
+    ensures { λ r. ⌜ toSpecFill r ≡ filled length rest size ⌝ }
 {
     if length < rest {
         return Fill::NoFit;

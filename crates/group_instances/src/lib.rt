@@ -14,4 +14,4 @@ pub use paths::is_zero_from;
 pub use paths::number_at;
 pub use paths::with_number;
 pub use tables::NUMBERS;
-pub use tables::note_run;
+pub use tables::record_run;

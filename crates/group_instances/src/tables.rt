@@ -5,7 +5,7 @@ use definition_frames::point_at;
 ghost use mathlib.Core.Path.{_≡_};
 ghost use lib.ListN.{length, getD, set};
 ghost use Rattle.catalog.specs.Rules.{run};
-ghost use Rattle.layout.specs.Walks.{onward, noted, begun};
+ghost use Rattle.layout.specs.InternalWalks.{onward, tableWith, presentWithin};
 
 // The entries of a table of all numbers: a number is 16 bits.
 pub const NUMBERS: usize = 65536;
@@ -13,10 +13,10 @@ pub const NUMBERS: usize = 65536;
 // Records the first register of each point of an instance in the table. The points are the run of point frames from
 // frame `first` on, and the first of them is at an offset of the body. Ends where the body does, so that a pad that
 // is left out is not recorded; a number that the table lacks is skipped.
-pub fn note_run(catalog: &[u16], first: usize, body: &[u16], offset: usize, table: &mut [u16])
+pub fn record_run(catalog: &[u16], first: usize, body: &[u16], offset: usize, table: &mut [u16])
     ensures { λ _. ⌜ now (table .exit)
-        ≡ noted (now (body .entry)) offset
-        (begun (length (now (body .entry))) offset (run (onward (now (catalog .entry)) first))) (now (table .entry)) ⌝ }
+        ≡ tableWith (now (body .entry)) offset
+        (presentWithin (length (now (body .entry))) offset (run (onward (now (catalog .entry)) first))) (now (table .entry)) ⌝ }
 {
     let mut i = first;
     let mut at = offset;

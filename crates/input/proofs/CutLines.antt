@@ -14,7 +14,7 @@ pub data Cut : ℕ → List (List ℕ) → List (List ℕ) → Type 0 where
   whole : {n : ℕ} {ls : List (List ℕ)} → Cut n ls ls
   nothing : {ls : List (List ℕ)} → Cut 0 [] ls
   within : (n : ℕ) (part more : List ℕ) {ls : List (List ℕ)} → 1 ≤ n → n ≡ length part → Cut n (part ∷ []) ((part ++ more) ∷ ls)
-  behind : (n m : ℕ) (l : List ℕ) {ks ls : List (List ℕ)} → n ≡ length l + 1 + m → Cut m ks ls → Cut n (l ∷ ks) (l ∷ ls)
+  following : (n m : ℕ) (l : List ℕ) {ks ls : List (List ℕ)} → n ≡ length l + 1 + m → Cut m ks ls → Cut n (l ∷ ks) (l ∷ ls)
 
 -- A byte more in front of the first line.
 longer : (b : ℕ) {n : ℕ} {ks ls : List (List ℕ)} → Cut n ks ls → Cut (suc n) (withByte b ks) (withByte b ls)
@@ -22,7 +22,7 @@ longer b whole = whole
 longer b (nothing {ls = []}) = whole
 longer b (nothing {ls = l ∷ ls}) = within 1 (b ∷ []) l (omega arith) refl
 longer b (within n part more h e) = within (suc n) (b ∷ part) more (omega arith) (omega arith)
-longer b (behind n m l e c) = behind (suc n) m (b ∷ l) (omega arith) c
+longer b (following n m l e c) = following (suc n) m (b ∷ l) (omega arith) c
 
 -- A text that is cut off after n bytes is in one of these cases.
 pub cut-lines : (n : ℕ) (text : List ℕ) → Cut n (lines (take n text)) (lines text)
@@ -36,5 +36,5 @@ cut-lines (suc n) (b ∷ text) = by-end (eqb b lineFeed) (cut-lines n text)
         (suc n)
         (elim end [ true ↦ [] ∷ lines (take n text) | false ↦ withByte b (lines (take n text)) ])
         (elim end [ true ↦ [] ∷ lines text | false ↦ withByte b (lines text) ])
-    by-end true c = behind (suc n) n [] (omega arith) c
+    by-end true c = following (suc n) n [] (omega arith) c
     by-end false c = longer b c

@@ -9,14 +9,14 @@ use lib.ListN.{length, take}
 use Rattle.lists.proofs.TestOutcomes.{by-test, by-same-test}
 use Rattle.input.specs.Digits.{wordsOf}
 use Rattle.input.specs.Parsing.{isCatalogLine, isMapLine, Input, refused, words, withFrame, withRegisters, mapFrom, catalogFrom, parsed}
-use Rattle.input.proofs.CutLines.{Cut, whole, nothing, within, behind, cut-lines}
-use Rattle.input.proofs.GoodLines.{map-line, words-behind}
+use Rattle.input.proofs.CutLines.{Cut, whole, nothing, within, following, cut-lines}
+use Rattle.input.proofs.GoodLines.{map-line, words-after}
 
 -- What a part of a text gives, and what the whole gives.
 pub data Continued : Input → Input → Type 0 where
   partRefused : {number place : ℕ} {x : Input} → Continued (refused number place) x
   badLine : (place : ℕ) {x : Input} → Continued x (refused 50 place)
-  noRoom : (place : ℕ) {x : Input} → Continued x (refused 52 place)
+  tooShort : (place : ℕ) {x : Input} → Continued x (refused 52 place)
   further : (catalog map more : List ℕ) → Continued (words catalog map) (words catalog (map ++ more))
 
 -- Nothing is cut off.
@@ -25,56 +25,56 @@ uncut (refused number place) = partRefused
 uncut (words catalog map) = rw append-nil at (further catalog map [])
 
 -- A frame in front of both, and registers.
-frame-ahead : (frame : List ℕ) {x y : Input} → Continued x y → Continued (withFrame frame x) (withFrame frame y)
-frame-ahead frame partRefused = partRefused
-frame-ahead frame (badLine place) = badLine place
-frame-ahead frame (noRoom place) = noRoom place
-frame-ahead frame (further catalog map more) = further (frame ++ catalog) map more
+continued-frame : (frame : List ℕ) {x y : Input} → Continued x y → Continued (withFrame frame x) (withFrame frame y)
+continued-frame frame partRefused = partRefused
+continued-frame frame (badLine place) = badLine place
+continued-frame frame (tooShort place) = tooShort place
+continued-frame frame (further catalog map more) = further (frame ++ catalog) map more
 
-registers-ahead : (ws : List ℕ) {x y : Input} → Continued x y → Continued (withRegisters ws x) (withRegisters ws y)
-registers-ahead ws partRefused = partRefused
-registers-ahead ws (badLine place) = badLine place
-registers-ahead ws (noRoom place) = noRoom place
-registers-ahead ws (further catalog map more) = rw append-assoc at (further catalog (ws ++ map) more)
+continued-registers : (ws : List ℕ) {x y : Input} → Continued x y → Continued (withRegisters ws x) (withRegisters ws y)
+continued-registers ws partRefused = partRefused
+continued-registers ws (badLine place) = badLine place
+continued-registers ws (tooShort place) = tooShort place
+continued-registers ws (further catalog map more) = rw append-assoc at (further catalog (ws ++ map) more)
 
 -- The part's last registers, and more of them in the whole.
-more-ahead : (ws more : List ℕ) {y : Input} → Continued (words [] []) y → Continued (words [] ws) (withRegisters (ws ++ more) y)
-more-ahead ws more (badLine place) = badLine place
-more-ahead ws more (noRoom place) = noRoom place
-more-ahead ws more (further catalog map rest) = rw append-assoc (further [] ws (more ++ rest))
+continued-more : (ws more : List ℕ) {y : Input} → Continued (words [] []) y → Continued (words [] ws) (withRegisters (ws ++ more) y)
+continued-more ws more (badLine place) = badLine place
+continued-more ws more (tooShort place) = tooShort place
+continued-more ws more (further catalog map rest) = rw append-assoc (further [] ws (more ++ rest))
 
 -- The part has no further line of the map.
-all-cut : (number room : ℕ) (ls : List (List ℕ)) → Continued (words [] []) (mapFrom number room ls)
+all-cut : (number capacity : ℕ) (ls : List (List ℕ)) → Continued (words [] []) (mapFrom number capacity ls)
 unfolding mapFrom
-all-cut number room [] = uncut (words [] [])
-all-cut number room (l ∷ ls) =
+all-cut number capacity [] = uncut (words [] [])
+all-cut number capacity (l ∷ ls) =
     let P : Input → Type 0 = Continued (words [] []) in
-    by-test P (isMapLine l) (λ good. by-test P (ltb room (length (wordsOf l))) (λ full. noRoom number)
-    (λ fits. more-ahead [] (wordsOf l) (all-cut (number + 1) (room - length (wordsOf l)) ls))) (λ bad. badLine number)
+    by-test P (isMapLine l) (λ good. by-test P (ltb capacity (length (wordsOf l))) (λ full. tooShort number)
+    (λ fits. continued-more [] (wordsOf l) (all-cut (number + 1) (capacity - length (wordsOf l)) ls))) (λ bad. badLine number)
 
 -- The map's line with the cut in it: where both its part and the line are good, its words begin with those of the part.
-line-cut : (number room : ℕ) (part more : List ℕ) (ls : List (List ℕ))
-    → Continued (mapFrom number room (part ∷ [])) (mapFrom number room ((part ++ more) ∷ ls))
+line-cut : (number capacity : ℕ) (part more : List ℕ) (ls : List (List ℕ))
+    → Continued (mapFrom number capacity (part ∷ [])) (mapFrom number capacity ((part ++ more) ∷ ls))
 unfolding mapFrom
-line-cut number room part more ls =
+line-cut number capacity part more ls =
     let l = part ++ more in
-    let P : Input → Type 0 = λ x. Continued x (mapFrom number room (l ∷ ls)) in
-    by-test P (isMapLine part) (λ good. by-test P (ltb room (length (wordsOf part))) (λ full. partRefused) (λ fits.
+    let P : Input → Type 0 = λ x. Continued x (mapFrom number capacity (l ∷ ls)) in
+    by-test P (isMapLine part) (λ good. by-test P (ltb capacity (length (wordsOf part))) (λ full. partRefused) (λ fits.
     let Q : Input → Type 0 = Continued (words [] (wordsOf part ++ [])) in
-    by-test Q (isMapLine l) (λ good′. by-test Q (ltb room (length (wordsOf l))) (λ full. noRoom number) (λ fits′.
-    rw (words-behind part more (map-line part good .1), append-nil)
-    (more-ahead (wordsOf part) (wordsOf more) (all-cut (number + 1) _ ls))))
+    by-test Q (isMapLine l) (λ good′. by-test Q (ltb capacity (length (wordsOf l))) (λ full. tooShort number) (λ fits′.
+    rw (words-after part more (map-line part good .1), append-nil)
+    (continued-more (wordsOf part) (wordsOf more) (all-cut (number + 1) _ ls))))
     (λ bad. badLine number))) (λ bad. partRefused)
 
-map-cut : {n : ℕ} {ks ls : List (List ℕ)} → Cut n ks ls → (number room : ℕ)
-    → Continued (mapFrom number room ks) (mapFrom number room ls)
+map-cut : {n : ℕ} {ks ls : List (List ℕ)} → Cut n ks ls → (number capacity : ℕ)
+    → Continued (mapFrom number capacity ks) (mapFrom number capacity ls)
 unfolding mapFrom
-map-cut {ks = ks} whole number room = uncut (mapFrom number room ks)
-map-cut {ls = ls} nothing number room = all-cut number room ls
-map-cut (within n part more {ls = ls} low e) number room = line-cut number room part more ls
-map-cut (behind n m l e c) number room =
-    by-same-test Continued (isMapLine l) (λ good. by-same-test Continued (ltb room (length (wordsOf l))) (λ full. partRefused)
-    (λ fits. registers-ahead (wordsOf l) (map-cut c (number + 1) (room - length (wordsOf l))))) (λ bad. partRefused)
+map-cut {ks = ks} whole number capacity = uncut (mapFrom number capacity ks)
+map-cut {ls = ls} nothing number capacity = all-cut number capacity ls
+map-cut (within n part more {ls = ls} low e) number capacity = line-cut number capacity part more ls
+map-cut (following n m l e c) number capacity =
+    by-same-test Continued (isMapLine l) (λ good. by-same-test Continued (ltb capacity (length (wordsOf l))) (λ full. partRefused)
+    (λ fits. continued-registers (wordsOf l) (map-cut c (number + 1) (capacity - length (wordsOf l))))) (λ bad. partRefused)
 
 -- A part that ends in the catalog has no empty line and is refused.
 catalog-cut : {n : ℕ} {ks ls : List (List ℕ)} → Cut n ks ls → (number frames registers : ℕ)
@@ -87,11 +87,11 @@ catalog-cut (within n part more {ls = ls} low e) number frames registers =
     by-test P (eqb (length part) 0) (λ empty. let z = eqb-true (length part) 0 empty in absurd (omega arith))
     (λ filled. by-test P (isCatalogLine part) (λ good. by-test P (eqb frames 0) (λ full. partRefused) (λ fits. partRefused))
     (λ bad. partRefused))
-catalog-cut (behind n m l e c) number frames registers =
+catalog-cut (following n m l e c) number frames registers =
     by-same-test Continued (eqb (length l) 0) (λ empty. map-cut c (number + 1) registers)
     (λ filled. by-same-test Continued (isCatalogLine l)
     (λ good. by-same-test Continued (eqb frames 0) (λ full. partRefused)
-    (λ fits. frame-ahead (wordsOf l) (catalog-cut c (number + 1) (frames - 1) registers))) (λ bad. partRefused))
+    (λ fits. continued-frame (wordsOf l) (catalog-cut c (number + 1) (frames - 1) registers))) (λ bad. partRefused))
 
 -- What the first n bytes of a text give, and what the whole gives.
 pub cut-words : (n : ℕ) (text : List ℕ) (frames registers : ℕ)

@@ -19,8 +19,8 @@ module _ (first last : Char) (b : ℕ) where
   is-from : code first ≤ b → b ≤ code last → isBetween first last b ≡ true
   is-from h g = simp (le-leb (code first) b h, le-leb b (code last) g)
 
-  behind-last : code last < b → isBetween first last b ≡ false
-  behind-last h = simp (lt-leb b (code last) h, and-false)
+  separator-last : code last < b → isBetween first last b ≡ false
+  separator-last h = simp (lt-leb b (code last) h, and-false)
 
 -- A digit is read back.
 digit-back : (v : ℕ) → v < 16 → digitValue (hexDigit v) ≡ some v
@@ -36,7 +36,7 @@ digit-back v h =
     let s = ltb-false v 10 f in
     let b = v - 10 + code "A" in
     let e : b - code "A" + 10 ≡ v = omega arith in
-    simp (digitValue, behind-last "0" "9" b (omega arith), is-from "A" "F" b (omega arith) (omega arith), e))
+    simp (digitValue, separator-last "0" "9" b (omega arith), is-from "A" "F" b (omega arith) (omega arith), e))
 
 -- So it is a digit and has its value.
 module _ (v : ℕ) (h : v < 16) where

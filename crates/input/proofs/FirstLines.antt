@@ -10,7 +10,7 @@ use lib.Dec.{eqb}
 use lib.ListN.{length, getD, take, drop, length-take, drop-of-length-le}
 use lib.Seq.{drop-cons}
 use Rattle.input.specs.Lines.{lines, withByte, lineFeed}
-use Rattle.input.specs.Promises.{firstLine}
+use Rattle.input.specs.InternalContracts.{firstLine}
 
 -- Over the first byte.
 pub first-byte : (b : ℕ) (bs : List ℕ) → (b ≡ lineFeed → ⊥) → firstLine (b ∷ bs) ≡ b ∷ firstLine bs

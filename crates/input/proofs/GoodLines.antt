@@ -21,14 +21,14 @@ words-length (a ∷ []) = refl
 words-length [] = refl
 
 -- The words of whole fours, and of what is behind them.
-pub words-behind : (fours more : List ℕ) → length fours ≡ 4 * length (wordsOf fours)
+pub words-after : (fours more : List ℕ) → length fours ≡ 4 * length (wordsOf fours)
     → wordsOf (fours ++ more) ≡ wordsOf fours ++ wordsOf more
 unfolding wordsOf
-words-behind (a ∷ b ∷ c ∷ d ∷ bs) more e = ap {B = List ℕ} (λ ws. word a b c d ∷ ws) (words-behind bs more (omega arith))
-words-behind (a ∷ b ∷ c ∷ []) more e = absurd (omega arith)
-words-behind (a ∷ b ∷ []) more e = absurd (omega arith)
-words-behind (a ∷ []) more e = absurd (omega arith)
-words-behind [] more e = refl
+words-after (a ∷ b ∷ c ∷ d ∷ bs) more e = ap {B = List ℕ} (λ ws. word a b c d ∷ ws) (words-after bs more (omega arith))
+words-after (a ∷ b ∷ c ∷ []) more e = absurd (omega arith)
+words-after (a ∷ b ∷ []) more e = absurd (omega arith)
+words-after (a ∷ []) more e = absurd (omega arith)
+words-after [] more e = refl
 
 -- A good line of the catalog: 32 digits, 8 words.
 pub catalog-line : (l : List ℕ) → isCatalogLine l ≡ true → (length l ≡ 32) × (length (wordsOf l) ≡ 8)

@@ -17,4 +17,4 @@ pub mod CatalogLines
 pub mod MapLines
 pub mod ParsedWords
 pub mod ParsedLists
-pub mod ToldInputs
+pub mod ParsedResults

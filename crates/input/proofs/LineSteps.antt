@@ -10,7 +10,7 @@ use lib.Seq.{drop-drop}
 use Rattle.input.specs.Lines.{lines}
 use Rattle.input.specs.Digits.{wordsOf}
 use Rattle.input.specs.Parsing.{isCatalogLine, isMapLine, Input, refused, words, withFrame, withRegisters, mapFrom, catalogFrom}
-use Rattle.input.specs.Promises.{firstLine}
+use Rattle.input.specs.InternalContracts.{firstLine}
 use Rattle.input.proofs.FirstLines.{first-taken, lines-first}
 
 -- ---- Over one line
@@ -34,18 +34,18 @@ module _ (number frames registers : ℕ) (l : List ℕ) (ls : List (List ℕ)) w
     unfolding catalogFrom
     catalog-more t n = simp (catalogFrom, ne-eqb (length l) 0 some, t, ne-eqb frames 0 n)
 
-module _ (number room : ℕ) (l : List ℕ) (ls : List (List ℕ)) where
-  pub map-bad : isMapLine l ≡ false → mapFrom number room (l ∷ ls) ≡ refused 50 number
+module _ (number capacity : ℕ) (l : List ℕ) (ls : List (List ℕ)) where
+  pub map-bad : isMapLine l ≡ false → mapFrom number capacity (l ∷ ls) ≡ refused 50 number
   unfolding mapFrom
   map-bad f = simp (mapFrom, f)
 
   module _ (t : isMapLine l ≡ true) where
-    pub map-full : room < length (wordsOf l) → mapFrom number room (l ∷ ls) ≡ refused 52 number
+    pub map-full : capacity < length (wordsOf l) → mapFrom number capacity (l ∷ ls) ≡ refused 52 number
     unfolding mapFrom
     map-full h = simp (mapFrom, t, lt-ltb _ _ h)
 
-    pub map-more : length (wordsOf l) ≤ room
-        → mapFrom number room (l ∷ ls) ≡ withRegisters (wordsOf l) (mapFrom (number + 1) (room - length (wordsOf l)) ls)
+    pub map-more : length (wordsOf l) ≤ capacity
+        → mapFrom number capacity (l ∷ ls) ≡ withRegisters (wordsOf l) (mapFrom (number + 1) (capacity - length (wordsOf l)) ls)
     unfolding mapFrom
     map-more h = simp (mapFrom, t, le-ltb _ _ h)
 

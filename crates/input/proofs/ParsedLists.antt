@@ -7,8 +7,8 @@ use lib.ListN.{length, drop}
 use lib.Seq.{sets, sets-eq}
 use Rattle.input.specs.Lines.{lines}
 use Rattle.input.specs.Parsing.{Input, refused, words, withFrame, mapFrom, parsed, stored, storedCatalog, storedMap}
-use Rattle.input.specs.Promises.{wordsFrom, FramesFound, RegistersFound}
-use Rattle.input.specs.Answers.{parsedTold, refusedTold, told}
+use Rattle.input.specs.InternalContracts.{wordsFrom, FramesFound, RegistersFound}
+use Rattle.input.specs.CodeTypes.{parsedResult, refusedResult, result}
 use Rattle.input.proofs.ParsedWords.{catalog-words, map-words}
 
 stored-at-start : (ws old : List ℕ) → length ws ≤ length old → sets old 0 ws ≡ stored ws old
@@ -18,8 +18,8 @@ stored-at-start ws old h =
 
 -- A refusal is told as it is, and leaves both lists as they were.
 module _ {x : Input} {number place : ℕ} (e : x ≡ refused number place) where
-  pub refusal-told : refusedTold number place ≡ told x
-  refusal-told = sym (ap told e)
+  pub refusal-result : refusedResult number place ≡ result x
+  refusal-result = sym (ap result e)
 
   pub catalog-kept : (old : List ℕ) → old ≡ storedCatalog x old
   catalog-kept old = sym (ap (λ (y : Input). storedCatalog y old) e)
@@ -28,7 +28,7 @@ module _ {x : Input} {number place : ℕ} (e : x ≡ refused number place) where
   map-kept old = sym (ap (λ (y : Input). storedMap y old) e)
 
 module _ (text : List ℕ) (frames registers count next found : ℕ)
-    (f : FramesFound text frames count (λ room. mapFrom (count + 2) room (lines (drop next text))))
+    (f : FramesFound text frames count (λ capacity. mapFrom (count + 2) capacity (lines (drop next text))))
     (g : RegistersFound (mapFrom (count + 2) registers (lines (drop next text))) registers found (words [] [])) where
   map-is : mapFrom (count + 2) registers (lines (drop next text)) ≡ words [] (g .map)
   map-is = g .rest ∙ ap (words []) (append-nil (g .map))
@@ -52,10 +52,10 @@ module _ (text : List ℕ) (frames registers count next found : ℕ)
   pub map-count : length (wordsFrom found (drop next text)) ≡ found
   map-count = ap length map-digits ∙ g .full
 
-  pub counted : parsedTold count found ≡ told (parsed text frames registers)
+  pub counted : parsedResult count found ≡ result (parsed text frames registers)
   counted =
       let e : length (f .catalog) / 8 ≡ count = omega (arith, f .full) in
-      sym (ap told whole ∙ rw (e, g .full))
+      sym (ap result whole ∙ rw (e, g .full))
 
   pub catalog-stored : (old : List ℕ) → count * 8 ≤ length old
       → sets old 0 (wordsFrom (count * 8) text) ≡ storedCatalog (parsed text frames registers) old

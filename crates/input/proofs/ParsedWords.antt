@@ -9,7 +9,7 @@ use Rattle.lists.proofs.TestOutcomes.{impossible, by-test}
 use Rattle.input.specs.Lines.{lines}
 use Rattle.input.specs.Digits.{wordsOf}
 use Rattle.input.specs.Parsing.{isCatalogLine, isMapLine, Input, refused, words, withFrame, withRegisters, mapFrom, catalogFrom}
-use Rattle.input.specs.Promises.{firstLine, wordsFrom}
+use Rattle.input.specs.InternalContracts.{firstLine, wordsFrom}
 use Rattle.input.proofs.FirstLines.{lines-first}
 use Rattle.input.proofs.GoodLines.{catalog-line, map-line}
 use Rattle.input.proofs.WordRuns.{line-passed}
@@ -27,13 +27,13 @@ first-words t l ls k ws e n m rest =
     let first = lines-first t (some-bytes t l ls e) in
     let same : firstLine t ≡ l = cc in
     let u = drop (length (firstLine t) + 1) t in
-    let behind : lines u ≡ ls = cc in
+    let following : lines u ≡ ls = cc in
     let far : length (firstLine t) + 1 ≡ 4 * k + 1 = omega (arith, ap length same) in
     let many : length (wordsOf l ++ ws) ≡ k + length ws = omega (arith, length-append (wordsOf l) ws) in
     ap (λ (n : ℕ). wordsFrom n t) many
     ∙ line-passed k (length ws) t (ap length same ∙ n)
     ∙ ap (λ (x : List ℕ). wordsOf x ++ wordsFrom (length ws) (drop (4 * k + 1) t)) same
-    ∙ ap (λ (x : List ℕ). wordsOf l ++ x) (ap (λ (n : ℕ). wordsFrom (length ws) (drop n t)) (sym far) ∙ rest u behind)
+    ∙ ap (λ (x : List ℕ). wordsOf l ++ x) (ap (λ (n : ℕ). wordsFrom (length ws) (drop n t)) (sym far) ∙ rest u following)
 
 -- What is put in front can be taken off again.
 registers-off : (ws : List ℕ) (x : Input) (c m : List ℕ) → withRegisters ws x ≡ words c m → (n : List ℕ) × (x ≡ words c n) × (m ≡ ws ++ n)
@@ -45,28 +45,28 @@ frame-off ws (refused number place) c m e = impossible (cc)
 frame-off ws (words catalog map) c m e = (catalog, (cc), (cc))
 
 -- The map's lines give no catalog.
-map-only : (ls : List (List ℕ)) (number room : ℕ) (c m : List ℕ) → mapFrom number room ls ≡ words c m → c ≡ []
+map-only : (ls : List (List ℕ)) (number capacity : ℕ) (c m : List ℕ) → mapFrom number capacity ls ≡ words c m → c ≡ []
 unfolding mapFrom
-map-only [] number room c m = λ q. cc
-map-only (l ∷ ls) number room c m =
+map-only [] number capacity c m = λ q. cc
+map-only (l ∷ ls) number capacity c m =
     let Goal : Input → Type 0 = λ x. x ≡ words c m → c ≡ [] in
     by-test Goal (isMapLine l)
-    (λ _. by-test Goal (ltb room (length (wordsOf l))) (λ _ q. impossible (cc))
+    (λ _. by-test Goal (ltb capacity (length (wordsOf l))) (λ _ q. impossible (cc))
     (λ _ q.
-    let off = registers-off (wordsOf l) (mapFrom (number + 1) (room - length (wordsOf l)) ls) c m q in
-    map-only ls (number + 1) (room - length (wordsOf l)) c (off .0) (off .1)))
+    let off = registers-off (wordsOf l) (mapFrom (number + 1) (capacity - length (wordsOf l)) ls) c m q in
+    map-only ls (number + 1) (capacity - length (wordsOf l)) c (off .0) (off .1)))
     (λ _ q. impossible (cc))
 
-pub map-words : (ls : List (List ℕ)) (t : List ℕ) (number room : ℕ) (c m : List ℕ) → lines t ≡ ls → mapFrom number room ls ≡ words c m
+pub map-words : (ls : List (List ℕ)) (t : List ℕ) (number capacity : ℕ) (c m : List ℕ) → lines t ≡ ls → mapFrom number capacity ls ≡ words c m
     → wordsFrom (length m) t ≡ m
 unfolding mapFrom wordsFrom
-map-words [] t number room c m e = λ q. let z : m ≡ [] = cc in rw z
-map-words (l ∷ ls) t number room c m e =
+map-words [] t number capacity c m e = λ q. let z : m ≡ [] = cc in rw z
+map-words (l ∷ ls) t number capacity c m e =
     let Goal : Input → Type 0 = λ x. x ≡ words c m → wordsFrom (length m) t ≡ m in
     let next = number + 1 in
-    let left = room - length (wordsOf l) in
+    let left = capacity - length (wordsOf l) in
     by-test Goal (isMapLine l)
-    (λ good. by-test Goal (ltb room (length (wordsOf l))) (λ _ q. impossible (cc))
+    (λ good. by-test Goal (ltb capacity (length (wordsOf l))) (λ _ q. impossible (cc))
     (λ _ q.
     let off = registers-off (wordsOf l) (mapFrom next left ls) c m q in
     rw (off .2)

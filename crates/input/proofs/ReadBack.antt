@@ -12,21 +12,21 @@ use Rattle.input.specs.Writing.{linesOfWords, written}
 use Rattle.input.proofs.WrittenLines.{first-line, registers-back, frame-back}
 
 -- A map, in as many lines as it needs.
-map-back : (count number room : ℕ) (map : List ℕ) → AreRegisters map
-    → length map ≤ 16 * count → 16 * count < length map + 16 → length map ≤ room
-    → mapFrom number room (lines (linesOfWords count 16 map ++ [])) ≡ words [] map
+map-back : (count number capacity : ℕ) (map : List ℕ) → AreRegisters map
+    → length map ≤ 16 * count → 16 * count < length map + 16 → length map ≤ capacity
+    → mapFrom number capacity (lines (linesOfWords count 16 map ++ [])) ≡ words [] map
 unfolding linesOfWords lines mapFrom
-map-back zero number room [] small high low fits = refl
-map-back zero number room (w ∷ map) small high low fits = absurd (omega arith)
-map-back (suc count) number room map small high low fits =
+map-back zero number capacity [] small high low fits = refl
+map-back zero number capacity (w ∷ map) small high low fits = absurd (omega arith)
+map-back (suc count) number capacity map small high low fits =
     let line = take 16 map in
-    let behind = drop 16 map in
-    let later = lines (linesOfWords count 16 behind ++ []) in
+    let following = drop 16 map in
+    let later = lines (linesOfWords count 16 following ++ []) in
     let n = length-take 16 map in
     let d = length-drop 16 map in
-    let back = map-back count (number + 1) (room - length line) behind (later-registers 16 map small) in
-    ap (mapFrom number room) (first-line count 16 map [] small)
-    ∙ registers-back line (first-registers 16 map small) number later room (omega arith) (omega arith) (omega arith)
+    let back = map-back count (number + 1) (capacity - length line) following (later-registers 16 map small) in
+    ap (mapFrom number capacity) (first-line count 16 map [] small)
+    ∙ registers-back line (first-registers 16 map small) number later capacity (omega arith) (omega arith) (omega arith)
     ∙ ap (withRegisters line) (back (omega arith) (omega arith) (omega arith))
     ∙ ap (words []) (take-append-drop 16 map)
 
@@ -40,24 +40,24 @@ catalog-back zero number frames registers [] map rest small e fits back = back (
 catalog-back zero number frames registers (w ∷ catalog) map rest small e fits back = absurd (omega arith)
 catalog-back (suc k) number frames registers catalog map rest small e fits back =
     let line = take 8 catalog in
-    let behind = drop 8 catalog in
-    let later = lines (linesOfWords k 8 behind ++ lineFeed ∷ rest) in
+    let following = drop 8 catalog in
+    let later = lines (linesOfWords k 8 following ++ lineFeed ∷ rest) in
     let n = length-take 8 catalog in
     let d = length-drop 8 catalog in
     let small′ = later-registers 8 catalog small in
     ap (catalogFrom number frames registers) (first-line k 8 catalog (lineFeed ∷ rest) small)
     ∙ frame-back line (first-registers 8 catalog small) number later frames registers (omega arith) (omega arith)
     ∙ ap (withFrame line)
-    (catalog-back k (number + 1) (frames - 1) registers behind map rest small′ (omega arith) (omega arith) back)
+    (catalog-back k (number + 1) (frames - 1) registers following map rest small′ (omega arith) (omega arith) back)
     ∙ ap (λ ws. words ws map) (take-append-drop 8 catalog)
 
 -- A catalog of whole frames and a map, if there is room for both, are read back.
 pub read-back : (catalog map : List ℕ) (k frames registers : ℕ) → AreRegisters catalog → AreRegisters map
     → length catalog ≡ 8 * k → k ≤ frames → length map ≤ registers
     → parsed (written catalog map) frames registers ≡ words catalog map
-read-back catalog map k frames registers smallCatalog smallMap e fits room =
+read-back catalog map k frames registers smallCatalog smallMap e fits capacity =
     let count = (length map + 15) / 16 in
     let rest = linesOfWords count 16 map in
     let q : length catalog / 8 ≡ k = omega arith in
     rw q (catalog-back k 1 frames registers catalog map rest smallCatalog e fits (λ n.
-    rw append-nil at (map-back count n registers map smallMap (omega arith) (omega arith) room)))
+    rw append-nil at (map-back count n registers map smallMap (omega arith) (omega arith) capacity)))

@@ -17,7 +17,7 @@ use Rattle.input.proofs.GoodLines.{catalog-line}
 pub data Outcome (count frames registers : ℕ) : Input → Type 0 where
   badLine : (place : ℕ) → 1 ≤ place → place ≤ count → Outcome count frames registers (refused 50 place)
   noEmptyLine : (place : ℕ) → place ≡ count + 1 → Outcome count frames registers (refused 51 place)
-  noRoom : (place : ℕ) → 1 ≤ place → place ≤ count → Outcome count frames registers (refused 52 place)
+  tooShort : (place : ℕ) → 1 ≤ place → place ≤ count → Outcome count frames registers (refused 52 place)
   given : (catalog map : List ℕ) (k : ℕ) → length catalog ≡ 8 * k → k ≤ frames → length map ≤ registers
       → Outcome count frames registers (words catalog map)
 
@@ -28,7 +28,7 @@ module _ (count frames registers : ℕ) where
       → Outcome count frames registers (withFrame frame x)
   one-frame-more frame e n (badLine p l h) = badLine p l h
   one-frame-more frame e n (noEmptyLine p q) = noEmptyLine p q
-  one-frame-more frame e n (noRoom p l h) = noRoom p l h
+  one-frame-more frame e n (tooShort p l h) = tooShort p l h
   one-frame-more frame e n (given catalog map k c f r) =
       let s = length-append frame catalog in
       given (frame ++ catalog) map (k + 1) (omega arith) (omega (arith, n)) r
@@ -39,22 +39,22 @@ module _ (count frames registers : ℕ) where
       → Outcome count frames registers (withRegisters ws x)
   more-registers ws e (badLine p l h) = badLine p l h
   more-registers ws e (noEmptyLine p q) = noEmptyLine p q
-  more-registers ws e (noRoom p l h) = noRoom p l h
+  more-registers ws e (tooShort p l h) = tooShort p l h
   more-registers ws e (given catalog map k c f r) =
       let s = length-append ws map in
       given catalog (ws ++ map) k c f (omega arith)
 
 -- From a line of the map on, and from a line of the catalog on.
-map-outcome : (count frames number room : ℕ) (ls : List (List ℕ)) → 1 ≤ number → number + length ls ≡ count + 1
-    → Outcome count frames room (mapFrom number room ls)
+map-outcome : (count frames number capacity : ℕ) (ls : List (List ℕ)) → 1 ≤ number → number + length ls ≡ count + 1
+    → Outcome count frames capacity (mapFrom number capacity ls)
 unfolding mapFrom
-map-outcome count frames number room [] low e = given [] [] 0 refl (omega arith) (omega arith)
-map-outcome count frames number room (l ∷ ls) low e =
-    let P : Input → Type 0 = Outcome count frames room in
+map-outcome count frames number capacity [] low e = given [] [] 0 refl (omega arith) (omega arith)
+map-outcome count frames number capacity (l ∷ ls) low e =
+    let P : Input → Type 0 = Outcome count frames capacity in
     let used = length (wordsOf l) in
-    by-test P (isMapLine l) (λ good. by-test P (ltb room used) (λ full. noRoom number low (omega arith)) (λ fits.
-    more-registers count frames room (wordsOf l) (ltb-false room used fits)
-    (map-outcome count frames (number + 1) (room - used) ls (omega arith) (omega arith))))
+    by-test P (isMapLine l) (λ good. by-test P (ltb capacity used) (λ full. tooShort number low (omega arith)) (λ fits.
+    more-registers count frames capacity (wordsOf l) (ltb-false capacity used fits)
+    (map-outcome count frames (number + 1) (capacity - used) ls (omega arith) (omega arith))))
     (λ bad. badLine number low (omega arith))
 
 catalog-outcome : (count number frames registers : ℕ) (ls : List (List ℕ)) → 1 ≤ number → number + length ls ≡ count + 1
@@ -65,7 +65,7 @@ catalog-outcome count number frames registers (l ∷ ls) low e =
     let P : Input → Type 0 = Outcome count frames registers in
     by-test P (eqb (length l) 0)
     (λ empty. map-outcome count frames (number + 1) registers ls (omega arith) (omega arith))
-    (λ filled. by-test P (isCatalogLine l) (λ good. by-test P (eqb frames 0) (λ full. noRoom number low (omega arith)) (λ fits.
+    (λ filled. by-test P (isCatalogLine l) (λ good. by-test P (eqb frames 0) (λ full. tooShort number low (omega arith)) (λ fits.
     one-frame-more count frames registers (wordsOf l) (catalog-line l good .1) (eqb-false frames 0 fits)
     (catalog-outcome count (number + 1) (frames - 1) registers ls (omega arith) (omega arith))))
     (λ bad. badLine number low (omega arith)))

@@ -11,7 +11,7 @@ use lib.ListN.{length, getD, drop, set, length-drop, length-set}
 use lib.Seq.{drop-cons, sets}
 use Rattle.input.specs.Lines.{lineFeed}
 use Rattle.input.specs.Digits.{word, wordsOf}
-use Rattle.input.specs.Promises.{firstLine, wordsFrom}
+use Rattle.input.specs.InternalContracts.{firstLine, wordsFrom}
 use Rattle.input.proofs.FirstLines.{first-byte, first-none, first-short}
 
 -- Fewer than four bytes hold no word.
@@ -79,14 +79,14 @@ unfolding wordsFrom
 none-left {text} {whole} {out} {count} {size} {at} {k} w h = let n : count - k ≡ 0 = omega arith in (rw n) ∙ w .makes
 
 module _ {text whole out : List ℕ} {count size at k : ℕ} (w : WordsLeft text whole count size out at k) (more : k < count) where
-  pub room-for-four : at + 4 ≤ length text
-  room-for-four = omega (arith, length-drop at text, four-bytes (count - k) (drop at text) (omega (arith, w .left)))
+  pub four-fit : at + 4 ≤ length text
+  four-fit = omega (arith, length-drop at text, four-bytes (count - k) (drop at text) (omega (arith, w .left)))
 
   pub feed-stored : getD text at 0 ≡ lineFeed → WordsLeft text whole count size out (at + 1) k
   feed-stored e =
       let n = count - k in
       let same : wordsFrom n (drop at text) ≡ wordsFrom n (drop (at + 1) text) =
-      ap (wordsFrom n) (drop-cons text at 0 (omega (arith, room-for-four)))
+      ap (wordsFrom n) (drop-cons text at 0 (omega (arith, four-fit)))
       ∙ feed-passed n (getD text at 0) (drop (suc at) text) e
       ∙ ap (λ (i : ℕ). wordsFrom n (drop i text)) (sym (add-one at)) in
       record { makes = rw (← same) (w .makes); left = rw (← same) (w .left); within = w .within; same-size = w .same-size }
@@ -100,7 +100,7 @@ module _ {text whole out : List ℕ} {count size at k : ℕ} (w : WordsLeft text
       let rest = wordsFrom m (drop (at + 4) text) in
       let next : wordsFrom (count - k) (drop at text) ≡ v ∷ rest =
       ap (λ (n : ℕ). wordsFrom n (drop at text)) one
-      ∙ ap (wordsFrom (suc m)) (four-from text at room-for-four)
+      ∙ ap (wordsFrom (suc m)) (four-from text at four-fit)
       ∙ word-passed m (getD text at 0) (getD text (at + 1) 0) (getD text (at + 2) 0) (getD text (at + 3) 0) (drop (at + 4) text) other
       ∙ ap (λ (x : ℕ). x ∷ rest) (sym e) in
       record {
@@ -113,9 +113,9 @@ module _ {text whole out : List ℕ} {count size at k : ℕ} (w : WordsLeft text
 -- ---- Lines
 
 -- The words behind an empty line.
-pub behind-empty : (n : ℕ) (t : List ℕ) → length (firstLine t) ≡ 0 → wordsFrom n t ≡ wordsFrom n (drop 1 t)
-behind-empty n [] h = refl
-behind-empty n (b ∷ bs) h = go (eqb b lineFeed) refl
+pub after-empty : (n : ℕ) (t : List ℕ) → length (firstLine t) ≡ 0 → wordsFrom n t ≡ wordsFrom n (drop 1 t)
+after-empty n [] h = refl
+after-empty n (b ∷ bs) h = go (eqb b lineFeed) refl
   where
     go : (f : Bool) → eqb b lineFeed ≡ f → wordsFrom n (b ∷ bs) ≡ wordsFrom n bs
     go true e = feed-passed n b bs (eqb-true b lineFeed e)
@@ -148,7 +148,7 @@ pub line-passed : (k n : ℕ) (t : List ℕ) → length (firstLine t) ≡ 4 * k
 unfolding wordsOf
 line-passed zero n t h =
     let e : 0 + n ≡ n = omega arith in
-    rw (e, no-bytes (firstLine t) h) (behind-empty n t h)
+    rw (e, no-bytes (firstLine t) h) (after-empty n t h)
 line-passed (suc k) n (a ∷ b ∷ c ∷ d ∷ bs) h =
     let whole = four-of-line a b c d bs (omega arith) in
     let more : suc k + n ≡ suc (k + n) = omega arith in

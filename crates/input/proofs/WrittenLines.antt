@@ -42,17 +42,17 @@ pub first-line : (count width : ℕ) (ws rest : List ℕ) → AreRegisters ws
     ≡ hexDigits (take width ws) ∷ lines (linesOfWords count width (drop width ws) ++ rest)
 unfolding linesOfWords
 first-line count width ws rest small =
-    let behind = linesOfWords count width (drop width ws) ++ rest in
-    rw append-assoc (line-back (hexDigits (take width ws)) behind (are-digits (take width ws) (first-registers width ws small)))
+    let following = linesOfWords count width (drop width ws) ++ rest in
+    rw append-assoc (line-back (hexDigits (take width ws)) following (are-digits (take width ws) (first-registers width ws small)))
 
 -- ---- What a line gives
 
 module _ (ws : List ℕ) (small : AreRegisters ws) (number : ℕ) (ls : List (List ℕ)) where
   -- 1 to 16 words as a line of the map.
-  pub registers-back : (room : ℕ) → 1 ≤ length ws → length ws ≤ 16 → length ws ≤ room
-      → mapFrom number room (hexDigits ws ∷ ls) ≡ withRegisters ws (mapFrom (number + 1) (room - length ws) ls)
+  pub registers-back : (capacity : ℕ) → 1 ≤ length ws → length ws ≤ 16 → length ws ≤ capacity
+      → mapFrom number capacity (hexDigits ws ∷ ls) ≡ withRegisters ws (mapFrom (number + 1) (capacity - length ws) ls)
   unfolding mapFrom
-  registers-back room low high fits =
+  registers-back capacity low high fits =
       let n = digits-length ws in
       let good : isMapLine (hexDigits ws) ≡ true =
       simp (
@@ -61,7 +61,7 @@ module _ (ws : List ℕ) (small : AreRegisters ws) (number : ℕ) (ls : List (Li
         eq-eqb (length (hexDigits ws) % 4) 0 (omega arith),
         are-digits ws small,
       ) in
-      simp (mapFrom, good, words-back ws small, le-ltb room (length ws) fits)
+      simp (mapFrom, good, words-back ws small, le-ltb capacity (length ws) fits)
 
   -- 8 words as a line of the catalog.
   pub frame-back : (frames registers : ℕ) → length ws ≡ 8 → 1 ≤ frames

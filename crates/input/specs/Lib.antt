@@ -2,5 +2,5 @@ pub mod Lines
 pub mod Digits
 pub mod Parsing
 pub mod Writing
-pub mod Promises
-pub mod Answers
+pub mod InternalContracts
+pub mod CodeTypes

@@ -33,14 +33,14 @@ withRegisters registers (words catalog map) = words catalog (registers ++ map)
 
 -- The map's lines, the first of which has a place, with room for so many registers. 50: a bad line; 52: too many registers.
 unfoldable pub mapFrom : ℕ → ℕ → List (List ℕ) → Input
-mapFrom place room [] = words [] []
-mapFrom place room (l ∷ ls) =
+mapFrom place capacity [] = words [] []
+mapFrom place capacity (l ∷ ls) =
     elim (isMapLine l) [
       | false ↦ refused 50 place
       | true ↦
-          elim (ltb room (length (wordsOf l))) [
+          elim (ltb capacity (length (wordsOf l))) [
             | true ↦ refused 52 place
-            | false ↦ withRegisters (wordsOf l) (mapFrom (place + 1) (room - length (wordsOf l)) ls)
+            | false ↦ withRegisters (wordsOf l) (mapFrom (place + 1) (capacity - length (wordsOf l)) ls)
           ]
     ]
 

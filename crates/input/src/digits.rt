@@ -3,7 +3,7 @@ ghost use mathlib.Core.Path.{_≡_};
 ghost use Prim.Native.Nat.{_+_, _≤_, _<_};
 ghost use lib.ListN.{length, getD};
 ghost use Rattle.input.specs.Digits.{digitValue, isDigit, digitOr0, areDigits, word};
-ghost use Rattle.input.specs.Answers.{digitForm};
+ghost use Rattle.input.specs.CodeTypes.{toSpecDigit};
 
 // The value of a hexadecimal digit, or none for any other byte.
 pub enum Digit {
@@ -13,7 +13,7 @@ pub enum Digit {
 
 // The value of the digit that a byte is; other bytes have none.
 pub fn digit_of(byte: u8) -> Digit
-    ensures { λ r. ⌜ digitForm r ≡ digitValue byte ⌝ }
+    ensures { λ r. ⌜ toSpecDigit r ≡ digitValue byte ⌝ }
 {
     match byte {
         b'0'..=b'9' => Digit::Of((byte - b'0') as u16),

@@ -11,7 +11,7 @@ use lines::survey_catalog;
 use lines::survey_map;
 ghost use mathlib.Core.Path.{_≡_};
 ghost use Rattle.input.specs.Parsing.{storedCatalog, storedMap};
-ghost use Rattle.input.specs.Answers.{answer, told, parsedInto, CountsFit};
+ghost use Rattle.input.specs.CodeTypes.{toSpecParsed, result, parsedInto, CountsFit};
 
 // The words of a frame.
 pub const FRAME_WORDS: usize = 8;
@@ -26,7 +26,7 @@ pub enum Parsed {
 // Puts the catalog and the map that `text` holds at the start of the two lists, whose lengths are the room for
 // frames and registers. All lines are tried before anything is stored, so a refusal changes neither list.
 pub fn parse(text: &[u8], catalog: &mut [u16], map: &mut [u16]) -> Parsed
-    ensures { λ r. ⌜ answer r ≡ told (parsedInto (now (text .entry)) (now (catalog .entry)) (now (map .entry))) ⌝ }
+    ensures { λ r. ⌜ toSpecParsed r ≡ result (parsedInto (now (text .entry)) (now (catalog .entry)) (now (map .entry))) ⌝ }
     ensures { λ _. ⌜ now (catalog .exit) ≡ storedCatalog (parsedInto (now (text .entry)) (now (catalog .entry)) (now (map .entry))) (now (catalog .entry)) ⌝ }
     ensures { λ _. ⌜ now (map .exit) ≡ storedMap (parsedInto (now (text .entry)) (now (catalog .entry)) (now (map .entry))) (now (map .entry)) ⌝ }
     ensures { λ r. ⌜ CountsFit (now (catalog .exit)) (now (map .exit)) r ⌝ }

@@ -6,7 +6,7 @@ ghost use Prim.Native.Nat.{_+_, _≤_};
 ghost use lib.ListN.{length, drop};
 ghost use lib.Seq.{sets};
 ghost use Rattle.input.specs.Parsing.{isCatalogLine, isMapLine};
-ghost use Rattle.input.specs.Promises.{firstLine, wordsFrom, CatalogFound, MapFound};
+ghost use Rattle.input.specs.InternalContracts.{firstLine, wordsFrom, CatalogFound, MapFound};
 
 const LINE_FEED: u8 = b'\n';
 
@@ -73,8 +73,8 @@ fn is_map_line(line: &[u8]) -> bool
 
 // Tries the lines up to the first empty one, with room for so many frames. Each line so far was a frame, so the count
 // is the number of the line before.
-pub(crate) fn survey_catalog(text: &[u8], room: usize) -> CatalogLines
-    ensures { λ r. ⌜ CatalogFound (now (text .entry)) room r ⌝ }
+pub(crate) fn survey_catalog(text: &[u8], capacity: usize) -> CatalogLines
+    ensures { λ r. ⌜ CatalogFound (now (text .entry)) capacity r ⌝ }
 {
     let mut at = 0;
     let mut count = 0usize;
@@ -92,7 +92,7 @@ pub(crate) fn survey_catalog(text: &[u8], room: usize) -> CatalogLines
                 place: count + 1,
             };
         }
-        if count == room {
+        if count == capacity {
             return CatalogLines::Refused {
                 number: 52,
                 place: count + 1,
@@ -109,9 +109,9 @@ pub(crate) fn survey_catalog(text: &[u8], room: usize) -> CatalogLines
 
 // Tries the lines from `start` on, the first of which is line `first`, with room for so many registers.
 // Every line takes a byte at least, so that its number is at most one more than its position, and cannot overflow.
-pub(crate) fn survey_map(text: &[u8], start: usize, first: usize, room: usize) -> MapLines
+pub(crate) fn survey_map(text: &[u8], start: usize, first: usize, capacity: usize) -> MapLines
     requires { ⌜ first ≤ start + 1 ⌝ }
-    ensures { λ r. ⌜ MapFound (now (text .entry)) start first room r ⌝ }
+    ensures { λ r. ⌜ MapFound (now (text .entry)) start first capacity r ⌝ }
 {
     let mut at = start;
     let mut line = first;
@@ -125,7 +125,7 @@ pub(crate) fn survey_map(text: &[u8], start: usize, first: usize, room: usize) -
             };
         }
         let registers = (end - at) / WORD_DIGITS;
-        if room - count < registers {
+        if capacity - count < registers {
             return MapLines::Refused {
                 number: 52,
                 place: line,

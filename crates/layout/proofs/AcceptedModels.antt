@@ -15,7 +15,7 @@ use Rattle.model_definitions.proofs.AcceptedSteps.{accepted-start}
 use Rattle.model_definitions.proofs.AcceptedIsSound.{accepted-is-sound}
 use Rattle.register_map.specs.Scan.{Model}
 use Rattle.layout.specs.Reading.{unknown, readBy, reading, topOf}
-use Rattle.layout.specs.Walks.{Accepted}
+use Rattle.layout.specs.InternalWalks.{Accepted}
 
 -- An accepted catalog has at most 4,096 frames.
 pub accepted-few : (ws : List ℕ) → Accepted ws → length ws / 8 ≤ 4096

@@ -21,7 +21,7 @@ use Rattle.layout.proofs.InstanceLaws.{of-groups}
 use Rattle.layout.proofs.LeftOutPad.{without-pad, each-but-last, left-out}
 use Rattle.layout.proofs.ListedPoints.{all-sound, listed-by}
 use Rattle.layout.proofs.Readings.{by-reading}
-use Rattle.layout.proofs.Sizes.{laid-size}
+use Rattle.layout.proofs.Sizes.{full-size}
 
 -- One tiling after another.
 pub tiles-append : {A : Type 0} (at size : A → ℕ) (from mid to : ℕ) (xs ys : List A)
@@ -81,7 +81,7 @@ read-tiled d s id body ps e =
           subst (λ to. PointsTile 0 to (pointsAt body (topInstance L body) 0 L)) same
           (top-tile body (topInstance L body) L (each-but-last Sized (c .points) (parts .0))))
           (λ t f.
-          subst (λ to. PointsTile 0 to (own ++ lower)) (laid-size (c .points) (c .points) c body (s .groups) (f .fitting))
+          subst (λ to. PointsTile 0 to (own ++ lower)) (full-size (c .points) (c .points) c body (s .groups) (f .fitting))
           (tiles-append (λ p. p .offset) (λ p. p .definition .size) 0 (pointsSize (c .points)) size own lower
           (top-tile body top (c .points) (parts .0))
           (groups-tile (entered body) body count 2 top (pointsSize (c .points)) (c .groups) (parts .1)))) ps e;

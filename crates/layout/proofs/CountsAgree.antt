@@ -16,21 +16,21 @@ use Rattle.layout.specs.Layout.{countOf, measured, fillMeasured, countUn
 
 module _ (s s′ : Scope) (top : List Point) (agree : (p : Point) → In p top → s (p .number) ≡ s′ (p .number)) where
   -- They agree on a count point.
-  count-point-agrees : (level : ℕ) (h : Head) (behind : Groups) → SoundHead top level h behind → h .countKind ≡ countByPoint
+  count-point-agrees : (level : ℕ) (h : Head) (following : Groups) → SoundHead top level h following → h .countKind ≡ countByPoint
       → s (h .count) ≡ s′ (h .count)
-  count-point-agrees level h behind e k =
+  count-point-agrees level h following e k =
       let r = count-point-found (h .count) top (e .counted k) in
       ap s (sym (r .2)) ∙ agree (r .0) (r .1) ∙ ap s′ (r .2)
 
   -- The count of a sound group.
-  pub count-agrees : (f level : ℕ) (h : Head) (behind : Groups) → SoundHead top level h behind → countOf s f h ≡ countOf s′ f h
-  count-agrees f level h behind e = go (eqb (h .countKind) constantCount) (eqb (h .countKind) countByPoint) refl
+  pub count-agrees : (f level : ℕ) (h : Head) (following : Groups) → SoundHead top level h following → countOf s f h ≡ countOf s′ f h
+  count-agrees f level h following e = go (eqb (h .countKind) constantCount) (eqb (h .countKind) countByPoint) refl
     where
       go : (a b : Bool) → eqb (h .countKind) countByPoint ≡ b
           → _≡_ {A = ℕ} (elim a [ true ↦ h .count | false ↦ elim b [ true ↦ s (h .count) | false ↦ f ] ])
           (elim a [ true ↦ h .count | false ↦ elim b [ true ↦ s′ (h .count) | false ↦ f ] ])
       go true b q = refl
-      go false true q = count-point-agrees level h behind e (eqb-true (h .countKind) countByPoint q)
+      go false true q = count-point-agrees level h following e (eqb-true (h .countKind) countByPoint q)
       go false false q = refl
 
   -- What sound groups measure.
@@ -61,13 +61,13 @@ module _ (s s′ : Scope) (top : List Point) (agree : (p : Point) → In p top �
       → countUnimplemented s g ≡ countUnimplemented s′ g
   unfolding countUnimplemented
   unimplemented-agrees enclosing level noGroup e = refl
-  unimplemented-agrees enclosing level (group h ps inside behind) e =
+  unimplemented-agrees enclosing level (group h ps inside following) e =
       let i = unimplemented-agrees (ps ++ enclosing) (suc level) inside (e .3) in
-      let b = unimplemented-agrees enclosing level behind (e .4) in
+      let b = unimplemented-agrees enclosing level following (e .4) in
       rw (own (eqb (h .countKind) countByPoint) refl, i, b)
     where
       own : (k : Bool) → eqb (h .countKind) countByPoint ≡ k
           → k && eqb (s (h .count)) 0xFFFF ≡ (k && eqb (s′ (h .count)) 0xFFFF)
       own true q =
-          ap (λ n. eqb n 0xFFFF) (count-point-agrees level h behind (e .0) (eqb-true (h .countKind) countByPoint q))
+          ap (λ n. eqb n 0xFFFF) (count-point-agrees level h following (e .0) (eqb-true (h .countKind) countByPoint q))
       own false q = refl

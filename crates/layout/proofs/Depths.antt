@@ -50,9 +50,9 @@ agree-near (suc n) (p ∷ path) (x ∷ xs) (y ∷ ys) l same =
     rw (f, agree-near n path xs ys (omega arith) (λ i h. same (suc i) (omega arith)))
 
 -- So an instance number set behind them changes nothing.
-pub agree-behind : (n : ℕ) (path around : List ℕ) (at j : ℕ) → n ≤ at
+pub agree-beyond : (n : ℕ) (path around : List ℕ) (at j : ℕ) → n ≤ at
     → agreeTo n path (levels (set around at j)) ≡ agreeTo n path (levels around)
-agree-behind n path around at j h =
+agree-beyond n path around at j h =
     agree-near n path (levels (set around at j)) (levels around) refl go
   where
     other : (i : ℕ) → i < n → getD (set around at j) i 0 ≡ getD around i 0
@@ -66,65 +66,65 @@ agree-behind n path around at j h =
 
 -- ---- Groups
 
-module _ (n : ℕ) (h : Head) (ps : List Point) (inside behind : Groups) where
+module _ (n : ℕ) (h : Head) (ps : List Point) (inside following : Groups) where
   -- The depth of a number of a group's points,
-  depth-own : among n (numbersOf (pointFrames ps)) ≡ true → depthIn n (group h ps inside behind) ≡ 1
+  depth-own : among n (numbersOf (pointFrames ps)) ≡ true → depthIn n (group h ps inside following) ≡ 1
   unfolding depthIn
   depth-own e = simp (depthIn, e)
 
   -- of the groups in it,
   depth-inside : among n (numbersOf (pointFrames ps)) ≡ false → among n (numbersOf (groupFrames inside)) ≡ true
-      → depthIn n (group h ps inside behind) ≡ suc (depthIn n inside)
+      → depthIn n (group h ps inside following) ≡ suc (depthIn n inside)
   unfolding depthIn
   depth-inside a e = simp (depthIn, a, e)
 
   -- and of those behind it.
-  depth-behind : among n (numbersOf (pointFrames ps)) ≡ false → among n (numbersOf (groupFrames inside)) ≡ false
-      → depthIn n (group h ps inside behind) ≡ depthIn n behind
+  depth-after : among n (numbersOf (pointFrames ps)) ≡ false → among n (numbersOf (groupFrames inside)) ≡ false
+      → depthIn n (group h ps inside following) ≡ depthIn n following
   unfolding depthIn
-  depth-behind a e = simp (depthIn, a, e)
+  depth-after a e = simp (depthIn, a, e)
 
 -- A number that is none of the groups' has no depth.
 pub absent-depth : (n : ℕ) (g : Groups) → among n (numbersOf (groupFrames g)) ≡ false → depthIn n g ≡ 0
 unfolding depthIn
 absent-depth n noGroup e = refl
-absent-depth n (group h ps inside behind) e =
-    let none = none-of-parts n h ps inside behind e in
-    depth-behind n h ps inside behind (none .ofPoints) (none .ofInside) ∙ absent-depth n behind (none .ofBehind)
+absent-depth n (group h ps inside following) e =
+    let none = none-of-parts n h ps inside following e in
+    depth-after n h ps inside following (none .ofPoints) (none .ofInside) ∙ absent-depth n following (none .ofFollowing)
 
 -- If a number is one of these groups', at a level, its depth in the model is k.
 abbrev pub Deep : ℕ → ℕ → ℕ → Groups → Type 0
 Deep n k level g = among n (numbersOf (groupFrames g)) ≡ true → k ≡ level - 2 + depthIn n g
 
-module _ (n k level : ℕ) (h : Head) (ps : List Point) (inside behind : Groups)
-    (distinct : Distinct (numbersOf (groupFrames (group h ps inside behind)))) (low : 2 ≤ level)
-    (deep : Deep n k level (group h ps inside behind)) where
+module _ (n k level : ℕ) (h : Head) (ps : List Point) (inside following : Groups)
+    (distinct : Distinct (numbersOf (groupFrames (group h ps inside following)))) (low : 2 ≤ level)
+    (deep : Deep n k level (group h ps inside following)) where
   -- The numbers of the group's parts are apart.
-  separate : Apart ps inside behind
-  separate = apart ps inside behind (distinct .1)
+  separate : Apart ps inside following
+  separate = apart ps inside following (distinct .1)
 
   -- It is one of a group's where it is not none of its parts'.
-  one-of : (NoneOf n ps inside behind → ⊥) → among n (numbersOf (groupFrames (group h ps inside behind))) ≡ true
-  one-of some = go (among n (numbersOf (groupFrames (group h ps inside behind)))) refl
+  one-of : (NoneOf n ps inside following → ⊥) → among n (numbersOf (groupFrames (group h ps inside following))) ≡ true
+  one-of some = go (among n (numbersOf (groupFrames (group h ps inside following)))) refl
     where
-      go : (b : Bool) → among n (numbersOf (groupFrames (group h ps inside behind))) ≡ b → b ≡ true
+      go : (b : Bool) → among n (numbersOf (groupFrames (group h ps inside following))) ≡ b → b ≡ true
       go true e = refl
-      go false e = absurd (some (none-of-parts n h ps inside behind e))
+      go false e = absurd (some (none-of-parts n h ps inside following e))
 
   -- The depth of one of the group's points.
   pub own-depth : among n (numbersOf (pointFrames ps)) ≡ true → k ≡ suc level - 2
   own-depth e =
       let whole = deep (one-of (λ none. clash (sym e ∙ none .ofPoints))) in
-      omega (arith, whole, depth-own n h ps inside behind e)
+      omega (arith, whole, depth-own n h ps inside following e)
 
   -- The depth in the groups in it,
   pub inside-deep : Deep n k (suc level) inside
   inside-deep e =
       let whole = deep (one-of (λ none. clash (sym e ∙ none .ofInside))) in
-      omega (arith, whole, depth-inside n h ps inside behind (separate .insidePoints n e) e)
+      omega (arith, whole, depth-inside n h ps inside following (separate .insidePoints n e) e)
 
   -- and in those behind it.
-  pub behind-deep : Deep n k level behind
-  behind-deep e =
-      let whole = deep (one-of (λ none. clash (sym e ∙ none .ofBehind))) in
-      omega (arith, whole, depth-behind n h ps inside behind (separate .behindPoints n e) (separate .behindInside n e))
+  pub following-deep : Deep n k level following
+  following-deep e =
+      let whole = deep (one-of (λ none. clash (sym e ∙ none .ofFollowing))) in
+      omega (arith, whole, depth-after n h ps inside following (separate .followingPoints n e) (separate .followingInside n e))

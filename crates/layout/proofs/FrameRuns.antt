@@ -12,8 +12,8 @@ use Rattle.catalog.specs.Rules.{run}
 use Rattle.model_definitions.specs.Definitions.{groupFrames}
 use Rattle.model_definitions.proofs.TreeFrames.{run-points, run-groups}
 use Rattle.catalog_frames.proofs.FramesByIndex.{frame-beyond}
-use Rattle.layout.specs.Walks.{onward, heldAt, Stands, pointOf, noted, begun, begunAt}
-use Rattle.layout.proofs.Standing.{onward-more, onward-none}
+use Rattle.layout.specs.InternalWalks.{onward, contentFrom, ParsesAt, pointOf, tableWith, presentWithin, presentPoints}
+use Rattle.layout.proofs.FramePosition.{onward-more, onward-none}
 
 first-run : (f : Frame) (fs : List Frame) (p : Point) → pointOf f ≡ some p → run (f ∷ fs) ≡ p ∷ run fs
 first-run (pointFrame q) fs p e = cc
@@ -51,15 +51,15 @@ run-ends ws i e = go (decLe (length ws / 8) i)
     go (no n) = ap run (onward-more ws i (omega arith)) ∙ no-run (frameIn ws i) (onward ws (i + 1)) e
 
 -- Where a group is open, the run is the points that it still holds.
-pub run-held : (ws : List ℕ) (i : ℕ) → Stands ws i → run (onward ws i) ≡ heldAt ws i .points
-run-held ws i s =
+pub run-content : (ws : List ℕ) (i : ℕ) → ParsesAt ws i → run (onward ws i) ≡ contentFrom ws i .points
+run-content ws i s =
     ap run (s .here)
-    ∙ run-points (heldAt ws i .points) (groupFrames (heldAt ws i .groups) ++ (endFrame ∷ s .behind))
-    (run-groups (heldAt ws i .groups) (s .behind))
+    ∙ run-points (contentFrom ws i .points) (groupFrames (contentFrom ws i .groups) ++ (endFrame ∷ s .following))
+    (run-groups (contentFrom ws i .groups) (s .following))
 
 -- So recording the run records those points.
-pub held-noted : (ws : List ℕ) (i : ℕ) → Stands ws i → (body : List ℕ) (offset : ℕ) (table : List ℕ)
-    → noted body offset (begun (length body) offset (run (onward ws i))) table
-    ≡ noted body offset (begunAt ws body offset i) table
-held-noted ws i s body offset table =
-    ap (λ (ps : List Point). noted body offset (begun (length body) offset ps) table) (run-held ws i s)
+pub content-recorded : (ws : List ℕ) (i : ℕ) → ParsesAt ws i → (body : List ℕ) (offset : ℕ) (table : List ℕ)
+    → tableWith body offset (presentWithin (length body) offset (run (onward ws i))) table
+    ≡ tableWith body offset (presentPoints ws body offset i) table
+content-recorded ws i s body offset table =
+    ap (λ (ps : List Point). tableWith body offset (presentWithin (length body) offset ps) table) (run-content ws i s)

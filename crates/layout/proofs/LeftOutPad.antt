@@ -18,8 +18,8 @@ use Rattle.model_definitions.specs.Soundness.{SoundPoint}
 use Rattle.model_definitions.proofs.GroupSizes.{point-size}
 use Rattle.layout.specs.Layout.{fillMeasured, fillOf}
 use Rattle.layout.specs.Reading.{endsWithPad, allButLast, hasNoGroup, padLeftOut}
-use Rattle.layout.specs.Walks.{heldAt, Stands, headOf, begun}
-use Rattle.layout.proofs.Standing as standing
+use Rattle.layout.specs.InternalWalks.{contentFrom, ParsesAt, headOf, presentWithin}
+use Rattle.layout.proofs.FramePosition as position
 
 -- A type of one register has this size.
 pub one-register-size : (code size : ℕ) → registersOf code ≡ some (1, 1) → isSizeOf code size ≡ true → size ≡ 1
@@ -43,15 +43,15 @@ but-one (p ∷ []) e = refl
 but-one (p ∷ q ∷ ps) e = let r = but-one (q ∷ ps) e in omega arith
 
 -- Without a pad at their end, points take one register less.
-pub without-pad : (reach ps : List Point) → Each (SoundPoint reach) ps → endsWithPad ps ≡ true
+pub without-pad : (inScope ps : List Point) → Each (SoundPoint inScope) ps → endsWithPad ps ≡ true
     → pointsSize (allButLast ps) + 1 ≡ pointsSize ps
 unfolding endsWithPad allButLast
-without-pad reach [] e t = clash (sym t)
-without-pad reach (p ∷ []) e t =
+without-pad inScope [] e t = clash (sym t)
+without-pad inScope (p ∷ []) e t =
     let code = eqb-true (p .typeCode) pad t in
     let one = pad-size (p .size) (rw code at (e .0 .sized)) in
     omega arith
-without-pad reach (p ∷ q ∷ ps) e t = let r = without-pad reach (q ∷ ps) (e .1) t in omega (arith, r)
+without-pad inScope (p ∷ q ∷ ps) e t = let r = without-pad inScope (q ∷ ps) (e .1) t in omega (arith, r)
 
 -- What holds of each holds of all but the last.
 pub each-but-last : (P : Point → Type 0) (ps : List Point) → Each P ps → Each P (allButLast ps)
@@ -61,21 +61,21 @@ each-but-last P (p ∷ []) e = tt
 each-but-last P (p ∷ q ∷ ps) e = (e .0, each-but-last P (q ∷ ps) (e .1))
 
 -- Where the length is one short of points that end with a pad, all but the pad begin before the end.
-begun-but-last : (reach : List Point) (len offset : ℕ) (ps : List Point) → Each (SoundPoint reach) ps → endsWithPad ps ≡ true
-    → len + 1 ≡ offset + pointsSize ps → begun len offset ps ≡ allButLast ps
-unfolding endsWithPad allButLast begun
-begun-but-last reach len offset [] s e q = clash (sym e)
-begun-but-last reach len offset (p ∷ []) s e q =
+present-but-last : (inScope : List Point) (len offset : ℕ) (ps : List Point) → Each (SoundPoint inScope) ps → endsWithPad ps ≡ true
+    → len + 1 ≡ offset + pointsSize ps → presentWithin len offset ps ≡ allButLast ps
+unfolding endsWithPad allButLast presentWithin
+present-but-last inScope len offset [] s e q = clash (sym e)
+present-but-last inScope len offset (p ∷ []) s e q =
     let t = eqb-true (p .typeCode) pad e in
     let z : p .size ≡ 1 = pad-size (p .size) (rw t at (s .0 .sized)) in
     let l : len ≤ offset = omega arith in
-    rw (le-ltb offset len l, begun)
-begun-but-last reach len offset (p ∷ r ∷ ps) s e q =
-    let a = point-size reach p (s .0) .0 in
-    let b = point-size reach r (s .1 .0) .0 in
+    rw (le-ltb offset len l, presentWithin)
+present-but-last inScope len offset (p ∷ r ∷ ps) s e q =
+    let a = point-size inScope p (s .0) .0 in
+    let b = point-size inScope r (s .1 .0) .0 in
     let l : offset < len = omega arith in
-    let rest = begun-but-last reach len (offset + p .size) (r ∷ ps) (s .1) e (omega arith) in
-    rw (lt-ltb offset len l, begun) (ap (λ xs. p ∷ xs) rest)
+    let rest = present-but-last inScope len (offset + p .size) (r ∷ ps) (s .1) e (omega arith) in
+    rw (lt-ltb offset len l, presentWithin) (ap (λ xs. p ∷ xs) rest)
 
 -- What a left out pad means.
 pub left-out : (id : ℕ) (c : Content) (len : ℕ) → padLeftOut id c len ≡ true
@@ -88,10 +88,10 @@ left-out id c len e =
     (b .0, d .0, eqb-true (len + 1) (pointsSize (c .points)) (d .1))
 
 -- The points that begin before the end of a body that lacks the pad.
-pub begun-but-pad : (reach : List Point) (id : ℕ) (c : Content) (len : ℕ) → Each (SoundPoint reach) (c .points)
-    → padLeftOut id c len ≡ true → begun len 0 (c .points) ≡ allButLast (c .points)
-begun-but-pad reach id c len s e =
-    let l = left-out id c len e in begun-but-last reach len 0 (c .points) s (l .1) (omega arith)
+pub present-but-pad : (inScope : List Point) (id : ℕ) (c : Content) (len : ℕ) → Each (SoundPoint inScope) (c .points)
+    → padLeftOut id c len ≡ true → presentWithin len 0 (c .points) ≡ allButLast (c .points)
+present-but-pad inScope id c len s e =
+    let l = left-out id c len e in present-but-last inScope len 0 (c .points) s (l .1) (omega arith)
 
 -- A model without groups has no fill.
 pub no-fill : (c : Content) (body : List ℕ) → hasNoGroup (c .groups) ≡ true → fillOf c body ≡ 0
@@ -100,24 +100,24 @@ no-fill c body e = go (c .groups) e
   where
     go : (g : Groups) → hasNoGroup g ≡ true → fillOf (record { points = c .points; groups = g }) body ≡ 0
     go noGroup t = refl
-    go (group h ps inside behind) t = clash (sym t)
+    go (group h ps inside following) t = clash (sym t)
 
 -- ---- The frame after the points
 
-module _ (ws : List ℕ) (first next : ℕ) (s : Stands ws first) (n : next ≡ first + length (heldAt ws first .points)) where
+module _ (ws : List ℕ) (first next : ℕ) (s : ParsesAt ws first) (n : next ≡ first + length (contentFrom ws first .points)) where
   -- After the points is a group frame where there are groups,
-  pub group-after : (h : Head) → headOf (frameIn ws next) ≡ some h → hasNoGroup (heldAt ws first .groups) ≡ false
+  pub group-after : (h : Head) → headOf (frameIn ws next) ≡ some h → hasNoGroup (contentFrom ws first .groups) ≡ false
   group-after h e =
-      let r = standing.behind-run ws first s in
-      let at = first + length (heldAt ws first .points) in
+      let r = position.after-run ws first s in
+      let at = first + length (contentFrom ws first .points) in
       let f : headOf (frameIn ws at) ≡ some h = ap (λ i. headOf (frameIn ws i)) (sym n) ∙ e in
-      let g = standing.group-next ws at (r .2) (r .0) h f .0 in
+      let g = position.group-next ws at (r .2) (r .0) h f .0 in
       ap hasNoGroup (sym (r .1) ∙ g)
 
   -- and none where there are none.
-  pub no-group-after : headOf (frameIn ws next) ≡ none → hasNoGroup (heldAt ws first .groups) ≡ true
+  pub no-group-after : headOf (frameIn ws next) ≡ none → hasNoGroup (contentFrom ws first .groups) ≡ true
   no-group-after e =
-      let r = standing.behind-run ws first s in
-      let at = first + length (heldAt ws first .points) in
+      let r = position.after-run ws first s in
+      let at = first + length (contentFrom ws first .points) in
       let f : headOf (frameIn ws at) ≡ none = ap (λ i. headOf (frameIn ws i)) (sym n) ∙ e in
-      ap hasNoGroup (sym (r .1) ∙ standing.no-group ws at (r .2) (r .0) f)
+      ap hasNoGroup (sym (r .1) ∙ position.no-group ws at (r .2) (r .0) f)

@@ -4,7 +4,7 @@ pub mod Capping
 pub mod PointCounts
 pub mod InstanceLaws
 pub mod CountsAgree
-pub mod ReachOnly
+pub mod ScopeOnly
 pub mod ReadOnlyCounts
 -- One model as it is read
 pub mod LeftOutPad
@@ -23,12 +23,12 @@ pub mod PointPlaces
 -- What a record shows of a point
 pub mod InstanceScales
 -- The frames of a definition as a walk visits them
-pub mod Standing
+pub mod FramePosition
 pub mod FrameRuns
 pub mod AcceptedModels
 pub mod PassedFrames
 pub mod ModelSearch
-pub mod IntoGroups
-pub mod NotedPoints
+pub mod GroupDescent
+pub mod RecordedPoints
 pub mod LocatingSteps
 pub mod LocatedPoints

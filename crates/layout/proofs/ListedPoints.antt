@@ -51,14 +51,14 @@ module _ (P : Point → Type 0) (body : List ℕ) where
 -- ---- Sound points
 
 -- What holds of sound points holds of each point of sound groups,
-module _ (P : Point → Type 0) (of : (reach : List Point) (p : Point) → SoundPoint reach p → P p) where
+module _ (P : Point → Type 0) (of : (inScope : List Point) (p : Point) → SoundPoint inScope p → P p) where
   lower-sound : (top enclosing : List Point) (level : ℕ) (g : Groups) → SoundGroups top enclosing level g → Each P (lowerPoints g)
   lower-sound top enclosing level noGroup s = tt
-  lower-sound top enclosing level (group h ps inside behind) s =
-      each-append P ps (lowerPoints inside ++ lowerPoints behind)
+  lower-sound top enclosing level (group h ps inside following) s =
+      each-append P ps (lowerPoints inside ++ lowerPoints following)
       (each-implied (SoundPoint (ps ++ enclosing)) P (of (ps ++ enclosing)) ps (s .2))
-      (each-append P (lowerPoints inside) (lowerPoints behind) (lower-sound top (ps ++ enclosing) (suc level) inside (s .3))
-      (lower-sound top enclosing level behind (s .4)))
+      (each-append P (lowerPoints inside) (lowerPoints following) (lower-sound top (ps ++ enclosing) (suc level) inside (s .3))
+      (lower-sound top enclosing level following (s .4)))
 
   -- and of a sound definition.
   pub all-sound : (d : Definition) → SoundDefinition d → Each P (definedPoints d)
@@ -69,4 +69,4 @@ module _ (P : Point → Type 0) (of : (reach : List Point) (p : Point) → Sound
 
 -- So the points of a sound definition have sizes of their types.
 pub all-sized : (d : Definition) → SoundDefinition d → Each (λ p. isSizeOf (p .typeCode) (p .size) ≡ true) (definedPoints d)
-all-sized = all-sound (λ p. isSizeOf (p .typeCode) (p .size) ≡ true) (λ reach p s. s .sized)
+all-sized = all-sound (λ p. isSizeOf (p .typeCode) (p .size) ≡ true) (λ inScope p s. s .sized)

@@ -9,49 +9,49 @@ use Rattle.catalog_frames.specs.Frames.{Point, Head}
 use Rattle.model_definitions.specs.Definitions.{Groups, noGroup, group, pointsSize}
 use Rattle.layout.specs.Layout.{groupsSize}
 use Rattle.layout.specs.Locating.{Located, orElse, locatedAmong, locatedOwn, locatedIn}
-use Rattle.layout.specs.Walks.{begun}
-use Rattle.layout.proofs.NotedPoints.{begun-past, begun-first}
+use Rattle.layout.specs.InternalWalks.{presentWithin}
+use Rattle.layout.proofs.RecordedPoints.{present-past, present-first}
 
 -- ---- The points of a run, as far as they begin before a limit
 
 module _ (number limit offset : ℕ) where
   -- At the end of the run there is none,
-  pub none-left : locatedAmong number offset (begun limit offset []) ≡ none
-  unfolding locatedAmong begun
+  pub none-left : locatedAmong number offset (presentWithin limit offset []) ≡ none
+  unfolding locatedAmong presentWithin
   none-left = refl
 
   -- nor at the limit.
-  pub none-past : (ps : List Point) → limit ≤ offset → locatedAmong number offset (begun limit offset ps) ≡ none
+  pub none-past : (ps : List Point) → limit ≤ offset → locatedAmong number offset (presentWithin limit offset ps) ≡ none
   unfolding locatedAmong
-  none-past ps h = ap (locatedAmong number offset) (begun-past limit offset ps h)
+  none-past ps h = ap (locatedAmong number offset) (present-past limit offset ps h)
 
   module _ (p : Point) (ps : List Point) (inside : offset < limit) where
     -- The first point has the number,
     pub found-first : p .number ≡ number
-        → locatedAmong number offset (begun limit offset (p ∷ ps)) ≡ some (record { offset = offset; definition = p })
+        → locatedAmong number offset (presentWithin limit offset (p ∷ ps)) ≡ some (record { offset = offset; definition = p })
     unfolding locatedAmong
-    found-first e = rw (begun-first limit offset p ps inside, eq-eqb (p .number) number e, locatedAmong)
+    found-first e = rw (present-first limit offset p ps inside, eq-eqb (p .number) number e, locatedAmong)
 
     -- or the rest decides.
     pub not-first : (p .number ≡ number → ⊥)
-        → locatedAmong number offset (begun limit offset (p ∷ ps))
-        ≡ locatedAmong number (offset + p .size) (begun limit (offset + p .size) ps)
+        → locatedAmong number offset (presentWithin limit offset (p ∷ ps))
+        ≡ locatedAmong number (offset + p .size) (presentWithin limit (offset + p .size) ps)
     unfolding locatedAmong
-    not-first n = rw (begun-first limit offset p ps inside, ne-eqb (p .number) number n, locatedAmong)
+    not-first n = rw (present-first limit offset p ps inside, ne-eqb (p .number) number n, locatedAmong)
 
 -- ---- A group among its siblings
 
 module _ (count : Head → ℕ) (number : ℕ) (path : List ℕ) (level offset : ℕ) (h : Head) (ps : List Point)
-    (inside behind : Groups) (j : ℕ) (q : j ≡ getD path (level - 2) 0) where
+    (inside following : Groups) (j : ℕ) (q : j ≡ getD path (level - 2) 0) where
   -- The registers of an instance.
   abbrev size : ℕ
   size = pointsSize ps + groupsSize count inside
 
   abbrev after : Option Located
-  after = locatedIn count number path level (offset + count h * size) behind
+  after = locatedIn count number path level (offset + count h * size) following
 
   -- The group has the instance with the path's number at this level,
-  pub instance-there : j < count h → locatedIn count number path level offset (group h ps inside behind)
+  pub instance-there : j < count h → locatedIn count number path level offset (group h ps inside following)
       ≡ orElse
       (orElse (locatedOwn number path level (offset + j * size) ps)
       (locatedIn count number path (suc level) (offset + j * size + pointsSize ps) inside))
@@ -60,7 +60,7 @@ module _ (count : Head → ℕ) (number : ℕ) (path : List ℕ) (level offset :
   instance-there l = simp (locatedIn, ← q, lt-ltb j (count h) l)
 
   -- or it has not.
-  pub no-instance : count h ≤ j → locatedIn count number path level offset (group h ps inside behind) ≡ after
+  pub no-instance : count h ≤ j → locatedIn count number path level offset (group h ps inside following) ≡ after
   unfolding locatedIn
   no-instance l = simp (locatedIn, ← q, le-ltb j (count h) l)
 

@@ -14,8 +14,8 @@ use Rattle.catalog_frames.proofs.FramesByIndex.{frame-beyond}
 use Rattle.model_definitions.proofs.TreeFrames.{definition-frames}
 use Rattle.model_definitions.proofs.ModelFrames.{restFrames, frames-of-definitions}
 use Rattle.layout.specs.Reading.{topOf}
-use Rattle.layout.specs.Walks.{onward, heldAt, Stands, Accepted, isModelOf}
-use Rattle.layout.proofs.Standing.{length-onward, onward-more, onward-none, first-frame, placed}
+use Rattle.layout.specs.InternalWalks.{onward, contentFrom, ParsesAt, Accepted, isModelOf}
+use Rattle.layout.proofs.FramePosition.{length-onward, onward-more, onward-none, first-frame, placed}
 use Rattle.layout.proofs.PassedFrames.{passed}
 
 -- The top group of the definition of an id, if it begins at frame i or behind.
@@ -24,8 +24,8 @@ topFrom ws id i = topOf id (parsed (onward ws i) .models)
 
 module _ (ws : List ℕ) (id i : ℕ) where
   -- At its model frame it is found.
-  pub search-found : i < length ws / 8 → isModelOf id (frameIn ws i) ≡ true → some (heldAt ws (i + 1)) ≡ topFrom ws id i
-  unfolding heldAt parsed topOf
+  pub search-found : i < length ws / 8 → isModelOf id (frameIn ws i) ≡ true → some (contentFrom ws (i + 1)) ≡ topFrom ws id i
+  unfolding contentFrom parsed topOf
   search-found h t = rw (onward-more ws i h) (go (frameIn ws i) t)
     where
       rest : List Frame
@@ -87,10 +87,10 @@ at-every ws a zero = record { left = []; models = definitions ws; here = sym (fr
 at-every ws a (suc i) = rw (← add-one i) (at-next ws i (at-every ws a i))
 
 -- Behind a model frame the walk stands at its definition.
-pub model-stands : (ws : List ℕ) (id i : ℕ) → Accepted ws → isModelOf id (frameIn ws i) ≡ true → Stands ws (i + 1)
-model-stands ws id i accepts t = let a = at-every ws accepts i in go (a .left) (a .models) (a .here)
+pub model-accepted : (ws : List ℕ) (id i : ℕ) → Accepted ws → isModelOf id (frameIn ws i) ≡ true → ParsesAt ws (i + 1)
+model-accepted ws id i accepts t = let a = at-every ws accepts i in go (a .left) (a .models) (a .here)
   where
-    go : (cs : List Content) (ds : List Definition) → onward ws i ≡ restFrames cs (catalogFrames ds) → Stands ws (i + 1)
+    go : (cs : List Content) (ds : List Definition) → onward ws i ≡ restFrames cs (catalogFrames ds) → ParsesAt ws (i + 1)
     go (c ∷ cs) ds e = clash (sym t ∙ passed ws i c cs (catalogFrames ds) e .inModel id)
     go [] (d ∷ ds) e =
         let all = restFrames (d .top ∷ []) (catalogFrames ds) in

@@ -27,16 +27,16 @@ of-points (p ∷ ps) fs = ap (λ qs. p ∷ qs) (of-points ps fs)
 
 pub of-groups : (g : Groups) (fs : List Frame) → framePoints (groupFrames g ++ fs) ≡ lowerPoints g ++ framePoints fs
 of-groups noGroup fs = refl
-of-groups (group h ps inside behind) fs =
+of-groups (group h ps inside following) fs =
     let i = groupFrames inside in
-    let b = groupFrames behind in
+    let b = groupFrames following in
     let P = lowerPoints inside in
-    let Q = lowerPoints behind in
+    let Q = lowerPoints following in
     let R = framePoints fs in
     ap framePoints (append-assoc (groupFrame h ∷ pointFrames ps) (i ++ (endFrame ∷ b)) fs)
     ∙ of-points ps ((i ++ (endFrame ∷ b)) ++ fs)
     ∙ ap (λ gs. ps ++ framePoints gs) (append-assoc i (endFrame ∷ b) fs)
-    ∙ ap (λ qs. ps ++ qs) (of-groups inside ((endFrame ∷ b) ++ fs) ∙ ap (λ qs. P ++ qs) (of-groups behind fs))
+    ∙ ap (λ qs. ps ++ qs) (of-groups inside ((endFrame ∷ b) ++ fs) ∙ ap (λ qs. P ++ qs) (of-groups following fs))
     ∙ ap (λ qs. ps ++ qs) (sym (append-assoc P Q R))
     ∙ sym (append-assoc ps (P ++ Q) R)
 

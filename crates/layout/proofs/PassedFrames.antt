@@ -8,14 +8,14 @@ use lib.ListN.{length, length-append}
 use Rattle.catalog_frames.specs.Frames.{Point, Frame, modelFrame, groupFrame, pointFrame, endFrame, malformed, frameIn}
 use Rattle.model_definitions.specs.Definitions.{Groups, noGroup, group, Content, pointFrames, groupFrames}
 use Rattle.model_definitions.proofs.ModelFrames.{restFrames}
-use Rattle.layout.specs.Walks.{onward, heldAt, Stands, pastEnd, openBehind, framesToEnd, framesOfGroup, isModelOf}
-use Rattle.layout.proofs.Standing.{length-onward, onward-more, onward-none, stands-within, at-point, at-group, at-end, rest-there, rest-within}
+use Rattle.layout.specs.InternalWalks.{onward, contentFrom, ParsesAt, pastEnd, openAfter, framesToEnd, framesOfGroup, isModelOf}
+use Rattle.layout.proofs.FramePosition.{length-onward, onward-more, onward-none, parses-within, at-point, at-group, at-end, rest-there, rest-within}
 
 -- What open groups still hold, behind a frame that is passed: its frames stand there, and it is no model frame.
 pub record Passed (ws : List ℕ) (i : ℕ) (cs : List Content) (rest : List Frame) : Type 0 where
   pub left : List Content
   pub there : onward ws (i + 1) ≡ restFrames left rest
-  pub deep : length left ≡ openBehind (frameIn ws i) (length cs)
+  pub deep : length left ≡ openAfter (frameIn ws i) (length cs)
   pub inModel : (id : ℕ) → isModelOf id (frameIn ws i) ≡ false
 
 -- Where a group is open, the frame is passed.
@@ -23,13 +23,13 @@ pub passed : (ws : List ℕ) (i : ℕ) (c : Content) (cs : List Content) (rest :
     → onward ws i ≡ restFrames (c ∷ cs) rest → Passed ws i (c ∷ cs) rest
 passed ws i c cs rest e = go (c .points) (c .groups) e
   where
-    behind : List Frame
-    behind = restFrames cs rest
+    following : List Frame
+    following = restFrames cs rest
 
-    go : (ps : List Point) (gs : Groups) → onward ws i ≡ pointFrames ps ++ (groupFrames gs ++ (endFrame ∷ behind))
+    go : (ps : List Point) (gs : Groups) → onward ws i ≡ pointFrames ps ++ (groupFrames gs ++ (endFrame ∷ following))
         → Passed ws i (c ∷ cs) rest
     go (p ∷ ps) gs q =
-        let t = at-point ws i behind p ps gs q in
+        let t = at-point ws i following p ps gs q in
         let f = t .0 in
         record {
           left = record { points = ps; groups = gs } ∷ cs;
@@ -38,7 +38,7 @@ passed ws i c cs rest e = go (c .points) (c .groups) e
           inModel = λ id. rw f;
         }
     go [] (group h ps inside after) q =
-        let t = at-group ws i behind h ps inside after q in
+        let t = at-group ws i following h ps inside after q in
         let f = t .0 in
         record {
           left = record { points = ps; groups = inside } ∷ record { points = []; groups = after } ∷ cs;
@@ -47,7 +47,7 @@ passed ws i c cs rest e = go (c .points) (c .groups) e
           inModel = λ id. rw f;
         }
     go [] noGroup q =
-        let t = at-end ws i behind q in
+        let t = at-end ws i following q in
         let f = t .0 in
         record { left = cs; there = t .1; deep = rw f (omega arith); inModel = λ id. rw f }
 
@@ -66,24 +66,24 @@ ends-to-come (c ∷ cs) rest =
 -- On the way from a frame to the end of the group that is open there, so many groups are open.
 pub record Passing (ws : List ℕ) (first at depth : ℕ) : Type 0 where
   pub left : List Content
-  pub behind : List Frame
-  pub here : onward ws at ≡ restFrames left behind
+  pub following : List Frame
+  pub here : onward ws at ≡ restFrames left following
   pub deep : length left ≡ depth
-  pub beyond : onward ws (pastEnd ws first) ≡ behind
+  pub beyond : onward ws (pastEnd ws first) ≡ following
   pub inside : pastEnd ws first ≤ length ws / 8
   pub within : at ≤ length ws / 8
 
 -- It begins with that group alone.
-pub passing-start : (ws : List ℕ) (first : ℕ) → Stands ws first → Passing ws first first 1
+pub passing-start : (ws : List ℕ) (first : ℕ) → ParsesAt ws first → Passing ws first first 1
 passing-start ws first s =
-    let c = heldAt ws first in
-    let inside = rest-within ws first (c .points) (c .groups) (s .behind) (s .here) in
+    let c = contentFrom ws first in
+    let inside = rest-within ws first (c .points) (c .groups) (s .following) (s .here) in
     record {
       left = c ∷ [];
-      behind = s .behind;
+      following = s .following;
       here = s .here;
       deep = refl;
-      beyond = rest-there ws first (c .points) (c .groups) (s .behind) (s .here);
+      beyond = rest-there ws first (c .points) (c .groups) (s .following) (s .here);
       inside = inside;
       within = omega arith;
     }
@@ -92,27 +92,27 @@ module _ (ws : List ℕ) (first at depth : ℕ) (p : Passing ws first at depth) 
   -- No more groups are open than there are frames to come.
   pub passing-few : depth + at ≤ length ws / 8
   passing-few =
-      let e = ends-to-come (p .left) (p .behind) in
+      let e = ends-to-come (p .left) (p .following) in
       let l = sym (length-onward ws at) ∙ ap length (p .here) in
       let d = p .deep in
       let w = p .within in
       omega arith
 
   -- A frame is passed.
-  pub passing-next : 0 < depth → Passing ws first (at + 1) (openBehind (frameIn ws at) depth)
+  pub passing-next : 0 < depth → Passing ws first (at + 1) (openAfter (frameIn ws at) depth)
   passing-next h = go (p .left) (p .deep) (p .here)
     where
-      go : (cs : List Content) → length cs ≡ depth → onward ws at ≡ restFrames cs (p .behind)
-          → Passing ws first (at + 1) (openBehind (frameIn ws at) depth)
+      go : (cs : List Content) → length cs ≡ depth → onward ws at ≡ restFrames cs (p .following)
+          → Passing ws first (at + 1) (openAfter (frameIn ws at) depth)
       go [] d e = absurd (omega arith)
       go (c ∷ cs) d e =
-          let n = passed ws at c cs (p .behind) e in
+          let n = passed ws at c cs (p .following) e in
           let few = passing-few in
           record {
             left = n .left;
-            behind = p .behind;
+            following = p .following;
             here = n .there;
-            deep = n .deep ∙ ap (openBehind (frameIn ws at)) d;
+            deep = n .deep ∙ ap (openAfter (frameIn ws at)) d;
             beyond = p .beyond;
             inside = p .inside;
             within = omega arith;
@@ -122,7 +122,7 @@ module _ (ws : List ℕ) (first at depth : ℕ) (p : Passing ws first at depth) 
   pub passing-done : depth ≤ 0 → at ≡ pastEnd ws first
   passing-done h = go (p .left) (p .deep) (p .here)
     where
-      go : (cs : List Content) → length cs ≡ depth → onward ws at ≡ restFrames cs (p .behind) → at ≡ pastEnd ws first
+      go : (cs : List Content) → length cs ≡ depth → onward ws at ≡ restFrames cs (p .following) → at ≡ pastEnd ws first
       go (c ∷ cs) d e = absurd (omega arith)
       go [] d e =
           let here = sym (length-onward ws at) ∙ ap length e in
@@ -145,13 +145,13 @@ no-frame-left ws at depth h = rw (onward-none ws at h)
 
 -- Any other frame is one of them, and the others are counted from the next frame on.
 pub one-frame-nearer : (ws : List ℕ) (at depth : ℕ) → at < length ws / 8 → 0 < depth
-    → framesToEnd (onward ws at) depth ≡ suc (framesToEnd (onward ws (at + 1)) (openBehind (frameIn ws at) depth))
+    → framesToEnd (onward ws at) depth ≡ suc (framesToEnd (onward ws (at + 1)) (openAfter (frameIn ws at) depth))
 unfolding framesToEnd
 one-frame-nearer ws at zero h d = absurd (omega arith)
 one-frame-nearer ws at (suc depth) h d = rw (onward-more ws at h)
 
 -- A frame opens one group at most.
-pub opens-one : (f : Frame) (depth : ℕ) → openBehind f depth ≤ depth + 1
+pub opens-one : (f : Frame) (depth : ℕ) → openAfter f depth ≤ depth + 1
 opens-one (groupFrame h) depth = omega arith
 opens-one endFrame depth = omega arith
 opens-one (modelFrame id) depth = omega arith
@@ -178,13 +178,13 @@ to-the-end (suc n) ws first at zero e p =
     omega (arith, at-the-end (onward ws at))
 to-the-end (suc n) ws first at (suc depth) e p =
     let next = passing-next ws first at (suc depth) p (omega arith) in
-    let rest = to-the-end n ws first (at + 1) (openBehind (frameIn ws at) (suc depth)) (omega arith) next in
+    let rest = to-the-end n ws first (at + 1) (openAfter (frameIn ws at) (suc depth)) (omega arith) next in
     omega (arith, one-frame-nearer ws at (suc depth) (omega arith) (omega arith))
 
 -- Where a group is open after frame i, frame i and the frames to the end of that group lead past its end.
-pub group-passed : (ws : List ℕ) (i : ℕ) → Stands ws (i + 1) → i + framesOfGroup (onward ws i) ≡ pastEnd ws (i + 1)
+pub group-passed : (ws : List ℕ) (i : ℕ) → ParsesAt ws (i + 1) → i + framesOfGroup (onward ws i) ≡ pastEnd ws (i + 1)
 group-passed ws i s =
-    let inside = stands-within ws (i + 1) s in
+    let inside = parses-within ws (i + 1) s in
     let n = length ws / 8 - (i + 1) in
     let counted = to-the-end n ws (i + 1) (i + 1) 1 (omega arith) (passing-start ws (i + 1) s) in
     omega (arith, group-begins ws i (omega arith))

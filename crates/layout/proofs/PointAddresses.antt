@@ -12,7 +12,7 @@ use Rattle.lists.specs.Each.{Each}
 use Rattle.lists.specs.Members.{among, Distinct, In, first, later}
 use Rattle.lists.proofs.TestOutcomes.{clash}
 use Rattle.lists.proofs.EachLaws.{each-implied, each-append}
-use Rattle.lists.proofs.InLaws.{in-front, in-behind}
+use Rattle.lists.proofs.InLaws.{in-append-left, in-append-right}
 use Rattle.registers.specs.Registers.{shownRaw}
 use Rattle.catalog_frames.specs.Frames.{Point, Head}
 use Rattle.model_definitions.specs.Definitions.{Groups, noGroup, group, pointsSize, pointFrames, groupFrames}
@@ -37,13 +37,13 @@ offsetIn n (q ∷ qs) = elim (eqb n (q .number)) [ true ↦ 0 | false ↦ q .siz
 -- in the instance that the path names first.
 unfoldable pub addressIn : (Head → ℕ) → ℕ → List ℕ → Groups → ℕ
 addressIn count n path noGroup = 0
-addressIn count n path (group h ps inside behind) =
+addressIn count n path (group h ps inside following) =
     elim (among n (numbersOf (pointFrames ps))) [
       | true ↦ getD path 0 0 * (pointsSize ps + groupsSize count inside) + offsetIn n ps
       | false ↦ elim (among n (numbersOf (groupFrames inside))) [
         | true ↦
             getD path 0 0 * (pointsSize ps + groupsSize count inside) + (pointsSize ps + addressIn count n (drop 1 path) inside)
-        | false ↦ count h * (pointsSize ps + groupsSize count inside) + addressIn count n path behind
+        | false ↦ count h * (pointsSize ps + groupsSize count inside) + addressIn count n path following
       ]
     ]
 
@@ -54,9 +54,9 @@ pub agree-address : (count : Head → ℕ) (n : ℕ) (g : Groups) (xs ys : List 
     → agreeTo (depthIn n g) xs ys ≡ true → addressIn count n xs g ≡ addressIn count n ys g
 unfolding addressIn depthIn
 agree-address count n noGroup xs ys l e = refl
-agree-address count n (group h ps inside behind) xs ys l e =
+agree-address count n (group h ps inside following) xs ys l e =
     go (among n (numbersOf (pointFrames ps))) (among n (numbersOf (groupFrames inside))) (agree-address count n inside)
-    (agree-address count n behind xs ys l) e
+    (agree-address count n following xs ys l) e
   where
     size : ℕ
     size = pointsSize ps + groupsSize count inside
@@ -68,15 +68,15 @@ agree-address count n (group h ps inside behind) xs ys l e =
           | true ↦ getD path 0 0 * size + offsetIn n ps
           | false ↦ elim b [
             | true ↦ getD path 0 0 * size + (pointsSize ps + addressIn count n (drop 1 path) inside)
-            | false ↦ count h * size + addressIn count n path behind
+            | false ↦ count h * size + addressIn count n path following
           ]
         ]
 
     go : (a b : Bool)
         → ((us vs : List ℕ) → length us ≡ length vs → agreeTo (depthIn n inside) us vs ≡ true
         → addressIn count n us inside ≡ addressIn count n vs inside)
-        → (agreeTo (depthIn n behind) xs ys ≡ true → addressIn count n xs behind ≡ addressIn count n ys behind)
-        → agreeTo (elim a [ true ↦ 1 | false ↦ elim b [ true ↦ suc (depthIn n inside) | false ↦ depthIn n behind ] ]) xs ys ≡ true
+        → (agreeTo (depthIn n following) xs ys ≡ true → addressIn count n xs following ≡ addressIn count n ys following)
+        → agreeTo (elim a [ true ↦ 1 | false ↦ elim b [ true ↦ suc (depthIn n inside) | false ↦ depthIn n following ] ]) xs ys ≡ true
         → Address a b xs ≡ Address a b ys
     go true b i r e = ap (λ j. j * size + offsetIn n ps) (agree-first 0 xs ys l e .0)
     go false true i r e =
@@ -162,7 +162,7 @@ pub record Lower (body : List ℕ) (count : Head → ℕ) (k : ℕ) (path : List
   pub reads : Reads body p
 
 module _ (body : List ℕ) (count : Head → ℕ) (k : ℕ) (path : List ℕ) (offset : ℕ) (h : Head) (ps : List Point)
-    (inside behind : Groups) (t : Apart ps inside behind) (l : length path ≡ 3) (low : k < 3) where
+    (inside following : Groups) (t : Apart ps inside following) (l : length path ≡ 3) (low : k < 3) where
   -- The size of an instance.
   abbrev size : ℕ
   size = pointsSize ps + groupsSize count inside
@@ -177,26 +177,26 @@ module _ (body : List ℕ) (count : Head → ℕ) (k : ℕ) (path : List ℕ) (o
 
   -- The address of a number of the group's own points,
   own-address : (n : ℕ) (xs : List ℕ) → among n (numbersOf (pointFrames ps)) ≡ true
-      → addressIn count n xs (group h ps inside behind) ≡ getD xs 0 0 * size + offsetIn n ps
+      → addressIn count n xs (group h ps inside following) ≡ getD xs 0 0 * size + offsetIn n ps
   unfolding addressIn
   own-address n xs e = rw (e, addressIn)
 
   -- of the groups in it,
   lower-address : (n : ℕ) (xs : List ℕ) → among n (numbersOf (groupFrames inside)) ≡ true
-      → addressIn count n xs (group h ps inside behind)
+      → addressIn count n xs (group h ps inside following)
       ≡ getD xs 0 0 * size + (pointsSize ps + addressIn count n (drop 1 xs) inside)
   unfolding addressIn
   lower-address n xs e = rw (t .insidePoints n e, e, addressIn)
 
   -- and of the groups behind it.
-  next-address : (n : ℕ) (xs : List ℕ) → among n (numbersOf (groupFrames behind)) ≡ true
-      → addressIn count n xs (group h ps inside behind) ≡ count h * size + addressIn count n xs behind
+  next-address : (n : ℕ) (xs : List ℕ) → among n (numbersOf (groupFrames following)) ≡ true
+      → addressIn count n xs (group h ps inside following) ≡ count h * size + addressIn count n xs following
   unfolding addressIn
-  next-address n xs e = rw (t .behindPoints n e, t .behindInside n e, addressIn)
+  next-address n xs e = rw (t .followingPoints n e, t .followingInside n e, addressIn)
 
   -- A point of the group itself,
   of-own : (j : ℕ) (p : ModelPoint) → Own body (set path k j) (offset + j * size) ps p
-      → Lower body count k path offset (group h ps inside behind) p
+      → Lower body count k path offset (group h ps inside following) p
   of-own j p o =
       let n = p .definition .number in
       let s = kept j (pathOf p) (λ i b. ap (λ xs. getD xs i 0) (o .onPath)) in
@@ -205,7 +205,7 @@ module _ (body : List ℕ) (count : Head → ℕ) (k : ℕ) (path : List ℕ) (o
       let a = own-address n xs (point-among (p .definition) ps (o .defined)) ∙ ap (λ i. i * size + offsetIn n ps) here in
       let b = o .addressed in
       record {
-        defined = in-front (p .definition) ps (lowerPoints inside ++ lowerPoints behind) (o .defined);
+        defined = in-append-left (p .definition) ps (lowerPoints inside ++ lowerPoints following) (o .defined);
         keeps = s .1;
         addressed = omega (arith, a, b);
         reads = o .reads;
@@ -213,7 +213,7 @@ module _ (body : List ℕ) (count : Head → ℕ) (k : ℕ) (path : List ℕ) (o
 
   -- of the groups in it,
   of-lower : (j : ℕ) (p : ModelPoint) → Lower body count (suc k) (set path k j) (offset + j * size + pointsSize ps) inside p
-      → Lower body count k path offset (group h ps inside behind) p
+      → Lower body count k path offset (group h ps inside following) p
   of-lower j p o =
       let n = p .definition .number in
       let s = kept j (pathOf p) (o .keeps) in
@@ -226,22 +226,22 @@ module _ (body : List ℕ) (count : Head → ℕ) (k : ℕ) (path : List ℕ) (o
       ∙ ap (λ ys. j * size + (pointsSize ps + addressIn count n ys inside)) rest in
       let b = o .addressed in
       record {
-        defined = in-behind (p .definition) ps (lowerPoints inside ++ lowerPoints behind)
-            (in-front (p .definition) (lowerPoints inside) (lowerPoints behind) (o .defined));
+        defined = in-append-right (p .definition) ps (lowerPoints inside ++ lowerPoints following)
+            (in-append-left (p .definition) (lowerPoints inside) (lowerPoints following) (o .defined));
         keeps = s .1;
         addressed = omega (arith, a, b);
         reads = o .reads;
       }
 
   -- and of the groups behind it.
-  of-next : (p : ModelPoint) → Lower body count k path (offset + count h * size) behind p
-      → Lower body count k path offset (group h ps inside behind) p
+  of-next : (p : ModelPoint) → Lower body count k path (offset + count h * size) following p
+      → Lower body count k path offset (group h ps inside following) p
   of-next p o =
-      let a = next-address (p .definition .number) (drop k (pathOf p)) (lower-among (p .definition) behind (o .defined)) in
+      let a = next-address (p .definition .number) (drop k (pathOf p)) (lower-among (p .definition) following (o .defined)) in
       let b = o .addressed in
       record {
-        defined = in-behind (p .definition) ps (lowerPoints inside ++ lowerPoints behind)
-            (in-behind (p .definition) (lowerPoints inside) (lowerPoints behind) (o .defined));
+        defined = in-append-right (p .definition) ps (lowerPoints inside ++ lowerPoints following)
+            (in-append-right (p .definition) (lowerPoints inside) (lowerPoints following) (o .defined));
         keeps = o .keeps;
         addressed = omega (arith, a, b);
         reads = o .reads;
@@ -281,4 +281,4 @@ each-lower body count level i offset top enclosing (group h ps inside next) s be
     each-append P (instances (count h) 0 offset size (λ j o. own j o ++ lower j o)) rest
     (each-instance P size (λ j o. own j o ++ lower j o) offset each (count h) 0 offset (omega arith))
     (each-implied (Lower body count k path mid next) P (of-next body count k path offset h ps inside next t l low) rest
-    (each-lower body count level i mid top enclosing next (s .4) below l (t .behindDistinct)))
+    (each-lower body count level i mid top enclosing next (s .4) below l (t .followingDistinct)))

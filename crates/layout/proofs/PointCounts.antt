@@ -76,10 +76,10 @@ pub groups-fit : (count : Head → ℕ) (top enclosing : List Point) (level : �
     → groupsPoints count g ≤ groupsSize count g
 unfolding measured
 groups-fit count top enclosing level noGroup e = omega arith
-groups-fit count top enclosing level (group h ps inside behind) e =
+groups-fit count top enclosing level (group h ps inside following) e =
     let p = points-fit (ps ++ enclosing) ps (e .2) in
     let i = groups-fit count top (ps ++ enclosing) (suc level) inside (e .3) in
-    let b = groups-fit count top enclosing level behind (e .4) in
+    let b = groups-fit count top enclosing level following (e .4) in
     let both : length ps + groupsPoints count inside ≤ pointsSize ps + groupsSize count inside = omega arith in
     let m = mul-le-mul-left (count h) both in
     omega (arith, m, b)

@@ -12,7 +12,7 @@ use Rattle.lists.specs.Members.{among, Distinct, In}
 use Rattle.lists.proofs.TestOutcomes.{by-same-test}
 use Rattle.lists.proofs.TestLaws.{neither}
 use Rattle.lists.proofs.EachLaws.{each-implied, each-append, each-one, each-any}
-use Rattle.lists.proofs.InLaws.{in-front, in-behind, all-in}
+use Rattle.lists.proofs.InLaws.{in-append-left, in-append-right, all-in}
 use Rattle.catalog_frames.specs.Frames.{Point, Head}
 use Rattle.model_definitions.specs.Definitions.{noGroup, Content, Definition, pointsSize, pointFrames}
 use Rattle.model_definitions.specs.Soundness.{SoundDefinition, numbersOf}
@@ -71,7 +71,7 @@ module _ (d : Definition) (body : List ℕ) (count : Head → ℕ) where
   own-at p o =
       let ps = d .top .points in
       let a = o .addressed in (
-        in-front (p .definition) ps (lowerPoints (d .top .groups)) (o .defined),
+        in-append-left (p .definition) ps (lowerPoints (d .top .groups)) (o .defined),
         rw (point-among (p .definition) ps (o .defined), addressOf) (omega (arith, a)),
         o .reads,
       )
@@ -83,7 +83,7 @@ module _ (d : Definition) (body : List ℕ) (count : Head → ℕ) where
   lower-at s p o =
       let g = d .top .groups in
       let n = p .definition .number in (
-        in-behind (p .definition) (d .top .points) (lowerPoints g) (o .defined),
+        in-append-right (p .definition) (d .top .points) (lowerPoints g) (o .defined),
         rw (top-apart d s .insidePoints n (lower-among (p .definition) g (o .defined)), addressOf) (o .addressed),
         o .reads,
       )
@@ -140,7 +140,7 @@ pad-addressed d s id body =
     let own-at : (p : ModelPoint) → Own body noInstance 0 qs p → At d body by p = λ p o.
     let a = o .addressed in
     let one = in-but-last (p .definition) ps (o .defined) in
-    (in-front (p .definition) ps (lowerPoints (d .top .groups)) one, omega (arith, a), o .reads) in
+    (in-append-left (p .definition) ps (lowerPoints (d .top .groups)) one, omega (arith, a), o .reads) in
     record {
       address = by;
       near = λ n xs ys l e. refl;

@@ -15,7 +15,7 @@ use Rattle.model_definitions.proofs.AcceptedIsSound.{accepted-is-sound}
 use Rattle.register_map.specs.Scan.{Model}
 use Rattle.layout.specs.Points.{ModelPoint}
 use Rattle.layout.specs.Reading.{Reading, points, reading}
-use Rattle.layout.specs.Walks.{Accepted}
+use Rattle.layout.specs.InternalWalks.{Accepted}
 use Rattle.layout.specs.Tiling.{BodyTiled}
 use Rattle.layout.proofs.ReadingSteps.{reading-none, reading-first}
 use Rattle.layout.proofs.BodyTiling.{read-tiled}

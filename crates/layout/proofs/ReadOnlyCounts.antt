@@ -15,7 +15,7 @@ use Rattle.model_definitions.specs.Soundness.{SoundGroups}
 use Rattle.layout.specs.Points.{Scope, Instance}
 use Rattle.layout.specs.Layout.{topScope, countOf, fillSizeOf, restSize, countUnimplemented, fits, fillOf, countsOf, groupsAt}
 use Rattle.layout.proofs.CountsAgree.{measures-agree, fills-agree, unimplemented-agrees}
-use Rattle.layout.proofs.ReachOnly.{Agree, groups-agree}
+use Rattle.layout.proofs.ScopeOnly.{Agree, groups-agree}
 
 -- ---- The points of access R
 
@@ -61,7 +61,7 @@ count-point-kept n (p ∷ ps) e = go (eqb (p .access) readOnly) refl e (count-po
 counted-by-read-only : (top enclosing : List Point) (level : ℕ) (g : Groups) → SoundGroups top enclosing level g
     → SoundGroups (readOnlyPoints top) enclosing level g
 counted-by-read-only top enclosing level noGroup s = tt
-counted-by-read-only top enclosing level (group h ps inside behind) s = (
+counted-by-read-only top enclosing level (group h ps inside following) s = (
   record {
     levelInRange = s .0 .levelInRange;
     typeFlag = s .0 .typeFlag;
@@ -73,7 +73,7 @@ counted-by-read-only top enclosing level (group h ps inside behind) s = (
   s .1,
   s .2,
   counted-by-read-only top (ps ++ enclosing) (suc level) inside (s .3),
-  counted-by-read-only top enclosing level behind (s .4),
+  counted-by-read-only top enclosing level following (s .4),
 )
 
 -- ---- Two bodies

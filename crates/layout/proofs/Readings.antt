@@ -15,12 +15,12 @@ use Rattle.model_definitions.specs.Definitions.{Content, pointsSize}
 use Rattle.model_definitions.specs.Soundness.{ScaleResolves}
 use Rattle.layout.specs.Points.{ModelPoint}
 use Rattle.layout.specs.Layout.{topScope, countUnimplemented, fits, topInstance, pointsAt, contentAt}
-use Rattle.layout.specs.Reading.{Fault, Reading, unknown, faulty, points, belowTopPoints, countPointUnimplemented, notTheSize, endsWithPad, allButLast, padLeftOut, laidOut, readBy}
-use Rattle.layout.specs.Walks.{HasPoints}
+use Rattle.layout.specs.Reading.{Fault, Reading, unknown, faulty, points, belowTopPoints, countPointUnimplemented, notTheSize, endsWithPad, allButLast, padLeftOut, readFull, readBy}
+use Rattle.layout.specs.InternalWalks.{HasPoints}
 
 -- A body that is laid out in full: it has room for the top points, its counts are given, and its length is the size.
 pub record Full (c : Content) (body : List ℕ) : Type 0 where
-  pub room : pointsSize (c .points) ≤ length body
+  pub capacity : pointsSize (c .points) ≤ length body
   pub counted : countUnimplemented (topScope (c .points) body) (c .groups) ≡ false
   pub fitting : fits c body ≡ true
 
@@ -40,13 +40,13 @@ module _ (id : ℕ) (c : Content) (body : List ℕ) where
   pub by-cases : (P : Reading → Type 0) → (padLeftOut id c (length body) ≡ true → P (points pointsLeft))
       → ((fault : Fault) → P (faulty fault))
       → (padLeftOut id c (length body) ≡ false → Full c body → P (points (contentAt c body))) → P (readBy id c body)
-  unfolding readBy laidOut
+  unfolding readBy readFull
   by-cases P left bad whole =
       by-test P (padLeftOut id c (length body)) left (λ kept.
       by-test P (ltb (length body) (pointsSize (c .points))) (λ _. bad belowTopPoints) (λ r.
       by-test P (countUnimplemented (topScope (c .points) body) (c .groups)) (λ _. bad countPointUnimplemented) (λ u.
       by-test P (fits c body)
-      (λ f. whole kept (record { room = ltb-false (length body) (pointsSize (c .points)) r; counted = u; fitting = f }))
+      (λ f. whole kept (record { capacity = ltb-false (length body) (pointsSize (c .points)) r; counted = u; fitting = f }))
       (λ _. bad notTheSize))))
 
   -- What is read in the one way,
@@ -56,9 +56,9 @@ module _ (id : ℕ) (c : Content) (body : List ℕ) where
 
   -- and in the other.
   pub read-full : padLeftOut id c (length body) ≡ false → Full c body → readBy id c body ≡ points (contentAt c body)
-  unfolding readBy laidOut
+  unfolding readBy readFull
   read-full e f =
-      simp (readBy, e, laidOut, le-ltb (length body) (pointsSize (c .points)) (f .room), f .counted, f .fitting)
+      simp (readBy, e, readFull, le-ltb (length body) (pointsSize (c .points)) (f .capacity), f .counted, f .fitting)
 
   -- How a model with points is read.
   pub how-read : HasPoints (readBy id c body) → HowRead id c body (readBy id c body)

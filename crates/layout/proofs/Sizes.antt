@@ -27,23 +27,23 @@ use Rattle.layout.specs.Counts.{or0}
 -- ---- Sound points
 
 -- Each has a size of its type,
-pub points-sized : (reach ps : List Point) → Each (SoundPoint reach) ps → Each (λ p. isSizeOf (p .typeCode) (p .size) ≡ true) ps
-points-sized reach ps = each-implied (SoundPoint reach) (λ p. isSizeOf (p .typeCode) (p .size) ≡ true) (λ p s. s .sized) ps
+pub points-sized : (inScope ps : List Point) → Each (SoundPoint inScope) ps → Each (λ p. isSizeOf (p .typeCode) (p .size) ≡ true) ps
+points-sized inScope ps = each-implied (SoundPoint inScope) (λ p. isSizeOf (p .typeCode) (p .size) ≡ true) (λ p s. s .sized) ps
 
 -- takes a register or more,
-pub points-fit : (reach ps : List Point) → Each (SoundPoint reach) ps → length ps ≤ pointsSize ps
-points-fit reach [] e = omega arith
-points-fit reach (p ∷ ps) e =
-    let s = point-size reach p (e .0) .0 in
-    let r = points-fit reach ps (e .1) in
+pub points-fit : (inScope ps : List Point) → Each (SoundPoint inScope) ps → length ps ≤ pointsSize ps
+points-fit inScope [] e = omega arith
+points-fit inScope (p ∷ ps) e =
+    let s = point-size inScope p (e .0) .0 in
+    let r = points-fit inScope ps (e .1) in
     omega arith
 
 -- and 64 at most.
-pub points-small : (reach ps : List Point) → Each (SoundPoint reach) ps → pointsSize ps ≤ 64 * length ps
-points-small reach [] e = omega arith
-points-small reach (p ∷ ps) e =
-    let s = point-size reach p (e .0) .1 in
-    let r = points-small reach ps (e .1) in
+pub points-small : (inScope ps : List Point) → Each (SoundPoint inScope) ps → pointsSize ps ≤ 64 * length ps
+points-small inScope [] e = omega arith
+points-small inScope (p ∷ ps) e =
+    let s = point-size inScope p (e .0) .1 in
+    let r = points-small inScope ps (e .1) in
     omega arith
 
 -- ---- Groups
@@ -128,14 +128,14 @@ pub fill-takes-registers : (count : Head → ℕ) (top enclosing : List Point) (
     → SoundGroups top enclosing level g → (size : ℕ) → fillSize count g ≡ some size → 1 ≤ size
 unfolding fillMeasured
 fill-takes-registers count top enclosing level noGroup e size q = impossible (cc)
-fill-takes-registers count top enclosing level (group h ps inside behind) e size q =
-    go (eqb (h .countKind) fill) (fill-takes-registers count top enclosing level behind (e .4) size) q
+fill-takes-registers count top enclosing level (group h ps inside following) e size q =
+    go (eqb (h .countKind) fill) (fill-takes-registers count top enclosing level following (e .4) size) q
   where
     I : ℕ
     I = pointsSize ps + groupsSize count inside
 
-    go : (b : Bool) → (fillSize count behind ≡ some size → 1 ≤ size)
-        → elim b [ true ↦ some I | false ↦ fillSize count behind ] ≡ some size → 1 ≤ size
+    go : (b : Bool) → (fillSize count following ≡ some size → 1 ≤ size)
+        → elim b [ true ↦ some I | false ↦ fillSize count following ] ≡ some size → 1 ≤ size
     go true rest p =
         let own = points-fit (ps ++ enclosing) ps (e .2) in
         let same : I ≡ size = cc in
@@ -188,8 +188,8 @@ module _ (top enclosing : List Point) (c : Content) (body : List ℕ) (e : Sound
           )
 
   -- Where it fits, the size by the counts is the length.
-  pub laid-size : fits c body ≡ true → pointsSize (c .points) + groupsSize (countsOf c body) (c .groups) ≡ length body
-  laid-size t = sym (fits-just-where .0 t)
+  pub full-size : fits c body ≡ true → pointsSize (c .points) + groupsSize (countsOf c body) (c .groups) ≡ length body
+  full-size t = sym (fits-just-where .0 t)
 
 -- ---- Of an accepted catalog
 

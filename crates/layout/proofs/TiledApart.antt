@@ -6,7 +6,7 @@ use Prim.Native.Nat.{ℕ, _+_, _≤_}
 use native.Mathlib.Omega.{arith}
 use lib.ListN.{length}
 use Rattle.lists.specs.Members.{In, first, later}
-use Rattle.lists.proofs.InLaws.{in-behind}
+use Rattle.lists.proofs.InLaws.{in-append-right}
 use Rattle.layout.specs.Tiling.{Tiles}
 
 module _ {A : Type 0} (at size : A → ℕ) where
@@ -39,9 +39,9 @@ module _ {A : Type 0} (at size : A → ℕ) where
   apart from to (z ∷ xs) t x y (later i) (later j) = apart (from + size z) to xs (t .2) x y i j
 
   -- They are in the order of their addresses.
-  pub in-order : (from to : ℕ) (front : List A) (x : A) (between : List A) (y : A) (rest : List A)
-      → Tiles at size from to (front ++ x ∷ (between ++ y ∷ rest)) → at x + size x ≤ at y
+  pub in-order : (from to : ℕ) (preceding : List A) (x : A) (between : List A) (y : A) (rest : List A)
+      → Tiles at size from to (preceding ++ x ∷ (between ++ y ∷ rest)) → at x + size x ≤ at y
   in-order from to [] x between y rest t =
-      let r = inside (from + size x) to (between ++ y ∷ rest) (t .2) y (in-behind y between (y ∷ rest) first) in
+      let r = inside (from + size x) to (between ++ y ∷ rest) (t .2) y (in-append-right y between (y ∷ rest) first) in
       omega (arith, t .0, r .0)
-  in-order from to (z ∷ front) x between y rest t = in-order (from + size z) to front x between y rest (t .2)
+  in-order from to (z ∷ preceding) x between y rest t = in-order (from + size z) to preceding x between y rest (t .2)

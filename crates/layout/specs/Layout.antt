@@ -22,7 +22,7 @@ within body offset [] scope = scope
 within body offset (p ∷ ps) scope =
     within body (offset + p .size) ps (withPoint (p .number) (getD body offset 0) scope)
 
--- Nothing is in reach. (In an accepted catalog no point outside reach is asked for: `proofs/ReachOnly.antt`. 8000 is no scale
+-- Nothing is in reach. (In an accepted catalog no point outside reach is asked for: `proofs/ScopeOnly.antt`. 8000 is no scale
 -- factor.)
 abbrev pub nothing : Scope
 nothing n = 0x8000
@@ -69,9 +69,9 @@ fillSize = fillMeasured pointsSize
 -- 28: a count point of one of these groups, or of a group in them, reads FFFF.
 unfoldable pub countUnimplemented : Scope → Groups → Bool
 countUnimplemented top noGroup = false
-countUnimplemented top (group h ps inside behind) =
+countUnimplemented top (group h ps inside following) =
     (eqb (h .countKind) countByPoint && eqb (top (h .count)) 0xFFFF)
-    || (countUnimplemented top inside || countUnimplemented top behind)
+    || (countUnimplemented top inside || countUnimplemented top following)
 
 -- The size of the rest: all but the fill group.
 abbrev pub restSize : Content → List ℕ → ℕ

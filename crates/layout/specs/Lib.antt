@@ -5,4 +5,4 @@ pub mod Counts
 pub mod Paths
 pub mod Locating
 pub mod Tiling
-pub mod Walks
+pub mod InternalWalks

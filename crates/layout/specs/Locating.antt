@@ -51,7 +51,7 @@ locatedOwn number path level offset ps =
 -- number at this level can have it: among its own points, or in the groups in it.
 unfoldable pub locatedIn : (Head → ℕ) → ℕ → List ℕ → ℕ → ℕ → Groups → Option Located
 locatedIn count number path level offset noGroup = none
-locatedIn count number path level offset (group h ps inside behind) =
+locatedIn count number path level offset (group h ps inside following) =
     let size = pointsSize ps + groupsSize count inside in
     let j = getD path (level - 2) 0 in
     let start = offset + j * size in
@@ -61,7 +61,7 @@ locatedIn count number path level offset (group h ps inside behind) =
           (locatedIn count number path (suc level) (start + pointsSize ps) inside)
       | false ↦ none
     ])
-    (locatedIn count number path level (offset + count h * size) behind)
+    (locatedIn count number path level (offset + count h * size) following)
 
 -- The point with a number and a path in a model, by its top group.
 abbrev pub located : (Head → ℕ) → ℕ → List ℕ → Content → Option Located

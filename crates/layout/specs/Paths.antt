@@ -13,12 +13,12 @@ use Rattle.layout.specs.Points.{ModelPoint}
 -- top group.
 unfoldable pub depthIn : ℕ → Groups → ℕ
 depthIn number noGroup = 0
-depthIn number (group h ps inside behind) =
+depthIn number (group h ps inside following) =
     elim (among number (numbersOf (pointFrames ps))) [
       | true ↦ 1
       | false ↦ elim (among number (numbersOf (groupFrames inside))) [
         | true ↦ suc (depthIn number inside)
-        | false ↦ depthIn number behind
+        | false ↦ depthIn number following
       ]
     ]
 

@@ -42,7 +42,7 @@ allButLast (p ∷ q ∷ ps) = p ∷ allButLast (q ∷ ps)
 -- Is there no group?
 abbrev pub hasNoGroup : Groups → Bool
 hasNoGroup noGroup = true
-hasNoGroup (group h ps inside behind) = false
+hasNoGroup (group h ps inside following) = false
 
 -- Is the last pad left out? Document 01 allows it in a model of id 1 that has no groups and is one register shorter than its
 -- points.
@@ -51,8 +51,8 @@ padLeftOut id c len =
     eqb id 1 && (hasNoGroup (c .groups) && (endsWithPad (c .points) && eqb (len + 1) (pointsSize (c .points))))
 
 -- 27, 28 and 29 in order, else the points.
-unfoldable pub laidOut : Content → List ℕ → Reading
-laidOut c body =
+unfoldable pub readFull : Content → List ℕ → Reading
+readFull c body =
     elim (ltb (length body) (pointsSize (c .points))) [
       | true ↦ faulty belowTopPoints
       | false ↦ elim (countUnimplemented (topScope (c .points) body) (c .groups)) [
@@ -66,7 +66,7 @@ unfoldable pub readBy : ℕ → Content → List ℕ → Reading
 readBy id c body =
     elim (padLeftOut id c (length body)) [
       | true ↦ points (pointsAt body (topInstance (allButLast (c .points)) body) 0 (allButLast (c .points)))
-      | false ↦ laidOut c body
+      | false ↦ readFull c body
     ]
 
 -- The top group of the first definition of an id, if there is one.

@@ -13,7 +13,7 @@ use Rattle.layout.specs.Points.{ModelPoint}
 -- The points of groups and of the groups in them.
 abbrev pub lowerPoints : Groups → List Point
 lowerPoints noGroup = []
-lowerPoints (group h ps inside behind) = ps ++ (lowerPoints inside ++ lowerPoints behind)
+lowerPoints (group h ps inside following) = ps ++ (lowerPoints inside ++ lowerPoints following)
 
 -- The points of a model's definition.
 abbrev pub definedPoints : Definition → List Point

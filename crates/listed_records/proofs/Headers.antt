@@ -10,47 +10,47 @@ use lib.ListN.{length, take}
 use Rattle.register_map.specs.Scan.{totalSize, scan}
 use Rattle.listing.specs.Listing.{Record, refused, listed, listing}
 use Rattle.listed_records.proofs.RefusalNumbers.{ending-number}
-use Rattle.listed_records.proofs.WalksBehind.{headers-walked, headers-marked, listed-walks, short-walks, refused-walks, refused-early}
+use Rattle.listed_records.proofs.ListingInversion.{headers-walked, headers-marked, listed-walks, short-walks, refused-walks, refused-early}
 
 -- On acceptance the headers are models + 1 and at most (registers − 1) / 3.
-pub headers : (catalog map : List ℕ) (room : ℕ) (rs : List Record) (headers : ℕ) → listing catalog map room ≡ listed rs headers
+pub headers : (catalog map : List ℕ) (capacity : ℕ) (rs : List Record) (headers : ℕ) → listing catalog map capacity ≡ listed rs headers
     → (headers ≡ length (scan map .models) + 1) × (headers ≤ (length map - 1) / 3)
-headers catalog map room rs h e = headers-marked catalog map (listed-walks catalog map room rs h e .0)
+headers catalog map capacity rs h e = headers-marked catalog map (listed-walks catalog map capacity rs h e .0)
 
 -- So they are on 30.
-pub headers-without-room : (catalog map : List ℕ) (room n headers : ℕ) → listing catalog map room ≡ refused 30 n headers
+pub headers-without-capacity : (catalog map : List ℕ) (capacity n headers : ℕ) → listing catalog map capacity ≡ refused 30 n headers
     → (headers ≡ length (scan map .models) + 1) × (headers ≤ (length map - 1) / 3)
-headers-without-room catalog map room n headers e = headers-marked catalog map (short-walks catalog map room n headers e .1)
+headers-without-capacity catalog map capacity n headers e = headers-marked catalog map (short-walks catalog map capacity n headers e .1)
 
 -- 1 to 11, 20 and 21: none.
-pub no-headers : (catalog map : List ℕ) (room n place headers : ℕ) → listing catalog map room ≡ refused n place headers → n ≤ 21
+pub no-headers : (catalog map : List ℕ) (capacity n place headers : ℕ) → listing catalog map capacity ≡ refused n place headers → n ≤ 21
     → headers ≡ 0
-no-headers catalog map room n place headers e low = refused-early catalog map room n place headers (omega arith) e
+no-headers catalog map capacity n place headers e low = refused-early catalog map capacity n place headers (omega arith) e
 
 -- 22 to 29: the headers are the models in front of the header whose address is the place.
-pub headers-before : (catalog map : List ℕ) (room n place headers : ℕ) → listing catalog map room ≡ refused n place headers
+pub headers-before : (catalog map : List ℕ) (capacity n place headers : ℕ) → listing catalog map capacity ≡ refused n place headers
     → 22 ≤ n → n ≤ 29
     → (headers ≤ length (scan map .models)) × (place ≡ 2 + totalSize (take headers (scan map .models)))
-headers-before catalog map room n place headers e low high =
-    let r = headers-walked catalog map (refused-walks catalog map room n place headers (low, high) e) in
+headers-before catalog map capacity n place headers e low high =
+    let r = headers-walked catalog map (refused-walks catalog map capacity n place headers (low, high) e) in
     let counted = r .counted in
     let within = r .within in
     let same : r .before ≡ headers = omega arith in
     (omega arith, r .placed ∙ ap (λ k. 2 + totalSize (take k (scan map .models))) same)
 
 -- 22 to 26: it is the header behind the last model.
-pub headers-at-end : (catalog map : List ℕ) (room n place headers : ℕ) → listing catalog map room ≡ refused n place headers
+pub headers-at-end : (catalog map : List ℕ) (capacity n place headers : ℕ) → listing catalog map capacity ≡ refused n place headers
     → 22 ≤ n → n ≤ 26 → headers ≡ length (scan map .models)
-headers-at-end catalog map room n place headers e low high =
-    let r = headers-walked catalog map (refused-walks catalog map room n place headers (low, omega arith) e) in
+headers-at-end catalog map capacity n place headers e low high =
+    let r = headers-walked catalog map (refused-walks catalog map capacity n place headers (low, omega arith) e) in
     let counted = r .counted in
     ⊎-elim (λ q. omega arith) (λ l. let b = r .atModel l in absurd (omega arith)) (eq-or-lt-of-le (r .within))
 
 -- 27 to 29: it is a model's.
-pub headers-at-model : (catalog map : List ℕ) (room n place headers : ℕ) → listing catalog map room ≡ refused n place headers
+pub headers-at-model : (catalog map : List ℕ) (capacity n place headers : ℕ) → listing catalog map capacity ≡ refused n place headers
     → 27 ≤ n → n ≤ 29 → headers < length (scan map .models)
-headers-at-model catalog map room n place headers e low high =
-    let r = headers-walked catalog map (refused-walks catalog map room n place headers (omega arith, high) e) in
+headers-at-model catalog map capacity n place headers e low high =
+    let r = headers-walked catalog map (refused-walks catalog map capacity n place headers (omega arith, high) e) in
     let counted = r .counted in
     ⊎-elim (λ q. let b = ending-number map n (r .atEnd q) in absurd (omega arith)) (λ l. omega arith)
     (eq-or-lt-of-le (r .within))

@@ -8,7 +8,7 @@ pub mod WorkedCases
 -- Laws of the walk over the models of a map
 pub mod WalkHeaders
 pub mod RefusalNumbers
-pub mod WalksBehind
+pub mod ListingInversion
 pub mod ModelRecords
 pub mod WalkedModels
 pub mod RecordSources

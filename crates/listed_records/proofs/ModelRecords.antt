@@ -16,7 +16,7 @@ use Rattle.layout.specs.Points.{ModelPoint}
 use Rattle.layout.specs.Reading.{Reading, unknown, faulty, points}
 use Rattle.listing.specs.Listing.{Record, recordOf, listed, walk}
 use Rattle.listed_records.specs.Tiling.{recordsWith}
-use Rattle.listing.proofs.WalkSteps.{not-listed, in-front-listed, walk-unknown, walk-faulty, walk-points}
+use Rattle.listing.proofs.WalkSteps.{not-listed, prepended-listed, walk-unknown, walk-faulty, walk-points}
 
 -- ---- Records with an index
 
@@ -62,7 +62,7 @@ module _ (read : Model → Reading) (ending : Ending) where
       go unknown q = sym (walk-unknown read ending i at m ms q) ∙ e
       go (faulty fault) q = not-listed (sym (walk-faulty read ending i at m ms q) ∙ e)
       go (points ps) q =
-          in-front-listed (map (recordOf i at (m .id)) ps) (walk read ending (i + 1) (at + sizeOf m) ms) rs headers
+          prepended-listed (map (recordOf i at (m .id)) ps) (walk read ending (i + 1) (at + sizeOf m) ms) rs headers
           (sym (walk-points read ending i at m ms q) ∙ e)
 
   -- At the end nothing is listed.
@@ -87,37 +87,37 @@ module _ (read : Model → Reading) (ending : Ending) where
           → ((ss : List Record) → walk read ending (i + 1) (at + sizeOf m) ms ≡ listed ss headers
           → Each (Other j) ss)
           → Each (Other j) rs
-      go unknown l behind = behind rs l
-      go (faulty fault) l behind = absurd l
-      go (points ps) l behind =
+      go unknown l following = following rs l
+      go (faulty fault) l following = absurd l
+      go (points ps) l following =
           let own = others-own j i at m ps (λ q. absurd (omega arith)) in
           let P : Record → Type 0 = Other j in
-          subst (Each P) (sym (l .2)) (each-append P (map (recordOf i at (m .id)) ps) (l .0) own (behind (l .0) (l .1)))
+          subst (Each P) (sym (l .2)) (each-append P (map (recordOf i at (m .id)) ps) (l .0) own (following (l .0) (l .1)))
 
   -- Of a model without any in front of it.
-  first-records : (m : Model) (behind : List Model) (i at : ℕ) (rs : List Record) (headers : ℕ)
-      → walk read ending i at (m ∷ behind) ≡ listed rs headers → RecordsOf i at m rs (read m)
-  first-records m behind i at rs headers e = go (read m) (walk-listed i at m behind rs headers e)
+  first-records : (m : Model) (following : List Model) (i at : ℕ) (rs : List Record) (headers : ℕ)
+      → walk read ending i at (m ∷ following) ≡ listed rs headers → RecordsOf i at m rs (read m)
+  first-records m following i at rs headers e = go (read m) (walk-listed i at m following rs headers e)
     where
-      none-behind : (ss : List Record) → walk read ending (i + 1) (at + sizeOf m) behind ≡ listed ss headers
+      none-after : (ss : List Record) → walk read ending (i + 1) (at + sizeOf m) following ≡ listed ss headers
           → recordsWith i ss ≡ []
-      none-behind ss q = selected-none (λ r. eqb (r .index) i) ss (records-above behind (i + 1) (at + sizeOf m) ss headers q i (omega arith))
+      none-after ss q = selected-none (λ r. eqb (r .index) i) ss (records-above following (i + 1) (at + sizeOf m) ss headers q i (omega arith))
 
-      go : (r : Reading) → Listed i at m behind rs headers r → RecordsOf i at m rs r
-      go unknown l = none-behind rs l
+      go : (r : Reading) → Listed i at m following rs headers r → RecordsOf i at m rs r
+      go unknown l = none-after rs l
       go (faulty fault) l = l
       go (points ps) l =
           let own = map (recordOf i at (m .id)) ps in
           ap (recordsWith i) (l .2)
           ∙ selected-append (λ r. eqb (r .index) i) own (l .0)
-          ∙ ap (λ ss. recordsWith i own ++ ss) (none-behind (l .0) (l .1))
+          ∙ ap (λ ss. recordsWith i own ++ ss) (none-after (l .0) (l .1))
           ∙ append-nil (recordsWith i own)
           ∙ with-own i at m ps
 
   -- Records in front, of another index, change nothing.
-  behind-others : (j a : ℕ) (m : Model) (own ss rs : List Record) → Each (Other j) own → rs ≡ own ++ ss
+  after-others : (j a : ℕ) (m : Model) (own ss rs : List Record) → Each (Other j) own → rs ≡ own ++ ss
       → (r : Reading) → RecordsOf j a m ss r → RecordsOf j a m rs r
-  behind-others j a m own ss rs others e r =
+  after-others j a m own ss rs others e r =
       let same : recordsWith j rs ≡ recordsWith j ss =
       ap (recordsWith j) e ∙ selected-append (λ r. eqb (r .index) j) own ss
       ∙ ap (λ os. os ++ recordsWith j ss) (selected-none (λ r. eqb (r .index) j) own others) in
@@ -129,24 +129,24 @@ module _ (read : Model → Reading) (ending : Ending) where
       go (points ps) same t = same ∙ t
 
   -- The records with the index of any model of the map.
-  pub model-records : (front : List Model) (m : Model) (behind : List Model) (i at : ℕ) (rs : List Record) (headers : ℕ)
-      → walk read ending i at (front ++ m ∷ behind) ≡ listed rs headers
-      → (j a : ℕ) → j ≡ i + length front → a ≡ at + totalSize front → RecordsOf j a m rs (read m)
-  model-records [] m behind i at rs headers e j a p q =
+  pub model-records : (preceding : List Model) (m : Model) (following : List Model) (i at : ℕ) (rs : List Record) (headers : ℕ)
+      → walk read ending i at (preceding ++ m ∷ following) ≡ listed rs headers
+      → (j a : ℕ) → j ≡ i + length preceding → a ≡ at + totalSize preceding → RecordsOf j a m rs (read m)
+  model-records [] m following i at rs headers e j a p q =
       let p′ : i ≡ j = omega (arith, p) in
       let q′ : at ≡ a = omega (arith, q) in
       subst (λ x. RecordsOf j x m rs (read m)) q′
-      (subst (λ x. RecordsOf x at m rs (read m)) p′ (first-records m behind i at rs headers e))
-  model-records (f ∷ front) m behind i at rs headers e j a p q =
-      go (read f) (walk-listed i at f (front ++ m ∷ behind) rs headers e)
-      (λ ss l. model-records front m behind (i + 1) (at + sizeOf f) ss headers l j a (omega arith) (omega arith))
+      (subst (λ x. RecordsOf x at m rs (read m)) p′ (first-records m following i at rs headers e))
+  model-records (f ∷ preceding) m following i at rs headers e j a p q =
+      go (read f) (walk-listed i at f (preceding ++ m ∷ following) rs headers e)
+      (λ ss l. model-records preceding m following (i + 1) (at + sizeOf f) ss headers l j a (omega arith) (omega arith))
     where
-      go : (r : Reading) → Listed i at f (front ++ m ∷ behind) rs headers r
-          → ((ss : List Record) → walk read ending (i + 1) (at + sizeOf f) (front ++ m ∷ behind) ≡ listed ss headers
+      go : (r : Reading) → Listed i at f (preceding ++ m ∷ following) rs headers r
+          → ((ss : List Record) → walk read ending (i + 1) (at + sizeOf f) (preceding ++ m ∷ following) ≡ listed ss headers
           → RecordsOf j a m ss (read m))
           → RecordsOf j a m rs (read m)
       go unknown l rest = rest rs l
       go (faulty fault) l rest = absurd l
       go (points ps) l rest =
-          behind-others j a m (map (recordOf i at (f .id)) ps) (l .0) rs (others-own j i at f ps (λ same. absurd (omega arith))) (l .2)
+          after-others j a m (map (recordOf i at (f .id)) ps) (l .0) rs (others-own j i at f ps (λ same. absurd (omega arith))) (l .2)
           (read m) (rest (l .0) (l .1))

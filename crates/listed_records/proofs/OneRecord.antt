@@ -64,22 +64,22 @@ module _ (catalog map : List ℕ) (rs : List Record) (headers : ℕ) (all : allR
     ofW = record-source catalog map rs headers all w j
 
     -- Records of one index are of one model.
-    same-front : ofW .front ≡ ofR .front
-    same-front =
+    same-preceding : ofW .preceding ≡ ofR .preceding
+    same-preceding =
         let ms = scan map .models in
-        sym (ap (take (w .index)) (ofW .stands) ∙ take-at (ofW .front) (ofW .own ∷ ofW .behind) (w .index) (sym (ofW .index)))
+        sym (ap (take (w .index)) (ofW .splits) ∙ take-at (ofW .preceding) (ofW .own ∷ ofW .following) (w .index) (sym (ofW .index)))
         ∙ ap (λ n. take n ms) index
-        ∙ ap (take (r .index)) (ofR .stands)
-        ∙ take-at (ofR .front) (ofR .own ∷ ofR .behind) (r .index) (sym (ofR .index))
+        ∙ ap (take (r .index)) (ofR .splits)
+        ∙ take-at (ofR .preceding) (ofR .own ∷ ofR .following) (r .index) (sym (ofR .index))
 
     same-model : ofW .own ≡ ofR .own
     same-model =
         let ms = scan map .models in
-        let rests : ofW .own ∷ ofW .behind ≡ ofR .own ∷ ofR .behind =
-        sym (ap (drop (w .index)) (ofW .stands) ∙ drop-at (ofW .front) (ofW .own ∷ ofW .behind) (w .index) (sym (ofW .index)))
+        let rests : ofW .own ∷ ofW .following ≡ ofR .own ∷ ofR .following =
+        sym (ap (drop (w .index)) (ofW .splits) ∙ drop-at (ofW .preceding) (ofW .own ∷ ofW .following) (w .index) (sym (ofW .index)))
         ∙ ap (λ n. drop n ms) index
-        ∙ ap (drop (r .index)) (ofR .stands)
-        ∙ drop-at (ofR .front) (ofR .own ∷ ofR .behind) (r .index) (sym (ofR .index)) in
+        ∙ ap (drop (r .index)) (ofR .splits)
+        ∙ drop-at (ofR .preceding) (ofR .own ∷ ofR .following) (r .index) (sym (ofR .index)) in
         cc
 
     -- So the one's point is one of the other's model.
@@ -95,8 +95,8 @@ module _ (catalog map : List ℕ) (rs : List Record) (headers : ℕ) (all : allR
     same-record e =
         let id = ofW .id ∙ ap (λ (m : Model). m .id) same-model ∙ sym (ofR .id) in
         let address = ofW .address
-        ∙ ap (λ f. 2 + totalSize f + 2 + w .point .offset) same-front
-        ∙ ap (λ (p : ModelPoint). 2 + totalSize (ofR .front) + 2 + p .offset) e
+        ∙ ap (λ f. 2 + totalSize f + 2 + w .point .offset) same-preceding
+        ∙ ap (λ (p : ModelPoint). 2 + totalSize (ofR .preceding) + 2 + p .offset) e
         ∙ sym (ofR .address) in
         λ k. record { index = index k; id = id k; address = address k; point = e k }
 

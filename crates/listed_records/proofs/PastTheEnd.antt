@@ -8,40 +8,40 @@ use Rattle.catalog.specs.Checking as Checking
 use Rattle.model_definitions.specs.Definitions.{definitions}
 use Rattle.register_map.specs.Headers.{opening}
 use Rattle.register_map.specs.Scan.{Model, marked, scan}
-use Rattle.register_map.proofs.BehindTheMarker.{scan-behind, opening-behind}
+use Rattle.register_map.proofs.PastTheMarker.{scan-longer, opening-longer}
 use Rattle.layout.specs.Reading.{Reading, reading}
-use Rattle.listing.specs.Listing.{Record, listed, Answer, walk, recordsBy, withRoom, listing}
+use Rattle.listing.specs.Listing.{Record, listed, Answer, walk, recordsBy, withCapacity, listing}
 use Rattle.listing.proofs.ListingCases.{catalog-refused, accepted-listed, unopened, opened}
-use Rattle.listed_records.proofs.WalksBehind.{headers-walked, listed-walks}
+use Rattle.listed_records.proofs.ListingInversion.{headers-walked, listed-walks}
 
-module _ (catalog map more : List ℕ) (room : ℕ) (ends : scan map .ending ≡ marked) (fits : length (map ++ more) ≤ 65536) where
+module _ (catalog map more : List ℕ) (capacity : ℕ) (ends : scan map .ending ≡ marked) (fits : length (map ++ more) ≤ 65536) where
   by-opening : (read : Model → Reading) (o : Option ℕ) → opening map ≡ o
       → recordsBy read (map ++ more) ≡ recordsBy read map
   by-opening read (some n) o =
-      unopened read (map ++ more) (opening-behind map more ends fits ∙ o) ∙ sym (unopened read map o)
+      unopened read (map ++ more) (opening-longer map more ends fits ∙ o) ∙ sym (unopened read map o)
   by-opening read none o =
-      opened read (map ++ more) (opening-behind map more ends fits ∙ o)
-      ∙ ap {B = Answer} (λ s. walk read (s .ending) 0 2 (s .models)) (scan-behind map more ends)
+      opened read (map ++ more) (opening-longer map more ends fits ∙ o)
+      ∙ ap {B = Answer} (λ s. walk read (s .ending) 0 2 (s .models)) (scan-longer map more ends)
       ∙ sym (opened read map o)
 
   by-verdict : (v : Checking.Verdict) → Checking.checked catalog ≡ v
-      → listing catalog (map ++ more) room ≡ listing catalog map room
+      → listing catalog (map ++ more) capacity ≡ listing catalog map capacity
   by-verdict (Checking.refused n place) c =
-      catalog-refused catalog (map ++ more) room c ∙ sym (catalog-refused catalog map room c)
+      catalog-refused catalog (map ++ more) capacity c ∙ sym (catalog-refused catalog map capacity c)
   by-verdict (Checking.accepted n) c =
-      accepted-listed catalog (map ++ more) room c
-      ∙ ap (withRoom room) (by-opening (reading (definitions catalog)) (opening map) refl)
-      ∙ sym (accepted-listed catalog map room c)
+      accepted-listed catalog (map ++ more) capacity c
+      ∙ ap (withCapacity capacity) (by-opening (reading (definitions catalog)) (opening map) refl)
+      ∙ sym (accepted-listed catalog map capacity c)
 
   -- Of a map whose models end at the marker, with at most 65,536 registers (20).
-  pub past-the-end : listing catalog (map ++ more) room ≡ listing catalog map room
+  pub past-the-end : listing catalog (map ++ more) capacity ≡ listing catalog map capacity
   past-the-end = by-verdict (Checking.checked catalog) refl
 
 -- So of a map that is listed.
-pub listed-past-end : (catalog map more : List ℕ) (room : ℕ) (rs : List Record) (headers : ℕ)
-    → listing catalog map room ≡ listed rs headers
+pub listed-past-end : (catalog map more : List ℕ) (capacity : ℕ) (rs : List Record) (headers : ℕ)
+    → listing catalog map capacity ≡ listed rs headers
     → length (map ++ more) ≤ 65536
-    → listing catalog (map ++ more) room ≡ listed rs headers
-listed-past-end catalog map more room rs headers e fits =
-    let ends = headers-walked catalog map (listed-walks catalog map room rs headers e .0) .1 in
-    past-the-end catalog map more room ends fits ∙ e
+    → listing catalog (map ++ more) capacity ≡ listed rs headers
+listed-past-end catalog map more capacity rs headers e fits =
+    let ends = headers-walked catalog map (listed-walks catalog map capacity rs headers e .0) .1 in
+    past-the-end catalog map more capacity ends fits ∙ e

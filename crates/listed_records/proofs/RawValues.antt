@@ -18,7 +18,7 @@ module _ (catalog map : List ℕ) (rs : List Record) (headers : ℕ) (all : allR
       let o = record-source catalog map rs headers all r there in
       let d = o .by .definition in
       let inside = point-inside d (o .by .sound) (o .own .body) (o .all) (o .by .reads) (r .point) (o .holds) in
-      inside-map map (o .front) (o .own) (o .behind) (o .made) (r .point .offset) (r .point .definition .size) inside (r .address)
+      inside-map map (o .preceding) (o .own) (o .following) (o .made) (r .point .offset) (r .point .definition .size) inside (r .address)
       (o .address)
 
   -- and its raw value is what they hold.
@@ -28,5 +28,5 @@ module _ (catalog map : List ℕ) (rs : List Record) (headers : ℕ) (all : allR
       let d = o .by .definition in
       let inside = point-inside d (o .by .sound) (o .own .body) (o .all) (o .by .reads) (r .point) (o .holds) in
       point-reads d (o .by .sound) (o .own .body) (o .all) (o .by .reads) (r .point) (o .holds)
-      ∙ ap shownRaw (sym (registers-in-map map (o .front) (o .own) (o .behind) (o .made) (r .point .offset)
+      ∙ ap shownRaw (sym (registers-in-map map (o .preceding) (o .own) (o .following) (o .made) (r .point .offset)
       (r .point .definition .size) inside (r .address) (o .address)))

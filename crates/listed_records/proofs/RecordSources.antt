@@ -13,11 +13,11 @@ use Rattle.register_map.specs.Scan.{Model, totalSize, marked, scan}
 use Rattle.register_map.proofs.MadeOfModels.{MadeOf, made-of-models}
 use Rattle.layout.specs.Points.{ModelPoint}
 use Rattle.layout.specs.Reading.{points, readBy, topOf, reading}
-use Rattle.layout.specs.Walks.{Accepted, pointsOf}
+use Rattle.layout.specs.InternalWalks.{Accepted, pointsOf}
 use Rattle.layout.proofs.AcceptedModels.{top-sound, read-known, read-unknown}
 use Rattle.listing.specs.Listing.{Record, listed, allRecords}
 use Rattle.listing.proofs.ListingCases.{records-walk}
-use Rattle.listed_records.proofs.WalksBehind.{headers-walked}
+use Rattle.listed_records.proofs.ListingInversion.{headers-walked}
 use Rattle.listed_records.proofs.WalkedModels.{record-of-model}
 
 -- A model that is read as points, by the sound definition of its id.
@@ -30,18 +30,18 @@ pub record KnownModel (catalog : List ℕ) (m : Model) (ps : List ModelPoint) : 
 
 -- A record is that of a point of one of the models that the map is made of, which the catalog knows.
 pub record Source (catalog map : List ℕ) (r : Record) : Type 0 where
-  pub front : List Model
+  pub preceding : List Model
   pub own : Model
-  pub behind : List Model
-  pub stands : scan map .models ≡ front ++ own ∷ behind
-  pub made : MadeOf map (front ++ own ∷ behind)
+  pub following : List Model
+  pub splits : scan map .models ≡ preceding ++ own ∷ following
+  pub made : MadeOf map (preceding ++ own ∷ following)
   pub all : List ModelPoint
   pub reads : reading (definitions catalog) own ≡ points all
   pub by : KnownModel catalog own all
   pub holds : In (r .point) all
-  pub index : r .index ≡ length front
+  pub index : r .index ≡ length preceding
   pub id : r .id ≡ own .id
-  pub address : r .address ≡ 2 + totalSize front + 2 + r .point .offset
+  pub address : r .address ≡ 2 + totalSize preceding + 2 + r .point .offset
 
 -- With any body a model is read by the definition of its id.
 pub read-with : (ds : List Definition) (d : Definition) (id : ℕ) → d .id ≡ id → topOf id ds ≡ some (d .top) → (body : List ℕ)
@@ -79,11 +79,11 @@ record-source catalog map rs headers e r i =
     let o = record-of-model read (scan map .ending) (scan map .models) 0 2 rs headers (walks .walks) r i in
     let place = o .place in
     record {
-      front = o .front;
+      preceding = o .preceding;
       own = o .own;
-      behind = o .behind;
-      stands = o .stands;
-      made = subst (MadeOf map) (o .stands) (made-of-models map ends);
+      following = o .following;
+      splits = o .splits;
+      made = subst (MadeOf map) (o .splits) (made-of-models map ends);
       all = pointsOf (read (o .own));
       reads = o .reads;
       by = known-model catalog (walks .models, walks .accepted) (o .own) (pointsOf (read (o .own))) (o .reads);

@@ -24,7 +24,7 @@ use Rattle.layout.proofs.Readings.{not-unknown}
 use Rattle.layout.proofs.ReadingSteps.{reading-here, reading-later, unknown-left}
 use Rattle.listing.specs.Listing.{Record, recordOf, listed, walk, listing}
 use Rattle.listed_records.specs.Tiling.{RecordsTiled, recordsWith}
-use Rattle.listed_records.proofs.WalksBehind.{listed-walks}
+use Rattle.listed_records.proofs.ListingInversion.{listed-walks}
 use Rattle.listed_records.proofs.ModelRecords.{RecordsOf, model-records}
 
 -- ---- The definition of a model
@@ -68,36 +68,36 @@ records-tile i at m from to (p ∷ ps) t =
       subst (λ n. Tiles (λ r. r .address) (λ r. r .point .definition .size) n (at + 2 + to) (map (recordOf i at (m .id)) ps)) same r,
     )
 
-module _ (catalog registers : List ℕ) (room : ℕ) (rs : List Record) (headers : ℕ)
-    (accept : listing catalog registers room ≡ listed rs headers)
-    (front : List Model) (m : Model) (behind : List Model) (stands : scan registers .models ≡ front ++ m ∷ behind) where
+module _ (catalog registers : List ℕ) (capacity : ℕ) (rs : List Record) (headers : ℕ)
+    (accept : listing catalog registers capacity ≡ listed rs headers)
+    (preceding : List Model) (m : Model) (following : List Model) (splits : scan registers .models ≡ preceding ++ m ∷ following) where
   -- The records with the model's index, by how the catalog reads it.
-  records-of-model : RecordsOf (length front) (2 + totalSize front) m rs (reading (definitions catalog) m)
+  records-of-model : RecordsOf (length preceding) (2 + totalSize preceding) m rs (reading (definitions catalog) m)
   records-of-model =
       let read = reading (definitions catalog) in
       let ending = scan registers .ending in
-      let w = listed-walks catalog registers room rs headers accept .0 .walks in
-      let v = subst (λ ms. walk read ending 0 2 ms ≡ listed rs headers) stands w in
-      model-records read ending front m behind 0 2 rs headers v (length front) (2 + totalSize front) (omega arith) (omega arith)
+      let w = listed-walks catalog registers capacity rs headers accept .0 .walks in
+      let v = subst (λ ms. walk read ending 0 2 ms ≡ listed rs headers) splits w in
+      model-records read ending preceding m following 0 2 rs headers v (length preceding) (2 + totalSize preceding) (omega arith) (omega arith)
 
   -- The records of a model that the catalog knows fill it, from the register behind its length to its last. (The first model's
   -- header has address 2.)
   pub model-filled : (d : Definition) → In d (definitions catalog) → d .id ≡ m .id
-      → RecordsTiled d (2 + totalSize front + 2) (2 + totalSize front + sizeOf m) (recordsWith (length front) rs)
+      → RecordsTiled d (2 + totalSize preceding + 2) (2 + totalSize preceding + sizeOf m) (recordsWith (length preceding) rs)
   model-filled d o same = go (reading (definitions catalog) m) refl records-of-model
     where
       i : ℕ
-      i = length front
+      i = length preceding
 
       at : ℕ
-      at = 2 + totalSize front
+      at = 2 + totalSize preceding
 
       l : ℕ
       l = length (m .body)
 
       known : reading (definitions catalog) m ≡ unknown → ⊥
       known q =
-          let w = listed-walks catalog registers room rs headers accept .0 in
+          let w = listed-walks catalog registers capacity rs headers accept .0 in
           let s = accepted-is-sound catalog (w .models) (w .accepted) .0 in
           not-unknown (m .id) (d .top) (m .body) (sym (reading-known (definitions catalog) (s .distinct) d o m same) ∙ q)
 
@@ -106,7 +106,7 @@ module _ (catalog registers : List ℕ) (room : ℕ) (rs : List Record) (headers
       go unknown q t = absurd (known q)
       go (faulty fault) q t = absurd t
       go (points ps) q t =
-          let w = listed-walks catalog registers room rs headers accept .0 in
+          let w = listed-walks catalog registers capacity rs headers accept .0 in
           let b = body-filled catalog (w .models) (w .accepted) d o m same ps q in
           let tiles = records-tile i at m 0 l ps (b .tiles) in
           let from : at + 2 + 0 ≡ at + 2 = omega arith in
@@ -121,6 +121,6 @@ module _ (catalog registers : List ℕ) (room : ℕ) (rs : List Record) (headers
           })
 
   -- A model that the catalog does not know has no record.
-  pub nothing-unknown : among (m .id) (idsOf (definitions catalog)) ≡ false → recordsWith (length front) rs ≡ []
+  pub nothing-unknown : among (m .id) (idsOf (definitions catalog)) ≡ false → recordsWith (length preceding) rs ≡ []
   nothing-unknown e =
-      subst (RecordsOf (length front) (2 + totalSize front) m rs) (unknown-left [] (definitions catalog) m e) records-of-model
+      subst (RecordsOf (length preceding) (2 + totalSize preceding) m rs) (unknown-left [] (definitions catalog) m e) records-of-model

@@ -85,7 +85,7 @@ opening-number map n =
 header-number : (first : Bool) (rest : List ℕ) (n : ℕ) → Headers.headerAt first rest ≡ Headers.refused n → Between 22 26 n
 header-number first [] n = λ e. let same : 22 ≡ n = cc in (omega arith, omega arith)
 header-number first (id ∷ []) n = λ e. let same : 22 ≡ n = cc in (omega arith, omega arith)
-header-number first (id ∷ len ∷ behind) n =
+header-number first (id ∷ len ∷ following) n =
     let W : Headers.Header → Type 0 = λ h. h ≡ Headers.refused n → Between 22 26 n in
     by-test W (first && not (eqb id 1)) (λ t e. let same : 23 ≡ n = cc in (omega arith, omega arith))
     (λ t. by-test W (eqb id 0) (λ u e. let same : 24 ≡ n = cc in (omega arith, omega arith))
@@ -93,7 +93,7 @@ header-number first (id ∷ len ∷ behind) n =
     (λ v. by-test W (eqb len 0) (λ w e. impossible (cc))
     (λ w e. let same : 25 ≡ n = cc in (omega arith, omega arith)))
     (λ v. by-test W (eqb len 0) (λ w e. let same : 25 ≡ n = cc in (omega arith, omega arith))
-    (λ w. by-test W (ltb (length behind) len) (λ x e. let same : 26 ≡ n = cc in (omega arith, omega arith))
+    (λ w. by-test W (ltb (length following) len) (λ x e. let same : 26 ≡ n = cc in (omega arith, omega arith))
     (λ x e. impossible (cc))))))
 
 -- The refusal of the header that the models of a map end at.

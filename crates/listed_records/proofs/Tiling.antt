@@ -18,19 +18,19 @@ use Rattle.listing.specs.Listing.{Record, listed, listing}
 use Rattle.listed_records.specs.Tiling.{RecordsTiled, recordsWith}
 use Rattle.listed_records.proofs.RecordsTiling as steps
 
-module _ (catalog registers : List ℕ) (room : ℕ) (rs : List Record) (headers : ℕ)
-    (accept : listing catalog registers room ≡ listed rs headers)
-    (front : List Model) (m : Model) (behind : List Model) (stands : scan registers .models ≡ front ++ m ∷ behind) where
+module _ (catalog registers : List ℕ) (capacity : ℕ) (rs : List Record) (headers : ℕ)
+    (accept : listing catalog registers capacity ≡ listed rs headers)
+    (preceding : List Model) (m : Model) (following : List Model) (splits : scan registers .models ≡ preceding ++ m ∷ following) where
   -- The records of a model that the catalog knows fill it, from the register behind its length to its last. (The first model's
   -- header has address 2.)
   pub points-tile : (d : Definition) → In d (definitions catalog) → d .id ≡ m .id
-      → RecordsTiled d (2 + totalSize front + 2) (2 + totalSize front + sizeOf m) (recordsWith (length front) rs)
-  points-tile d o same = steps.model-filled catalog registers room rs headers accept front m behind stands d o same
+      → RecordsTiled d (2 + totalSize preceding + 2) (2 + totalSize preceding + sizeOf m) (recordsWith (length preceding) rs)
+  points-tile d o same = steps.model-filled catalog registers capacity rs headers accept preceding m following splits d o same
 
   -- A model that the catalog does not know has no record.
-  pub unknown-has-none : among (m .id) (modelIds (frames catalog)) ≡ false → recordsWith (length front) rs ≡ []
+  pub unknown-has-none : among (m .id) (modelIds (frames catalog)) ≡ false → recordsWith (length preceding) rs ≡ []
   unknown-has-none e =
-      steps.nothing-unknown catalog registers room rs headers accept front m behind stands
+      steps.nothing-unknown catalog registers capacity rs headers accept preceding m following splits
       (ap (among (m .id)) (ids-of-model-frames catalog) ∙ e)
 
 -- By an accepted catalog, a model's points, as they are read, fill its body.

@@ -27,9 +27,9 @@ HeadersWalked ending index at ms (refused n place headers) = RefusedAt ending in
 HeadersWalked ending index at ms (listed rs headers) = (headers ≡ index + length ms + 1) × (ending ≡ marked)
 
 -- One model more.
-headers-in-front : (ending : Ending) (index at : ℕ) (m : Model) (ms : List Model) (rs : List Record) (answer : Answer)
+headers-before : (ending : Ending) (index at : ℕ) (m : Model) (ms : List Model) (rs : List Record) (answer : Answer)
     → HeadersWalked ending (index + 1) (at + sizeOf m) ms answer → HeadersWalked ending index at (m ∷ ms) (withRecords rs answer)
-headers-in-front ending index at m ms rs (refused n place headers) r =
+headers-before ending index at m ms rs (refused n place headers) r =
     let within = r .within in
     let counted = r .counted in
     let placed = r .placed in
@@ -41,7 +41,7 @@ headers-in-front ending index at m ms rs (refused n place headers) r =
       atModel = λ l. r .atModel (omega arith);
       atEnd = λ e. r .atEnd (omega arith);
     }
-headers-in-front ending index at m ms rs (listed ss headers) r =
+headers-before ending index at m ms rs (listed ss headers) r =
     let counted = r .0 in (omega arith, r .1)
 
 module _ (read : Model → Reading) where
@@ -63,7 +63,7 @@ module _ (read : Model → Reading) where
       → HeadersWalked ending index at (m ∷ ms) (walk read ending index at (m ∷ ms))
   headers-model ending index at m ms unknown e later =
       rw (walk-no-records read ending index at m ms e)
-      (headers-in-front ending index at m ms [] (walk read ending (index + 1) (at + sizeOf m) ms) later)
+      (headers-before ending index at m ms [] (walk read ending (index + 1) (at + sizeOf m) ms) later)
   headers-model ending index at m ms (faulty fault) e later =
       rw (walk-faulty read ending index at m ms e) (record {
         before = 0;
@@ -75,7 +75,7 @@ module _ (read : Model → Reading) where
       })
   headers-model ending index at m ms (points ps) e later =
       rw (walk-points read ending index at m ms e)
-      (headers-in-front ending index at m ms (map (recordOf index at (m .id)) ps) (walk read ending (index + 1) (at + sizeOf m) ms)
+      (headers-before ending index at m ms (map (recordOf index at (m .id)) ps) (walk read ending (index + 1) (at + sizeOf m) ms)
       later)
 
   -- All models from one on.

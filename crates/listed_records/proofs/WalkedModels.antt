@@ -11,7 +11,7 @@ use Rattle.lists.proofs.PairwiseLaws.{pairwise-append, pairwise-same, pairwise-
 use Rattle.register_map.specs.Scan.{Model, sizeOf, totalSize, Ending}
 use Rattle.layout.specs.Points.{ModelPoint}
 use Rattle.layout.specs.Reading.{Reading, unknown, faulty, points}
-use Rattle.layout.specs.Walks.{pointsOf}
+use Rattle.layout.specs.InternalWalks.{pointsOf}
 use Rattle.listing.specs.Listing.{Record, recordOf, listed, withRecords, walk}
 use Rattle.listing.proofs.WalkSteps.{not-listed, walk-no-records, walk-faulty, walk-points}
 use Rattle.listed_records.proofs.ModelRecords.{Listed, walk-listed, end-listed}
@@ -28,13 +28,13 @@ read-points (points ps) p i = refl
 
 -- A record is that of a point of one of these models, from an index and an address on.
 pub record OfModel (read : Model → Reading) (index at : ℕ) (ms : List Model) (r : Record) : Type 0 where
-  pub front : List Model
+  pub preceding : List Model
   pub own : Model
-  pub behind : List Model
-  pub stands : ms ≡ front ++ own ∷ behind
+  pub following : List Model
+  pub splits : ms ≡ preceding ++ own ∷ following
   pub reads : read own ≡ points (pointsOf (read own))
   pub holds : In (r .point) (pointsOf (read own))
-  pub place : r ≡ recordOf (index + length front) (at + totalSize front) (own .id) (r .point)
+  pub place : r ≡ recordOf (index + length preceding) (at + totalSize preceding) (own .id) (r .point)
 
 module _ (read : Model → Reading) (ending : Ending) where
   module _ (index at : ℕ) (m : Model) (ms : List Model) (rs : List Record) (headers : ℕ) where
@@ -54,10 +54,10 @@ module _ (read : Model → Reading) (ending : Ending) where
         go (points ps) l = l
 
     -- With other models behind it, the first one's records stay.
-    records-behind : walk read ending index at (m ∷ ms) ≡ listed rs headers → (ns : List Model) (ss : List Record)
+    records-after : walk read ending index at (m ∷ ms) ≡ listed rs headers → (ns : List Model) (ss : List Record)
         → walk read ending (index + 1) (at + sizeOf m) ns ≡ listed ss headers
         → walk read ending index at (m ∷ ns) ≡ listed (map (recordOf index at (m .id)) (pointsOf (read m)) ++ ss) headers
-    records-behind e ns ss f = go (read m) refl
+    records-after e ns ss f = go (read m) refl
       where
         go : (r : Reading) → read m ≡ r
             → walk read ending index at (m ∷ ns) ≡ listed (map (recordOf index at (m .id)) (pointsOf r) ++ ss) headers
@@ -74,7 +74,7 @@ module _ (read : Model → Reading) (ending : Ending) where
       let s = records-first index at m ms rs headers e in
       let own = map (recordOf index at (m .id)) (pointsOf (read m)) in
       in-either r own (s .0) (subst (In r) (s .2) i) here
-      (λ o. behind (record-of-model ms (index + 1) (at + sizeOf m) (s .0) headers (s .1) r o))
+      (λ o. following (record-of-model ms (index + 1) (at + sizeOf m) (s .0) headers (s .1) r o))
     where
       here : In r (map (recordOf index at (m .id)) (pointsOf (read m))) → OfModel read index at (m ∷ ms) r
       here o =
@@ -82,31 +82,31 @@ module _ (read : Model → Reading) (ending : Ending) where
           let none : index ≡ index + 0 = omega arith in
           let nothing : at ≡ at + 0 = omega arith in
           record {
-            front = [];
+            preceding = [];
             own = m;
-            behind = ms;
-            stands = refl;
+            following = ms;
+            splits = refl;
             reads = read-points (read m) (r .point) (q .0);
             holds = q .0;
             place = q .1 ∙ ap (λ k. recordOf k at (m .id) (r .point)) none
                 ∙ ap (λ k. recordOf (index + 0) k (m .id) (r .point)) nothing;
           }
 
-      behind : OfModel read (index + 1) (at + sizeOf m) ms r → OfModel read index at (m ∷ ms) r
-      behind o =
-          let l = length (o .front) in
-          let t = totalSize (o .front) in
-          let one : index + 1 + l ≡ index + length (m ∷ o .front) = omega arith in
-          let size : at + sizeOf m + t ≡ at + totalSize (m ∷ o .front) = omega arith in
+      following : OfModel read (index + 1) (at + sizeOf m) ms r → OfModel read index at (m ∷ ms) r
+      following o =
+          let l = length (o .preceding) in
+          let t = totalSize (o .preceding) in
+          let one : index + 1 + l ≡ index + length (m ∷ o .preceding) = omega arith in
+          let size : at + sizeOf m + t ≡ at + totalSize (m ∷ o .preceding) = omega arith in
           record {
-            front = m ∷ o .front;
+            preceding = m ∷ o .preceding;
             own = o .own;
-            behind = o .behind;
-            stands = ap {B = List Model} (λ ns. m ∷ ns) (o .stands);
+            following = o .following;
+            splits = ap {B = List Model} (λ ns. m ∷ ns) (o .splits);
             reads = o .reads;
             holds = o .holds;
             place = o .place ∙ ap (λ k. recordOf k (at + sizeOf m + t) (o .own .id) (r .point)) one
-                ∙ ap (λ k. recordOf (index + length (m ∷ o .front)) k (o .own .id) (r .point)) size;
+                ∙ ap (λ k. recordOf (index + length (m ∷ o .preceding)) k (o .own .id) (r .point)) size;
           }
 
   -- One model, of an index, is read again, with points that are pairs of its old ones: then so are its records; and where records
@@ -115,15 +115,15 @@ module _ (read : Model → Reading) (ending : Ending) where
       (ps qs : List ModelPoint) (old : read m ≡ points ps) (new : read n ≡ points qs) (pairs : Pairwise R ps qs)
       (j : ℕ) (others : (r : Record) → (r .index ≡ j → ⊥) → Q r r)
       (own : (x : ℕ) (p q : ModelPoint) → R p q → Q (recordOf j x (m .id) p) (recordOf j x (n .id) q)) where
-    pub records-replaced : (front behind : List Model) (index at : ℕ) (rs : List Record) (headers : ℕ) → j ≡ index + length front
-        → walk read ending index at (front ++ m ∷ behind) ≡ listed rs headers
-        → (ss : List Record) × (walk read ending index at (front ++ n ∷ behind) ≡ listed ss headers) × Pairwise Q rs ss
-    records-replaced [] behind index at rs headers i e =
+    pub records-replaced : (preceding following : List Model) (index at : ℕ) (rs : List Record) (headers : ℕ) → j ≡ index + length preceding
+        → walk read ending index at (preceding ++ m ∷ following) ≡ listed rs headers
+        → (ss : List Record) × (walk read ending index at (preceding ++ n ∷ following) ≡ listed ss headers) × Pairwise Q rs ss
+    records-replaced [] following index at rs headers i e =
         let here : index ≡ j = omega arith in
-        let s = records-first index at m behind rs headers e in
-        let later : walk read ending (index + 1) (at + sizeOf n) behind ≡ listed (s .0) headers = rw size (s .1) in
+        let s = records-first index at m following rs headers e in
+        let later : walk read ending (index + 1) (at + sizeOf n) following ≡ listed (s .0) headers = rw size (s .1) in
         let above : (r : Record) → In r (s .0) → Q r r = λ r o.
-        let f = record-of-model behind (index + 1) (at + sizeOf m) (s .0) headers (s .1) r o in
+        let f = record-of-model following (index + 1) (at + sizeOf m) (s .0) headers (s .1) r o in
         others r (λ q. let p = ap (λ r. r .index) (f .place) in omega arith) in
         let records = map (recordOf index at (m .id)) ps in
         let records′ = map (recordOf index at (n .id)) qs in
@@ -131,20 +131,20 @@ module _ (read : Model → Reading) (ending : Ending) where
         let own′ : (p q : ModelPoint) → R p q → Q (recordOf index at (m .id) p) (recordOf index at (n .id) q) = λ p q h.
         rw here (own at p q h) in (
           records′ ++ s .0,
-          walk-points read ending index at n behind new ∙ ap (withRecords records′) later,
+          walk-points read ending index at n following new ∙ ap (withRecords records′) later,
           subst (λ xs. Pairwise Q xs (records′ ++ s .0)) (sym split) (pairwise-append Q records records′ (s .0) (s .0)
               (pairwise-map R Q (recordOf index at (m .id)) (recordOf index at (n .id)) own′ ps qs pairs)
               (pairwise-same Q (s .0) above)),
         )
-    records-replaced (f ∷ front) behind index at rs headers i e =
-        let s = records-first index at f (front ++ m ∷ behind) rs headers e in
-        let r = records-replaced front behind (index + 1) (at + sizeOf f) (s .0) headers (omega arith) (s .1) in
+    records-replaced (f ∷ preceding) following index at rs headers i e =
+        let s = records-first index at f (preceding ++ m ∷ following) rs headers e in
+        let r = records-replaced preceding following (index + 1) (at + sizeOf f) (s .0) headers (omega arith) (s .1) in
         let records = map (recordOf index at (f .id)) (pointsOf (read f)) in
         let here : (r : Record) → In r records → Q r r = λ r o.
         let q = in-records index at (f .id) (pointsOf (read f)) r o in
         others r (λ z. let p = ap (λ r. r .index) (q .1) in omega arith) in (
           records ++ r .0,
-          records-behind index at f (front ++ m ∷ behind) rs headers e (front ++ n ∷ behind) (r .0) (r .1),
+          records-after index at f (preceding ++ m ∷ following) rs headers e (preceding ++ n ∷ following) (r .0) (r .1),
           subst (λ xs. Pairwise Q xs (records ++ r .0)) (sym (s .2))
               (pairwise-append Q records records (s .0) (r .0) (pairwise-same Q records here) (r .2)),
         )

@@ -14,9 +14,9 @@ use Rattle.register_map.specs.Headers.{opening}
 use Rattle.register_map.specs.Scan.{scanFrom, scan}
 use Rattle.layout.specs.Points.{pointAt}
 use Rattle.layout.specs.Layout.{within, measured, fillMeasured, countUnimplemented, fits, fillOf, pointsAt, instances, groupsBy, entered, contentAt}
-use Rattle.layout.specs.Reading.{endsWithPad, allButLast, laidOut, readBy, topOf, reading}
+use Rattle.layout.specs.Reading.{endsWithPad, allButLast, readFull, readBy, topOf, reading}
 use Rattle.listing.specs.Listing as Listing
-use Rattle.listing.specs.Listing.{Told, listedTold, told, recordNumbers, walk, recordsBy, allRecords, withRoom, listing, entries, stored}
+use Rattle.listing.specs.Listing.{Result, listedResult, result, recordNumbers, walk, recordsBy, allRecords, withCapacity, listing, entries, stored}
 
 -- ---- The example, word by word
 
@@ -39,14 +39,14 @@ exampleMap =
     ∷ []
 
 -- Into a list of 52 entries: five records and the last two entries as they were.
-abbrev exampleAnswer : Told × List ℕ
+abbrev exampleAnswer : Result × List ℕ
 exampleAnswer =
     let found = listing exampleCatalog exampleMap 52 in
-    (told found, stored found (replicate 52 9))
+    (result found, stored found (replicate 52 9))
 
 pub example : exampleAnswer
     ≡ (
-      listedTold 5 3,
+      listedResult 5 3,
       1 ∷ 900 ∷ 1 ∷ 0 ∷ 0 ∷ 0 ∷ 7 ∷ 0 ∷ 230 ∷ 65535
           ∷ 1 ∷ 900 ∷ 2 ∷ 0 ∷ 0 ∷ 0 ∷ 8 ∷ 0 ∷ 2 ∷ 0
           ∷ 1 ∷ 900 ∷ 3 ∷ 0 ∷ 0 ∷ 0 ∷ 9 ∷ 0 ∷ 65535 ∷ 0
@@ -54,7 +54,7 @@ pub example : exampleAnswer
           ∷ 1 ∷ 900 ∷ 5 ∷ 1 ∷ 0 ∷ 0 ∷ 12 ∷ 1 ∷ 4294967295 ∷ 0
           ∷ 9 ∷ 9 ∷ [],
     )
-unfolding checkFrom checked framesFrom frameOf isSizeOf rows rowAmong mayScale registersOf twosComplement join shownRaw tooWide integer inRange classOf classified parsed opening scanFrom scan pointAt within measured fillMeasured countUnimplemented fits fillOf pointsAt instances groupsBy entered contentAt endsWithPad allButLast laidOut readBy topOf reading recordNumbers walk recordsBy allRecords withRoom listing entries stored
+unfolding checkFrom checked framesFrom frameOf isSizeOf rows rowAmong mayScale registersOf twosComplement join shownRaw tooWide integer inRange classOf classified parsed opening scanFrom scan pointAt within measured fillMeasured countUnimplemented fits fillOf pointsAt instances groupsBy entered contentAt endsWithPad allButLast readFull readBy topOf reading recordNumbers walk recordsBy allRecords withCapacity listing entries stored
 example = refl
 
 -- ---- Catalogs and maps by hand
@@ -126,11 +126,11 @@ row number level2 level3 level4 address status raw scale =
 pub record Case : Type 0 where
   pub catalog : List ℕ
   pub registers : List ℕ
-  pub room : ℕ
+  pub capacity : ℕ
   pub answer : Shown
 
 abbrev case : List ℕ → List ℕ → ℕ → Shown → Case
-case c r n a = record { catalog = c; registers = r; room = n; answer = a }
+case c r n a = record { catalog = c; registers = r; capacity = n; answer = a }
 
 -- A group of size 6 with fill, and one of size 8 behind a point of 16 registers.
 abbrev six : List ℕ
@@ -140,8 +140,8 @@ abbrev eight : List ℕ
 eight = joined (model 900 ∷ point 3 19 16 ∷ filling 1 ∷ point 2 19 8 ∷ end ∷ end ∷ [])
 
 -- A fill group behind a point and a group with two instances.
-abbrev fillBehind : List ℕ
-fillBehind = joined (model 900 ∷ uint16 9 ∷ times 1 2 ∷ uint16 2 ∷ end ∷ filling 3 ∷ uint16 4 ∷ end ∷ end ∷ [])
+abbrev fillAfter : List ℕ
+fillAfter = joined (model 900 ∷ uint16 9 ∷ times 1 2 ∷ uint16 2 ∷ end ∷ filling 3 ∷ uint16 4 ∷ end ∷ end ∷ [])
 
 -- A model whose last point is a pad; model 1 also with a group behind it.
 abbrev padded : ℕ → List ℕ
@@ -168,8 +168,8 @@ cases =
     ∷ case eight (body (replicate 16 5)) 10 (listed (row 3 0 0 0 7 0 0 0 ∷ []) 3)  -- none is a fill, too
     ∷ case eight (body (replicate 15 5)) 10 (refused 27 5 1)
     ∷ case eight (body (replicate 23 5)) 10 (refused 29 5 1)
-    ∷ case fillBehind (body (1 ∷ 2 ∷ [])) 90 (refused 29 5 1)  -- below the rest
-    ∷ case fillBehind (body (1 ∷ 2 ∷ 3 ∷ 4 ∷ 5 ∷ [])) 90
+    ∷ case fillAfter (body (1 ∷ 2 ∷ [])) 90 (refused 29 5 1)  -- below the rest
+    ∷ case fillAfter (body (1 ∷ 2 ∷ 3 ∷ 4 ∷ 5 ∷ [])) 90
     (listed (
     row 9 0 0 0 7 0 1 0 ∷ row 2 0 0 0 8 0 2 0 ∷ row 2 1 0 0 9 0 3 0 ∷ row 4 0 0 0 10 0 4 0 ∷ row 4 1 0 0 11 0 5 0 ∷ []) 3)
     -- Model 1 whose last point is a pad: one short, it is left out
@@ -239,9 +239,9 @@ cases =
     ∷ []
 
 abbrev answers : Case → Shown
-answers c = shown (listing (c .catalog) (c .registers) (c .room))
+answers c = shown (listing (c .catalog) (c .registers) (c .capacity))
 
 -- Every case is answered as it says.
 pub worked-cases : map answers cases ≡ map (λ (c : Case). c .answer) cases
-unfolding cases checkFrom checked framesFrom frameOf isSizeOf rows rowAmong mayScale registersOf twosComplement join shownRaw tooWide integer inRange classOf classified parsed opening scanFrom scan pointAt within measured fillMeasured countUnimplemented fits fillOf pointsAt instances groupsBy entered contentAt endsWithPad allButLast laidOut readBy topOf reading recordNumbers walk recordsBy allRecords withRoom listing
+unfolding cases checkFrom checked framesFrom frameOf isSizeOf rows rowAmong mayScale registersOf twosComplement join shownRaw tooWide integer inRange classOf classified parsed opening scanFrom scan pointAt within measured fillMeasured countUnimplemented fits fillOf pointsAt instances groupsBy entered contentAt endsWithPad allButLast readFull readBy topOf reading recordNumbers walk recordsBy allRecords withCapacity listing
 worked-cases = refl

@@ -15,14 +15,14 @@ use Rattle.layout.specs.Points.{Scope}
 use Rattle.layout.specs.Layout.{countOf, measured, fillMeasured, groupsSize, fillSize, countUnimplemented}
 use Rattle.layout.specs.Counts.{groupsPoints, fillPoints, or0}
 use Rattle.layout.proofs.Capping.{capped-factor}
-use Rattle.listing.specs.Promises.{ExtentOf, SameExtent, WithGroup}
+use Rattle.listing.specs.InternalContracts.{ExtentOf, SameExtent, WithGroup}
 use Rattle.definition_frames.specs.declared.runs.Run.{Run}
 use Rattle.listing.specs.declared.extents.Extent.{Extent}
 
 -- Where a group is still to come, none that was met fills the model.
 abbrev pub NoFillYet : Groups → Extent → Type 0
 NoFillYet noGroup sum = Unit {0}
-NoFillYet (group h ps inside behind) sum = (sum .«fill_size» ≡ 0) × (sum .«fill_points» ≡ 0)
+NoFillYet (group h ps inside following) sum = (sum .«fill_size» ≡ 0) × (sum .«fill_points» ≡ 0)
 
 -- What is summed up of the groups met, with the rest of them, is the extent of all.
 pub record SummedUp (top : Scope) (all rest : Groups) (sum : Extent) : Type 0 where
@@ -38,30 +38,30 @@ pub record SummedUp (top : Scope) (all rest : Groups) (sum : Extent) : Type 0 wh
 -- ---- Numbers and tests
 
 -- A sum, with the group in front taken into it.
-total : (sum count own inner behind all run inside new : ℕ) → min (sum + (count * (own + inner) + behind)) 65536 ≡ all
+total : (sum count own inner following all run inside new : ℕ) → min (sum + (count * (own + inner) + following)) 65536 ≡ all
     → run ≡ own → inside ≡ min inner 65536 → new ≡ min (sum + count * min (run + inside) 65536) 65536
-    → min (new + behind) 65536 ≡ all
-total sum count own inner behind all run inside new a r i n =
+    → min (new + following) 65536 ≡ all
+total sum count own inner following all run inside new a r i n =
     let s : min (run + inside) 65536 ≡ min (own + inner) 65536 = omega arith in
     let q : new ≡ min (sum + count * min (own + inner) 65536) 65536 = n ∙ ap (λ x. min (sum + count * x) 65536) s in
     omega (arith, a, q, capped-factor 65536 sum count (own + inner))
 
 -- The same test of three, in another order.
-reordered : (sum here inside behind all new : Bool) → (sum || (here || (inside || behind))) ≡ all
-    → new ≡ (sum || (inside || here)) → (new || behind) ≡ all
-reordered true here inside behind all new a n = rw n a
-reordered false true true behind all new a n = rw n a
-reordered false true false behind all new a n = rw n a
-reordered false false true behind all new a n = rw n a
-reordered false false false behind all new a n = rw n a
+reordered : (sum here inside following all new : Bool) → (sum || (here || (inside || following))) ≡ all
+    → new ≡ (sum || (inside || here)) → (new || following) ≡ all
+reordered true here inside following all new a n = rw n a
+reordered false true true following all new a n = rw n a
+reordered false true false following all new a n = rw n a
+reordered false false true following all new a n = rw n a
+reordered false false false following all new a n = rw n a
 
 -- The size of an instance of the fill group, with the group in front taken into it; there is but one such group.
-filled : (fills : Bool) (own inner behind all run inside old new : ℕ)
-    → old + min (elim fills [ true ↦ own + inner | false ↦ behind ]) 65536 ≡ all → old ≡ 0 → (fills ≡ true → behind ≡ 0)
+filled : (fills : Bool) (own inner following all run inside old new : ℕ)
+    → old + min (elim fills [ true ↦ own + inner | false ↦ following ]) 65536 ≡ all → old ≡ 0 → (fills ≡ true → following ≡ 0)
     → run ≡ own → inside ≡ min inner 65536 → new ≡ elim fills [ true ↦ min (run + inside) 65536 | false ↦ old ]
-    → new + min behind 65536 ≡ all
-filled true own inner behind all run inside old new a z last r i n = let b = last refl in omega arith
-filled false own inner behind all run inside old new a z last r i n = omega arith
+    → new + min following 65536 ≡ all
+filled true own inner following all run inside old new a z last r i n = let b = last refl in omega arith
+filled false own inner following all run inside old new a z last r i n = omega arith
 
 -- Where the group in front does not fill, what was summed up stays.
 not-filled : (fills : Bool) (size old new : ℕ) → fills ≡ false → new ≡ elim fills [ true ↦ size | false ↦ old ] → old ≡ 0
@@ -78,18 +78,18 @@ size-picked false size other = refl
 -- ---- Groups
 
 -- Behind a group that fills there is none.
-none-yet : (behind : Groups) (r : Extent) (fills : Bool) → (fills ≡ true → behind ≡ noGroup)
-    → (fills ≡ false → (r .«fill_size» ≡ 0) × (r .«fill_points» ≡ 0)) → NoFillYet behind r
+none-yet : (following : Groups) (r : Extent) (fills : Bool) → (fills ≡ true → following ≡ noGroup)
+    → (fills ≡ false → (r .«fill_size» ≡ 0) × (r .«fill_points» ≡ 0)) → NoFillYet following r
 none-yet noGroup r fills last z = tt
-none-yet (group h ps inside behind) r true last z =
+none-yet (group h ps inside following) r true last z =
     let e = last refl in impossible (cc)
-none-yet (group h ps inside behind) r false last z = z refl
+none-yet (group h ps inside following) r false last z = z refl
 
 module _ (top : Scope) (all : Groups) where
   -- Nothing is met.
-  pub none-met : (sum : Extent) → sum .size ≡ 0 → sum .points ≡ 0 → sum .«fill_size» ≡ 0 → sum .«fill_points» ≡ 0
+  pub none-visited : (sum : Extent) → sum .size ≡ 0 → sum .points ≡ 0 → sum .«fill_size» ≡ 0 → sum .«fill_points» ≡ 0
       → sum .unimplemented ≡ false → SummedUp top all all sum
-  none-met sum s p fs fp u =
+  none-visited sum s p fs fp u =
       record {
         sizes = rw s (omega arith);
         points = rw p (omega arith);
@@ -102,12 +102,12 @@ module _ (top : Scope) (all : Groups) where
     where
       not-yet : (g : Groups) → NoFillYet g sum
       not-yet noGroup = tt
-      not-yet (group h ps inside behind) = (fs, fp)
+      not-yet (group h ps inside following) = (fs, fp)
 
   -- All are met.
-  pub all-met : (sum r : Extent) → SummedUp top all noGroup sum → SameExtent sum r → ExtentOf top all r
+  pub all-visited : (sum r : Extent) → SummedUp top all noGroup sum → SameExtent sum r → ExtentOf top all r
   unfolding measured fillMeasured countUnimplemented
-  all-met sum r s c =
+  all-visited sum r s c =
       record {
         size = let e = s .sizes in omega (arith, e, c .size, s .capped .0);
         points = let e = s .points in omega (arith, e, c .points, s .capped .1);
@@ -120,13 +120,13 @@ module _ (top : Scope) (all : Groups) where
       or-false true = refl
       or-false false = refl
 
-  module _ (h : Head) (ps : List Point) (inside behind : Groups) (sum : Extent)
-      (s : SummedUp top all (group h ps inside behind) sum) (last : h .countKind ≡ fill → behind ≡ noGroup)
+  module _ (h : Head) (ps : List Point) (inside following : Groups) (sum : Extent)
+      (s : SummedUp top all (group h ps inside following) sum) (last : h .countKind ≡ fill → following ≡ noGroup)
       (run : Run) (size : run .size ≡ pointsSize ps) (points : run .points ≡ length ps)
       (lower : Extent) (i : ExtentOf top inside lower)
       (r : Extent) (w : WithGroup sum top h run lower r) where
     -- One more is met.
-    pub one-more : SummedUp top all behind r
+    pub one-more : SummedUp top all following r
     unfolding measured fillMeasured countUnimplemented
     one-more =
         let count = countOf top 0 in
@@ -134,27 +134,27 @@ module _ (top : Scope) (all : Groups) where
         let here = eqb (h .countKind) countByPoint && eqb (top (h .count)) 0xFFFF in
         let picked : (weight : List Point → ℕ) → or0 (elim fills [
           | true ↦ some (weight ps + measured weight count inside)
-          | false ↦ fillMeasured weight count behind
-        ]) ≡ elim fills [ true ↦ weight ps + measured weight count inside | false ↦ or0 (fillMeasured weight count behind) ] =
-        λ weight. size-picked fills (weight ps + measured weight count inside) (fillMeasured weight count behind) in
-        let last-here : fills ≡ true → behind ≡ noGroup = λ t. last (eqb-true (h .countKind) fill t) in
+          | false ↦ fillMeasured weight count following
+        ]) ≡ elim fills [ true ↦ weight ps + measured weight count inside | false ↦ or0 (fillMeasured weight count following) ] =
+        λ weight. size-picked fills (weight ps + measured weight count inside) (fillMeasured weight count following) in
+        let last-here : fills ≡ true → following ≡ noGroup = λ t. last (eqb-true (h .countKind) fill t) in
         record {
-          sizes = total (sum .size) (count h) (pointsSize ps) (groupsSize count inside) (groupsSize count behind) _ (run .size)
+          sizes = total (sum .size) (count h) (pointsSize ps) (groupsSize count inside) (groupsSize count following) _ (run .size)
               (lower .size) (r .size) (s .sizes) size (i .size) (w .size);
-          points = total (sum .points) (count h) (length ps) (groupsPoints count inside) (groupsPoints count behind) _
+          points = total (sum .points) (count h) (length ps) (groupsPoints count inside) (groupsPoints count following) _
               (run .points) (lower .points) (r .points) (s .points) points (i .points) (w .points);
           capped = (omega (arith, w .size), omega (arith, w .points));
-          fillSizes = filled fills (pointsSize ps) (groupsSize count inside) (or0 (fillSize count behind)) _ (run .size)
+          fillSizes = filled fills (pointsSize ps) (groupsSize count inside) (or0 (fillSize count following)) _ (run .size)
               (lower .size) (sum .«fill_size») (r .«fill_size»)
               (ap (λ n. sum .«fill_size» + min n 65536) (sym (picked pointsSize)) ∙ s .fillSizes) (s .noFill .0)
               (λ t. ap (λ g. or0 (fillSize count g)) (last-here t)) size (i .size) (w .fillSize);
-          fillPoints = filled fills (length ps) (groupsPoints count inside) (fillPoints count behind) _ (run .points)
+          fillPoints = filled fills (length ps) (groupsPoints count inside) (fillPoints count following) _ (run .points)
               (lower .points) (sum .«fill_points») (r .«fill_points»)
               (ap (λ n. sum .«fill_points» + min n 65536) (sym (picked length)) ∙ s .fillPoints) (s .noFill .1)
               (λ t. ap (fillPoints count) (last-here t)) points (i .points) (w .fillPoints);
-          noFill = none-yet behind r fills last-here
+          noFill = none-yet following r fills last-here
               (λ f. (not-filled _ _ _ _ f (w .fillSize) (s .noFill .0), not-filled _ _ _ _ f (w .fillPoints) (s .noFill .1)));
-          unimplemented = reordered (sum .unimplemented) here (countUnimplemented top inside) (countUnimplemented top behind) _
+          unimplemented = reordered (sum .unimplemented) here (countUnimplemented top inside) (countUnimplemented top following) _
               (r .unimplemented) (s .unimplemented)
               (w .unimplemented ∙ ap (λ u. sum .unimplemented || (u || here)) (i .unimplemented));
         }

@@ -17,12 +17,12 @@ use Rattle.model_definitions.proofs.GroupNumbers.{none-of-parts, NoneOf}
 use Rattle.layout.specs.Points.{ModelPoint, Scope, Instance}
 use Rattle.layout.specs.Layout.{withPoint, within, countOf, measured, groupsSize, pointsAt, instances, entered, groupsBy, groupsAt}
 use Rattle.layout.specs.Counts.{groupsPoints}
-use Rattle.layout.specs.Walks.{scopeIn, instanceIn, Elsewhere, IsTable}
-use Rattle.layout.proofs.IntoGroups.{SoundBelow, beside}
+use Rattle.layout.specs.InternalWalks.{scopeIn, instanceIn, AgreeExcept, IsTable}
+use Rattle.layout.proofs.GroupDescent.{SoundBelow, beside}
 use Rattle.layout.proofs.CountsAgree as counts
-use Rattle.layout.proofs.ReachOnly.{Agree, reach-agrees, Alike, alike-entered, groups-agree, points-agree}
+use Rattle.layout.proofs.ScopeOnly.{Agree, scope-agrees, Alike, alike-entered, groups-agree, points-agree}
 use Rattle.layout.proofs.PointCounts as pointCounts
-use Rattle.listing.specs.Promises.{written}
+use Rattle.listing.specs.InternalContracts.{written}
 use Rattle.listing.specs.declared.records.Visit.{Visit}
 use Rattle.listing.proofs.WrittenRecords as lists
 
@@ -38,76 +38,76 @@ module _ (body : List ℕ) (count : Head → ℕ) (level : ℕ) (around : Instan
   -- The points of groups from instance j of the first one on.
   abbrev pub fromInstance : ℕ → ℕ → Groups → List ModelPoint
   fromInstance j offset noGroup = []
-  fromInstance j offset (group h ps inside behind) =
+  fromInstance j offset (group h ps inside following) =
       instances (count h - j) j offset (pointsSize ps + groupsSize count inside) (instancePoints ps inside)
-      ++ groupsAt body count level around (offset + (count h - j) * (pointsSize ps + groupsSize count inside)) behind
+      ++ groupsAt body count level around (offset + (count h - j) * (pointsSize ps + groupsSize count inside)) following
 
   -- All of them, from instance 0 on.
   from-first : (offset : ℕ) (g : Groups) → fromInstance 0 offset g ≡ groupsAt body count level around offset g
   unfolding groupsBy
   from-first offset noGroup = refl
-  from-first offset (group h ps inside behind) = let e : count h - 0 ≡ count h = omega arith in rw e
+  from-first offset (group h ps inside following) = let e : count h - 0 ≡ count h = omega arith in rw e
 
   -- One instance and those after it.
-  from-next : (j offset : ℕ) (h : Head) (ps : List Point) (inside behind : Groups) → j < count h
-      → fromInstance j offset (group h ps inside behind)
+  from-next : (j offset : ℕ) (h : Head) (ps : List Point) (inside following : Groups) → j < count h
+      → fromInstance j offset (group h ps inside following)
       ≡ instancePoints ps inside j offset
-      ++ fromInstance (j + 1) (offset + (pointsSize ps + groupsSize count inside)) (group h ps inside behind)
+      ++ fromInstance (j + 1) (offset + (pointsSize ps + groupsSize count inside)) (group h ps inside following)
   unfolding instances
-  from-next j offset h ps inside behind l =
+  from-next j offset h ps inside following l =
       let s = pointsSize ps + groupsSize count inside in
       let m = count h - suc j in
       let e : count h - j ≡ suc m = omega arith in
       let o : offset + suc m * s ≡ offset + s + m * s = omega arith in
-      let P : ℕ → Type 0 = λ k. fromInstance j offset (group h ps inside behind)
-      ≡ instancePoints ps inside j offset ++ fromInstance k (offset + s) (group h ps inside behind) in
+      let P : ℕ → Type 0 = λ k. fromInstance j offset (group h ps inside following)
+      ≡ instancePoints ps inside j offset ++ fromInstance k (offset + s) (group h ps inside following) in
       subst P (sym (add-one j)) (rw (e, o)
       (append-assoc (instancePoints ps inside j offset) (instances m (suc j) (offset + s) s (instancePoints ps inside))
-      (groupsAt body count level around (offset + s + m * s) behind)))
+      (groupsAt body count level around (offset + s + m * s) following)))
 
   -- After the last instance come the groups after this one.
-  from-last : (j offset : ℕ) (h : Head) (ps : List Point) (inside behind : Groups) → count h ≤ j
-      → fromInstance j offset (group h ps inside behind) ≡ fromInstance 0 offset behind
+  from-last : (j offset : ℕ) (h : Head) (ps : List Point) (inside following : Groups) → count h ≤ j
+      → fromInstance j offset (group h ps inside following) ≡ fromInstance 0 offset following
   unfolding instances
-  from-last j offset h ps inside behind l =
+  from-last j offset h ps inside following l =
       let s = pointsSize ps + groupsSize count inside in
       let e : count h - j ≡ 0 = omega arith in
       let o : offset + 0 * s ≡ offset = omega arith in
-      rw (e, o) (sym (from-first offset behind))
+      rw (e, o) (sym (from-first offset following))
 
 module _ (weight : List Point → ℕ) (count : Head → ℕ) where
   -- What groups measure from instance j of the first one on.
   abbrev pub measuredFrom : ℕ → Groups → ℕ
   measuredFrom j noGroup = 0
-  measuredFrom j (group h ps inside behind) =
-      (count h - j) * (weight ps + measured weight count inside) + measured weight count behind
+  measuredFrom j (group h ps inside following) =
+      (count h - j) * (weight ps + measured weight count inside) + measured weight count following
 
   measure-first : (g : Groups) → measuredFrom 0 g ≡ measured weight count g
   unfolding measured
   measure-first noGroup = refl
-  measure-first (group h ps inside behind) = let e : count h - 0 ≡ count h = omega arith in rw e
+  measure-first (group h ps inside following) = let e : count h - 0 ≡ count h = omega arith in rw e
 
-  module _ (j : ℕ) (h : Head) (ps : List Point) (inside behind : Groups) where
-    pub measure-next : j < count h → measuredFrom j (group h ps inside behind)
-        ≡ weight ps + measured weight count inside + measuredFrom (j + 1) (group h ps inside behind)
+  module _ (j : ℕ) (h : Head) (ps : List Point) (inside following : Groups) where
+    pub measure-next : j < count h → measuredFrom j (group h ps inside following)
+        ≡ weight ps + measured weight count inside + measuredFrom (j + 1) (group h ps inside following)
     measure-next l =
         let m = count h - (j + 1) in
         let e : count h - j ≡ suc m = omega arith in
         rw e (omega arith)
 
-    measure-last : count h ≤ j → measuredFrom j (group h ps inside behind) ≡ measuredFrom 0 behind
-    measure-last l = let e : count h - j ≡ 0 = omega arith in rw e (omega (arith, measure-first behind))
+    measure-last : count h ≤ j → measuredFrom j (group h ps inside following) ≡ measuredFrom 0 following
+    measure-last l = let e : count h - j ≡ 0 = omega arith in rw e (omega (arith, measure-first following))
 
 -- ---- Scopes
 
 -- A scope within an instance is the one around it but for the instance's points.
-within-elsewhere : (body : List ℕ) (offset : ℕ) (ps : List Point) (s : Scope) (n : ℕ)
+within-except : (body : List ℕ) (offset : ℕ) (ps : List Point) (s : Scope) (n : ℕ)
     → among n (numbersOf (pointFrames ps)) ≡ false → within body offset ps s n ≡ s n
 unfolding within
-within-elsewhere body offset [] s n e = refl
-within-elsewhere body offset (p ∷ ps) s n e =
+within-except body offset [] s n e = refl
+within-except body offset (p ∷ ps) s n e =
     let f = neither (eqb n (p .number)) (among n (numbersOf (pointFrames ps))) .0 e in
-    within-elsewhere body (offset + p .size) ps (withPoint (p .number) (getD body offset 0) s) n (f .1)
+    within-except body (offset + p .size) ps (withPoint (p .number) (getD body offset 0) s) n (f .1)
     ∙ ap (λ b. elim b [ true ↦ getD body offset 0 | false ↦ s n ]) (f .0)
 
 -- ---- The state of the walk
@@ -115,11 +115,11 @@ within-elsewhere body offset (p ∷ ps) s n e =
 -- The first group has as many instances as have been passed, or more.
 abbrev pub Passed : (Head → ℕ) → ℕ → Groups → Type 0
 Passed count j noGroup = Unit {0}
-Passed count j (group h ps inside behind) = j ≤ count h
+Passed count j (group h ps inside following) = j ≤ count h
 
 none-passed : (count : Head → ℕ) (g : Groups) → Passed count 0 g
 none-passed count noGroup = tt
-none-passed count (group h ps inside behind) = omega arith
+none-passed count (group h ps inside following) = omega arith
 
 module _ (body : List ℕ) (visit : Visit) (fill level : ℕ) (path table₀ out₀ : List ℕ) (records₀ offset₀ : ℕ) (g₀ : Groups) where
   abbrev counting : Head → ℕ
@@ -137,7 +137,7 @@ module _ (body : List ℕ) (visit : Visit) (fill level : ℕ) (path table₀ out
         ≡ written visit records₀ (groupsAt body counting level (instanceIn table₀ path) offset₀ g₀) out₀
     pub points : records + measuredFrom length counting j g ≡ records₀ + groupsPoints counting g₀
     pub size : offset + measuredFrom pointsSize counting j g ≡ offset₀ + groupsSize counting g₀
-    pub elsewhere : Elsewhere (numbersOf (groupFrames g₀)) table₀ table
+    pub agreeExcept : AgreeExcept (numbersOf (groupFrames g₀)) table₀ table
     pub among₀ : (n : ℕ) → among n (numbersOf (groupFrames g₀)) ≡ false → among n (numbersOf (groupFrames g)) ≡ false
     pub isTable : IsTable table
     pub sameLength : length out ≡ length out₀
@@ -145,7 +145,7 @@ module _ (body : List ℕ) (visit : Visit) (fill level : ℕ) (path table₀ out
   -- What writing the own points and the groups of an instance gives.
   pub record InstanceWritten (table out : List ℕ) (records offset j : ℕ) (ps : List Point) (inside : Groups)
       (table₁ out₁ table₂ out₂ : List ℕ) (records₂ offset₂ : ℕ) : Type 0 where
-    pub noted : (n : ℕ) → scopeIn table₁ n ≡ within body offset ps (scopeIn table) n
+    pub tableWith : (n : ℕ) → scopeIn table₁ n ≡ within body offset ps (scopeIn table) n
     pub own : out₁ ≡ written visit records (pointsAt body (entered body level j offset ps (instanceIn table path)) offset ps) out
     pub lower : out₂
         ≡ written visit (records + length ps)
@@ -154,7 +154,7 @@ module _ (body : List ℕ) (visit : Visit) (fill level : ℕ) (path table₀ out
         out₁
     pub counted : records₂ ≡ records + length ps + groupsPoints (countOf (scopeIn table₁) fill) inside
     pub passedOn : offset₂ ≡ offset + pointsSize ps + groupsSize (countOf (scopeIn table₁) fill) inside
-    pub elsewhere : Elsewhere (numbersOf (groupFrames inside)) table₁ table₂
+    pub agreeExcept : AgreeExcept (numbersOf (groupFrames inside)) table₁ table₂
     pub isTable : IsTable table₂
 
   -- Where it begins.
@@ -170,7 +170,7 @@ module _ (body : List ℕ) (visit : Visit) (fill level : ℕ) (path table₀ out
         left = ap (λ ps. written visit records₀ ps out₀) (from-first body counting level (instanceIn table₀ path) offset₀ g₀);
         points = ap (λ n. records₀ + n) (measure-first length counting g₀);
         size = ap (λ n. offset₀ + n) (measure-first pointsSize counting g₀);
-        elsewhere = λ n e. refl;
+        agreeExcept = λ n e. refl;
         among₀ = λ n e. e;
         isTable = t;
         sameLength = refl;
@@ -204,9 +204,9 @@ write-on visit records ps qs rs out out₂ n m a b e =
     ∙ ap (written visit (records + n + m) rs) f)
 
 module _ {body : List ℕ} {visit : Visit} {fill level : ℕ} {path table₀ out₀ : List ℕ} {records₀ offset₀ : ℕ} {g₀ : Groups}
-    {table out : List ℕ} {records offset j : ℕ} {h : Head} {ps : List Point} {inside behind : Groups}
+    {table out : List ℕ} {records offset j : ℕ} {h : Head} {ps : List Point} {inside following : Groups}
     (w : Writing body visit fill level path table₀ out₀ records₀ offset₀ g₀ table out records offset j
-    (group h ps inside behind)) where
+    (group h ps inside following)) where
   abbrev count : Head → ℕ
   count = countOf (scopeIn table₀) fill
 
@@ -214,21 +214,21 @@ module _ {body : List ℕ} {visit : Visit} {fill level : ℕ} {path table₀ out
   State = Writing body visit fill level path table₀ out₀ records₀ offset₀ g₀
 
   -- A number around the instance is not one of its own.
-  none-own : (p : Point) → In p (w .enclosing) → NoneOf (p .number) ps inside behind
-  none-own p i = none-of-parts (p .number) h ps inside behind (w .sound .apart p i)
+  none-own : (p : Point) → In p (w .enclosing) → NoneOf (p .number) ps inside following
+  none-own p i = none-of-parts (p .number) h ps inside following (w .sound .apart p i)
 
-  module _ (table₁ : List ℕ) (noted : (n : ℕ) → scopeIn table₁ n ≡ within body offset ps (scopeIn table) n) where
+  module _ (table₁ : List ℕ) (tableWith : (n : ℕ) → scopeIn table₁ n ≡ within body offset ps (scopeIn table) n) where
     -- The table within the instance agrees with the scope there.
     agree-within : Agree (ps ++ w .enclosing) (scopeIn table₁) (within body offset ps (scopeIn table₀))
     agree-within p i =
-        noted (p .number) ∙ reach-agrees body offset ps (w .enclosing) (scopeIn table) (scopeIn table₀) (w .agree) p i
+        tableWith (p .number) ∙ scope-agrees body offset ps (w .enclosing) (scopeIn table) (scopeIn table₀) (w .agree) p i
 
     -- On the top group it agrees with the table at the start.
     agree-top : Agree (w .top) (scopeIn table₁) (scopeIn table₀)
     agree-top p i =
-        let k = w .sound .topInReach p i in
-        noted (p .number)
-        ∙ within-elsewhere body offset ps (scopeIn table) (p .number) (none-own p k .ofPoints)
+        let k = w .sound .topInScope p i in
+        tableWith (p .number)
+        ∙ within-except body offset ps (scopeIn table) (p .number) (none-own p k .ofPoints)
         ∙ w .agree p k
 
     -- So the groups in the instance measure the same.
@@ -243,18 +243,18 @@ module _ {body : List ℕ} {visit : Visit} {fill level : ℕ} {path table₀ out
       → (table₁ out₁ table₂ out₂ : List ℕ) (records₂ offset₂ : ℕ)
       → InstanceWritten body visit fill level path table₀ out₀ records₀ offset₀ g₀ table out records offset j ps inside table₁ out₁
       table₂ out₂ records₂ offset₂
-      → State table₂ out₂ records₂ offset₂ (j + 1) (group h ps inside behind)
+      → State table₂ out₂ records₂ offset₂ (j + 1) (group h ps inside following)
   unfolding entered
   writing-instance l table₁ out₁ table₂ out₂ records₂ offset₂ x =
-      let G = group h ps inside behind in
+      let G = group h ps inside following in
       let i₀ = instanceIn table₀ path in
       let around = ps ++ w .enclosing in
       let within₀ = entered body level j offset ps i₀ in
       let inner : Alike around (instanceIn table₁ (set path (level - 2) j)) within₀ =
-      record { samePath = refl; agree = agree-within table₁ (x .noted) } in
+      record { samePath = refl; agree = agree-within table₁ (x .tableWith) } in
       let outer : Alike (w .enclosing) (instanceIn table path) i₀ = record { samePath = refl; agree = w .agree } in
-      let zs = lower-same table₁ (x .noted) pointsSize in
-      let zp = lower-same table₁ (x .noted) length in
+      let zs = lower-same table₁ (x .tableWith) pointsSize in
+      let zp = lower-same table₁ (x .tableWith) length in
       let P = pointsAt body within₀ offset ps in
       let Q = groupsAt body count (suc level) within₀ (offset + pointsSize ps) inside in
       let R = fromInstance body count level i₀ (j + 1) (offset + (pointsSize ps + groupsSize count inside)) G in
@@ -264,7 +264,7 @@ module _ {body : List ℕ} {visit : Visit} {fill level : ℕ} {path table₀ out
       (alike-entered body level j offset ps (w .enclosing) (instanceIn table path) i₀ outer) in
       let q : groupsAt body (countOf (scopeIn table₁) fill) (suc level) (instanceIn table₁ (set path (level - 2) j))
       (offset + pointsSize ps) inside ≡ Q =
-      groups-agree body fill (w .top) (scopeIn table₁) (scopeIn table₀) (agree-top table₁ (x .noted)) (offset + pointsSize ps)
+      groups-agree body fill (w .top) (scopeIn table₁) (scopeIn table₀) (agree-top table₁ (x .tableWith)) (offset + pointsSize ps)
       around (suc level) inside (w .sound .sound .3) (instanceIn table₁ (set path (level - 2) j)) within₀ inner in
       let e : out₂ ≡ written visit (records + length ps) Q (written visit records P out) =
       x .lower ∙ ap (λ y. written visit (records + length ps) y out₁) q
@@ -280,25 +280,25 @@ module _ {body : List ℕ} {visit : Visit} {fill level : ℕ} {path table₀ out
         enclosing = w .enclosing;
         sound = w .sound;
         agree = λ p i.
-            let n = none-of-parts (p .number) h ps inside behind (w .sound .apart p i) in
-            x .elsewhere (p .number) (n .ofInside)
-            ∙ x .noted (p .number)
-            ∙ within-elsewhere body offset ps (scopeIn table) (p .number) (n .ofPoints)
+            let n = none-of-parts (p .number) h ps inside following (w .sound .apart p i) in
+            x .agreeExcept (p .number) (n .ofInside)
+            ∙ x .tableWith (p .number)
+            ∙ within-except body offset ps (scopeIn table) (p .number) (n .ofPoints)
             ∙ w .agree p i;
         passed = omega (arith, l);
         left = ap (λ y. written visit y (fromInstance body count level i₀ (j + 1) offset₂ G) out₂) k
             ∙ ap (λ y. written visit k₂ (fromInstance body count level i₀ (j + 1) y G) out₂) o
             ∙ W
-            ∙ ap (λ y. written visit records y out) (sym (from-next body count level i₀ j offset h ps inside behind l))
+            ∙ ap (λ y. written visit records y out) (sym (from-next body count level i₀ j offset h ps inside following l))
             ∙ w .left;
-        points = omega (arith, k, w .points, measure-next length count j h ps inside behind l);
-        size = omega (arith, o, w .size, measure-next pointsSize count j h ps inside behind l);
-        elsewhere = λ n f.
-            let m = none-of-parts n h ps inside behind (w .among₀ n f) in
-            x .elsewhere n (m .ofInside)
-            ∙ x .noted n
-            ∙ within-elsewhere body offset ps (scopeIn table) n (m .ofPoints)
-            ∙ w .elsewhere n f;
+        points = omega (arith, k, w .points, measure-next length count j h ps inside following l);
+        size = omega (arith, o, w .size, measure-next pointsSize count j h ps inside following l);
+        agreeExcept = λ n f.
+            let m = none-of-parts n h ps inside following (w .among₀ n f) in
+            x .agreeExcept n (m .ofInside)
+            ∙ x .tableWith n
+            ∙ within-except body offset ps (scopeIn table) n (m .ofPoints)
+            ∙ w .agreeExcept n f;
         among₀ = w .among₀;
         isTable = x .isTable;
         sameLength = ap length e ∙ lists.written-length visit (records + length ps) Q (written visit records P out)
@@ -306,21 +306,21 @@ module _ {body : List ℕ} {visit : Visit} {fill level : ℕ} {path table₀ out
       }
 
   -- All instances of the first group have been written: on to the group behind it.
-  pub writing-past : count h ≤ j → State table out records offset 0 behind
+  pub writing-past : count h ≤ j → State table out records offset 0 following
   writing-past l =
       record {
         top = w .top;
         enclosing = w .enclosing;
-        sound = beside (w .top) (w .enclosing) level h ps inside behind (w .sound);
+        sound = beside (w .top) (w .enclosing) level h ps inside following (w .sound);
         agree = w .agree;
-        passed = none-passed count behind;
+        passed = none-passed count following;
         left = ap (λ y. written visit records y out)
-            (sym (from-last body count level (instanceIn table₀ path) j offset h ps inside behind l))
+            (sym (from-last body count level (instanceIn table₀ path) j offset h ps inside following l))
             ∙ w .left;
-        points = omega (arith, w .points, measure-last length count j h ps inside behind l);
-        size = omega (arith, w .size, measure-last pointsSize count j h ps inside behind l);
-        elsewhere = w .elsewhere;
-        among₀ = λ n f. none-of-parts n h ps inside behind (w .among₀ n f) .ofBehind;
+        points = omega (arith, w .points, measure-last length count j h ps inside following l);
+        size = omega (arith, w .size, measure-last pointsSize count j h ps inside following l);
+        agreeExcept = w .agreeExcept;
+        among₀ = λ n f. none-of-parts n h ps inside following (w .among₀ n f) .ofFollowing;
         isTable = w .isTable;
         sameLength = w .sameLength;
       }

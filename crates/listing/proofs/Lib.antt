@@ -1,7 +1,7 @@
 -- Laws of the walk over the models of a map
 pub mod WalkSteps
 pub mod ListingCases
-pub mod ToldAnswers
+pub mod ResultCases
 -- What the proofs of the functions cite: extents and surveys
 pub mod ExtentSteps
 pub mod ExtentWalks

@@ -12,21 +12,21 @@ use Rattle.model_definitions.specs.Definitions.{definitions}
 use Rattle.register_map.specs.Headers.{opening}
 use Rattle.register_map.specs.Scan.{Model}
 use Rattle.layout.specs.Reading.{Reading, reading}
-use Rattle.listing.specs.Listing.{Record, recordWidth, Answer, refused, listed, walked, recordsBy, allRecords, withRoom, listing}
+use Rattle.listing.specs.Listing.{Record, recordWidth, Answer, refused, listed, walked, recordsBy, allRecords, withCapacity, listing}
 
 -- ---- 1 to 11, 20 and 21, and 30
 
 -- A catalog that is refused.
-pub catalog-refused : (catalog map : List ℕ) (room : ℕ) {number place : ℕ}
+pub catalog-refused : (catalog map : List ℕ) (capacity : ℕ) {number place : ℕ}
     → Checking.checked catalog ≡ Checking.refused number place
-    → listing catalog map room ≡ refused number place 0
-unfolding allRecords withRoom listing
-catalog-refused catalog map room e = rw (e, allRecords, listing)
+    → listing catalog map capacity ≡ refused number place 0
+unfolding allRecords withCapacity listing
+catalog-refused catalog map capacity e = rw (e, allRecords, listing)
 
-pub accepted-listed : (catalog map : List ℕ) (room : ℕ) {n : ℕ} → Checking.checked catalog ≡ Checking.accepted n
-    → listing catalog map room ≡ withRoom room (recordsBy (reading (definitions catalog)) map)
+pub accepted-listed : (catalog map : List ℕ) (capacity : ℕ) {n : ℕ} → Checking.checked catalog ≡ Checking.accepted n
+    → listing catalog map capacity ≡ withCapacity capacity (recordsBy (reading (definitions catalog)) map)
 unfolding allRecords listing
-accepted-listed catalog map room e = rw (e, allRecords, listing)
+accepted-listed catalog map capacity e = rw (e, allRecords, listing)
 
 -- A map that is refused as a whole.
 module _ (read : Model → Reading) (map : List ℕ) where
@@ -39,10 +39,10 @@ module _ (read : Model → Reading) (map : List ℕ) where
   opened o = rw (o, recordsBy)
 
 -- Records that have room are listed.
-pub with-room : (room : ℕ) (rs : List Record) (headers : ℕ) → recordWidth * length rs ≤ room
-    → withRoom room (listed rs headers) ≡ listed rs headers
-unfolding withRoom
-with-room room rs headers fits = rw (le-ltb room (recordWidth * length rs) fits, withRoom)
+pub with-capacity : (capacity : ℕ) (rs : List Record) (headers : ℕ) → recordWidth * length rs ≤ capacity
+    → withCapacity capacity (listed rs headers) ≡ listed rs headers
+unfolding withCapacity
+with-capacity capacity rs headers fits = rw (le-ltb capacity (recordWidth * length rs) fits, withCapacity)
 
 -- ---- All ways
 
@@ -54,55 +54,55 @@ pub record Walks (catalog map : List ℕ) (answer : Answer) : Type 0 where
   pub walks : walked (reading (definitions catalog)) map ≡ answer
 
 -- An answer by what decides it.
-pub data Case (catalog map : List ℕ) (room : ℕ) : Answer → Type 0 where
-  catalogRefused : {n place : ℕ} → Checking.checked catalog ≡ Checking.refused n place → Case catalog map room (refused n place 0)
+pub data Case (catalog map : List ℕ) (capacity : ℕ) : Answer → Type 0 where
+  catalogRefused : {n place : ℕ} → Checking.checked catalog ≡ Checking.refused n place → Case catalog map capacity (refused n place 0)
   openingRefused : {models n : ℕ} → Checking.checked catalog ≡ Checking.accepted models → opening map ≡ some n
-      → Case catalog map room (refused n 0 0)
+      → Case catalog map capacity (refused n 0 0)
   walkRefused : {n place headers : ℕ} → Walks catalog map (refused n place headers)
-      → Case catalog map room (refused n place headers)
-  noRoom : {rs : List Record} {headers : ℕ} → Walks catalog map (listed rs headers) → room < recordWidth * length rs
-      → Case catalog map room (refused 30 (length rs) headers)
-  allListed : {rs : List Record} {headers : ℕ} → Walks catalog map (listed rs headers) → recordWidth * length rs ≤ room
-      → Case catalog map room (listed rs headers)
+      → Case catalog map capacity (refused n place headers)
+  tooShort : {rs : List Record} {headers : ℕ} → Walks catalog map (listed rs headers) → capacity < recordWidth * length rs
+      → Case catalog map capacity (refused 30 (length rs) headers)
+  allListed : {rs : List Record} {headers : ℕ} → Walks catalog map (listed rs headers) → recordWidth * length rs ≤ capacity
+      → Case catalog map capacity (listed rs headers)
 
 -- The answer of a walk, with the room for it.
-module _ (catalog map : List ℕ) (room : ℕ) where
-  by-room : (answer : Answer) → Walks catalog map answer → Case catalog map room (withRoom room answer)
-  unfolding withRoom
-  by-room (refused n place headers) w = walkRefused w
-  by-room (listed rs headers) w =
-      by-test (Case catalog map room) (ltb room (recordWidth * length rs))
-      (λ t. noRoom w (ltb-true room (recordWidth * length rs) t)) (λ t. allListed w (ltb-false room (recordWidth * length rs) t))
+module _ (catalog map : List ℕ) (capacity : ℕ) where
+  by-capacity : (answer : Answer) → Walks catalog map answer → Case catalog map capacity (withCapacity capacity answer)
+  unfolding withCapacity
+  by-capacity (refused n place headers) w = walkRefused w
+  by-capacity (listed rs headers) w =
+      by-test (Case catalog map capacity) (ltb capacity (recordWidth * length rs))
+      (λ t. tooShort w (ltb-true capacity (recordWidth * length rs) t)) (λ t. allListed w (ltb-false capacity (recordWidth * length rs) t))
 
   by-opening : (n : ℕ) → Checking.checked catalog ≡ Checking.accepted n → (o : Option ℕ) → opening map ≡ o
-      → Case catalog map room (withRoom room (recordsBy (reading (definitions catalog)) map))
-  unfolding withRoom
+      → Case catalog map capacity (withCapacity capacity (recordsBy (reading (definitions catalog)) map))
+  unfolding withCapacity
   by-opening n a (some k) o = rw (unopened (reading (definitions catalog)) map o) (openingRefused a o)
   by-opening n a none o =
       let answer = walked (reading (definitions catalog)) map in
       rw (opened (reading (definitions catalog)) map o)
-      (by-room answer (record { models = n; accepted = a; opens = o; walks = refl }))
+      (by-capacity answer (record { models = n; accepted = a; opens = o; walks = refl }))
 
-  by-verdict : (v : Checking.Verdict) → Checking.checked catalog ≡ v → Case catalog map room (listing catalog map room)
-  by-verdict (Checking.refused n place) c = rw (catalog-refused catalog map room c) (catalogRefused c)
-  by-verdict (Checking.accepted n) c = rw (accepted-listed catalog map room c) (by-opening n c (opening map) refl)
+  by-verdict : (v : Checking.Verdict) → Checking.checked catalog ≡ v → Case catalog map capacity (listing catalog map capacity)
+  by-verdict (Checking.refused n place) c = rw (catalog-refused catalog map capacity c) (catalogRefused c)
+  by-verdict (Checking.accepted n) c = rw (accepted-listed catalog map capacity c) (by-opening n c (opening map) refl)
 
   -- Every answer comes in one of these ways.
-  pub listing-case : Case catalog map room (listing catalog map room)
+  pub listing-case : Case catalog map capacity (listing catalog map capacity)
   listing-case = by-verdict (Checking.checked catalog) refl
 
   -- Where a walk comes to an answer, listing gives it if there is room.
-  pub listing-walks : {answer : Answer} → Walks catalog map answer → listing catalog map room ≡ withRoom room answer
+  pub listing-walks : {answer : Answer} → Walks catalog map answer → listing catalog map capacity ≡ withCapacity capacity answer
   listing-walks w =
-      accepted-listed catalog map room (w .accepted)
-      ∙ ap (withRoom room) (opened (reading (definitions catalog)) map (w .opens) ∙ w .walks)
+      accepted-listed catalog map capacity (w .accepted)
+      ∙ ap (withCapacity capacity) (opened (reading (definitions catalog)) map (w .opens) ∙ w .walks)
 
   -- Where the map does not open, that is the answer of every accepted catalog.
   pub listing-unopened : {models n : ℕ} → Checking.checked catalog ≡ Checking.accepted models → opening map ≡ some n
-      → listing catalog map room ≡ refused n 0 0
-  unfolding withRoom
+      → listing catalog map capacity ≡ refused n 0 0
+  unfolding withCapacity
   listing-unopened a o =
-      accepted-listed catalog map room a ∙ ap (withRoom room) (unopened (reading (definitions catalog)) map o)
+      accepted-listed catalog map capacity a ∙ ap (withCapacity capacity) (unopened (reading (definitions catalog)) map o)
 
 -- ---- All records, whatever the room
 
@@ -146,6 +146,6 @@ module _ (catalog map : List ℕ) where
   walk-records w = records-accepted (w .accepted) ∙ opened (reading (definitions catalog)) map (w .opens) ∙ w .walks
 
 -- Listing is all records, if there is room.
-pub listing-records : (catalog map : List ℕ) (room : ℕ) → listing catalog map room ≡ withRoom room (allRecords catalog map)
+pub listing-records : (catalog map : List ℕ) (capacity : ℕ) → listing catalog map capacity ≡ withCapacity capacity (allRecords catalog map)
 unfolding listing
-listing-records catalog map room = refl
+listing-records catalog map capacity = refl

@@ -9,14 +9,14 @@ use lib.ListN.{getD}
 use Rattle.catalog_frames.specs.Frames.{Point, Head, frameIn}
 use Rattle.model_definitions.specs.Definitions.{Groups, group, pointsSize}
 use Rattle.layout.specs.Layout.{countOf, measured, groupsSize}
-use Rattle.layout.specs.Walks.{heldAt, Stands, pastEnd, headOf, levelOf, scopeIn, begun, AtGroups}
+use Rattle.layout.specs.InternalWalks.{contentFrom, ParsesAt, pastEnd, headOf, levelOf, scopeIn, presentWithin, AtGroups}
 use Rattle.layout.specs.Locating.{Located, orElse, locatedOwn, locatedIn}
-use Rattle.layout.proofs.Standing as standing
-use Rattle.layout.proofs.IntoGroups as groups
+use Rattle.layout.proofs.FramePosition as position
+use Rattle.layout.proofs.GroupDescent as groups
 use Rattle.layout.proofs.LocatingSteps as steps
-use Rattle.layout.proofs.NotedPoints.{begun-all}
+use Rattle.layout.proofs.RecordedPoints.{present-all}
 use Rattle.layout.proofs.Sizes.{points-sized, lower-measure}
-use Rattle.listing.specs.Promises.{RunOf, ExtentOf, LocateAsks, ShapeOf}
+use Rattle.listing.specs.InternalContracts.{RunOf, ExtentOf, LocateAsks, ShapeOf}
 use Rattle.definition_frames.specs.declared.runs.Run.{Run}
 use Rattle.listing.specs.declared.extents.Extent.{Extent}
 use Rattle.listing.specs.declared.locating.Shape.{Shape}
@@ -43,10 +43,10 @@ ends-before j k s l = omega (arith, suc-mul j s, mul-le-mul-right s l)
 module _ (ws table : List ℕ) (fill levels frame : ℕ) (at : AtGroups ws frame levels) (few : levels ≤ 3) (h : Head)
     (e : headOf (frameIn ws frame) ≡ some h) where
   abbrev own : List Point
-  own = heldAt ws (frame + 1) .points
+  own = contentFrom ws (frame + 1) .points
 
   abbrev inside : Groups
-  inside = heldAt ws (frame + 1) .groups
+  inside = contentFrom ws (frame + 1) .groups
 
   abbrev counting : Head → ℕ
   counting = countOf (scopeIn table) fill
@@ -62,7 +62,7 @@ module _ (ws table : List ℕ) (fill levels frame : ℕ) (at : AtGroups ws frame
 
   -- Its shape, by the extents of what it holds.
   pub shape-is : (run : Run) (lower : Extent) (count : ℕ) → RunOf ws (frame + 1) run
-      → ExtentOf (scopeIn table) (heldAt ws (run .next) .groups) lower → lower .next ≡ pastEnd ws (run .next)
+      → ExtentOf (scopeIn table) (contentFrom ws (run .next) .groups) lower → lower .next ≡ pastEnd ws (run .next)
       → count ≡ counting h → count ≤ 65535
       → ShapeOf ws counting h frame (record {
         count = count;
@@ -72,9 +72,9 @@ module _ (ws table : List ℕ) (fill levels frame : ℕ) (at : AtGroups ws frame
         next = lower .next;
       })
   shape-is run lower count o l q k b =
-      let n = standing.group-next ws frame (at .stands) (at .noPoint) h e in
-      let same : heldAt ws (run .next) .groups ≡ inside =
-      ap (λ j. heldAt ws j .groups) (o .next) ∙ standing.behind-run ws (frame + 1) (n .1) .1 in
+      let n = position.group-next ws frame (at .parses) (at .noPoint) h e in
+      let same : contentFrom ws (run .next) .groups ≡ inside =
+      ap (λ j. contentFrom ws j .groups) (o .next) ∙ position.after-run ws (frame + 1) (n .1) .1 in
       let size : lower .size ≡ min (groupsSize counting inside) 65536 =
       l .size ∙ ap (λ g. min (groupsSize (countOf (scopeIn table) 0) g) 65536) same ∙ ap (λ x. min x 65536) inside-size in
       record {
@@ -90,11 +90,11 @@ module _ (ws table : List ℕ) (fill levels frame : ℕ) (at : AtGroups ws frame
 -- ---- The search
 
 -- The registers of a group and of those after it.
-total-size : (count : Head → ℕ) (h : Head) (ps : List Point) (inside behind : Groups)
-    → groupsSize count (group h ps inside behind)
-    ≡ count h * (pointsSize ps + groupsSize count inside) + groupsSize count behind
+total-size : (count : Head → ℕ) (h : Head) (ps : List Point) (inside following : Groups)
+    → groupsSize count (group h ps inside following)
+    ≡ count h * (pointsSize ps + groupsSize count inside) + groupsSize count following
 unfolding measured
-total-size count h ps inside behind = refl
+total-size count h ps inside following = refl
 
 -- The search is at a group with a head and a shape.
 pub record AtGroup (ws table : List ℕ) (fill levels frame offset : ℕ) (h : Head) (r : Shape) : Type 0 where
@@ -114,7 +114,7 @@ module _ {ws table : List ℕ} {fill levels frame offset : ℕ} {h : Head} {r : 
   shape = there .shape
 
   abbrev at : AtGroups ws frame levels
-  at = there .asks .standing
+  at = there .asks .position
 
   abbrev few : levels ≤ 3
   few = there .asks .atMost3
@@ -123,22 +123,22 @@ module _ {ws table : List ℕ} {fill levels frame offset : ℕ} {h : Head} {r : 
   count = countOf (scopeIn table) fill
 
   abbrev points : List Point
-  points = heldAt ws (frame + 1) .points
+  points = contentFrom ws (frame + 1) .points
 
   abbrev lower : Groups
-  lower = heldAt ws (frame + 1) .groups
+  lower = contentFrom ws (frame + 1) .groups
 
   abbrev next : Groups
-  next = heldAt ws (pastEnd ws (frame + 1)) .groups
+  next = contentFrom ws (pastEnd ws (frame + 1)) .groups
 
   abbrev each : ℕ
   each = pointsSize points + groupsSize count lower
 
-  here : heldAt ws frame .groups ≡ group h points lower next
-  here = standing.group-next ws frame (at .stands) (at .noPoint) h e .0
+  here : contentFrom ws frame .groups ≡ group h points lower next
+  here = position.group-next ws frame (at .parses) (at .noPoint) h e .0
 
-  pub own-stands : Stands ws (frame + 1)
-  own-stands = standing.group-next ws frame (at .stands) (at .noPoint) h e .1
+  pub own-parses : ParsesAt ws (frame + 1)
+  own-parses = position.group-next ws frame (at .parses) (at .noPoint) h e .1
 
   pub level-left : 1 ≤ levels
   level-left = groups.level-left ws frame levels at few h e
@@ -161,13 +161,13 @@ module _ {ws table : List ℕ} {fill levels frame offset : ℕ} {h : Head} {r : 
   pub past-asks : LocateAsks ws table fill levels (r .next) (offset + r .count * r .size)
   past-asks =
       record {
-        standing = subst (λ i. AtGroups ws i levels) (sym (shape .next)) (groups.past ws frame levels at few h e);
+        position = subst (λ i. AtGroups ws i levels) (sym (shape .next)) (groups.past ws frame levels at few h e);
         isTable = asks .isTable;
         atMost3 = few;
         filling = asks .filling;
         inside = omega (
           arith,
-          ap (λ i. groupsSize count (heldAt ws i .groups)) (shape .next),
+          ap (λ i. groupsSize count (contentFrom ws i .groups)) (shape .next),
           whole-size,
           within-bound,
         );
@@ -176,15 +176,15 @@ module _ {ws table : List ℕ} {fill levels frame offset : ℕ} {h : Head} {r : 
   module _ (number : ℕ) (path : List ℕ) {j : ℕ} (q : j ≡ getD path (levelOf levels - 2) 0) where
     -- What locating gives here, and past the group.
     abbrev result : Option Located
-    result = locatedIn count number path (levelOf levels) offset (heldAt ws frame .groups)
+    result = locatedIn count number path (levelOf levels) offset (contentFrom ws frame .groups)
 
     abbrev past : Option Located
-    past = locatedIn count number path (levelOf levels) (offset + r .count * r .size) (heldAt ws (r .next) .groups)
+    past = locatedIn count number path (levelOf levels) (offset + r .count * r .size) (contentFrom ws (r .next) .groups)
 
     past-is : locatedIn count number path (levelOf levels) (offset + count h * each) next ≡ past
     past-is =
         ap (λ n. locatedIn count number path (levelOf levels) (offset + n) next) (sym whole-size)
-        ∙ ap (λ i. locatedIn count number path (levelOf levels) (offset + r .count * r .size) (heldAt ws i .groups))
+        ∙ ap (λ i. locatedIn count number path (levelOf levels) (offset + r .count * r .size) (contentFrom ws i .groups))
         (sym (shape .next))
 
     -- The group lacks the instance.
@@ -221,25 +221,25 @@ module _ {ws table : List ℕ} {fill levels frame offset : ℕ} {h : Head} {r : 
       own-within = omega (arith, instance-within, shape .own)
 
       -- All its own points begin before the groups in it.
-      all-begun : begun start₁ start points ≡ points
-      all-begun =
+      all-are-present : presentWithin start₁ start points ≡ points
+      all-are-present =
           let s = groups.sound-here ws frame levels at few h e in
-          begun-all start₁ start points (points-sized (points ++ at .sound .enclosing) points (s .sound .2))
+          present-all start₁ start points (points-sized (points ++ at .sound .enclosing) points (s .sound .2))
           (omega (arith, shape .own))
 
       -- The groups in it.
       pub lower-asks : LocateAsks ws table fill (levels - 1) (r .inside) start₁
       lower-asks =
           let into = groups.into ws frame levels at few h e in
-          let there = standing.behind-run ws (frame + 1) own-stands in
+          let there = position.after-run ws (frame + 1) own-parses in
           record {
-            standing = subst (λ i. AtGroups ws i (levels - 1)) (sym (shape .inside)) into;
+            position = subst (λ i. AtGroups ws i (levels - 1)) (sym (shape .inside)) into;
             isTable = asks .isTable;
             atMost3 = omega (arith, few);
             filling = asks .filling;
             inside = omega (
               arith,
-              ap (λ i. groupsSize count (heldAt ws i .groups)) (shape .inside),
+              ap (λ i. groupsSize count (contentFrom ws i .groups)) (shape .inside),
               ap (groupsSize count) (there .1),
               instance-within,
               shape .own,
@@ -248,28 +248,28 @@ module _ {ws table : List ℕ} {fill levels frame offset : ℕ} {h : Head} {r : 
 
       -- What locating gives among its own points, and in the groups in it.
       abbrev own-result : Option Located
-      own-result = locatedOwn number path (4 - (levels - 1)) start (begun start₁ start points)
+      own-result = locatedOwn number path (4 - (levels - 1)) start (presentWithin start₁ start points)
 
       abbrev lower-result : Option Located
-      lower-result = locatedIn count number path (levelOf (levels - 1)) start₁ (heldAt ws (r .inside) .groups)
+      lower-result = locatedIn count number path (levelOf (levels - 1)) start₁ (contentFrom ws (r .inside) .groups)
 
       -- The instance decides, or what is past the group.
       pub goes-in : result ≡ orElse (orElse own-result lower-result) past
       goes-in =
-          let there = standing.behind-run ws (frame + 1) own-stands in
+          let there = position.after-run ws (frame + 1) own-parses in
           let z = level-left in
           let level : levelOf levels ≡ 4 - (levels - 1) = omega arith in
           let deeper : suc (levelOf levels) ≡ levelOf (levels - 1) = let f = few in omega arith in
           let first : locatedOwn number path (levelOf levels) (offset + j * each) points ≡ own-result =
           ap (λ n. locatedOwn number path (levelOf levels) (offset + n) points) (sym start-is)
           ∙ ap (λ n. locatedOwn number path n start points) level
-          ∙ ap (locatedOwn number path (4 - (levels - 1)) start) (sym all-begun) in
+          ∙ ap (locatedOwn number path (4 - (levels - 1)) start) (sym all-are-present) in
           let second : locatedIn count number path (suc (levelOf levels)) (offset + j * each + pointsSize points) lower ≡ lower-result =
           ap (λ n. locatedIn count number path (suc (levelOf levels)) (offset + n + pointsSize points) lower) (sym start-is)
           ∙ ap (λ n. locatedIn count number path (suc (levelOf levels)) (start + n) lower) (sym (shape .own))
           ∙ ap (λ n. locatedIn count number path n start₁ lower) deeper
           ∙ ap (locatedIn count number path (levelOf (levels - 1)) start₁)
-          (sym (ap (λ i. heldAt ws i .groups) (shape .inside) ∙ there .1)) in
+          (sym (ap (λ i. contentFrom ws i .groups) (shape .inside) ∙ there .1)) in
           ap (locatedIn count number path (levelOf levels) offset) here
           ∙ steps.instance-there count number path (levelOf levels) offset h points lower next j q counted
           ∙ ap (λ o. orElse (orElse o (locatedIn count number path (suc (levelOf levels)) (offset + j * each + pointsSize points) lower))
@@ -291,9 +291,9 @@ module _ {ws table : List ℕ} {fill levels frame offset : ℕ} {h : Head} {r : 
 -- No group is left.
 pub ends : {ws table : List ℕ} {fill levels frame offset : ℕ} (asks : LocateAsks ws table fill levels frame offset)
     → headOf (frameIn ws frame) ≡ none → (number : ℕ) (path : List ℕ)
-    → locatedIn (countOf (scopeIn table) fill) number path (levelOf levels) offset (heldAt ws frame .groups) ≡ none
+    → locatedIn (countOf (scopeIn table) fill) number path (levelOf levels) offset (contentFrom ws frame .groups) ≡ none
 ends {ws} {table} {fill} {levels} {frame} {offset} asks e number path =
-    let at = asks .standing in
+    let at = asks .position in
     ap (locatedIn (countOf (scopeIn table) fill) number path (levelOf levels) offset)
-    (standing.no-group ws frame (at .stands) (at .noPoint) e)
+    (position.no-group ws frame (at .parses) (at .noPoint) e)
     ∙ steps.no-sibling (countOf (scopeIn table) fill) number path (levelOf levels) offset

@@ -16,19 +16,19 @@ use Rattle.layout.specs.Layout.{countOf, measured, groupsSize, countsOf, noInst
 use Rattle.layout.specs.Points.{ModelPoint}
 use Rattle.layout.specs.Paths.{isPoint}
 use Rattle.layout.specs.Reading.{Reading, unknown, faulty, points, allButLast, readBy, hasNoGroup}
-use Rattle.layout.specs.Walks.{heldAt, Accepted, scopeIn, instanceIn, pointsOf, HasPoints, Ready}
+use Rattle.layout.specs.InternalWalks.{contentFrom, Accepted, scopeIn, instanceIn, pointsOf, HasPoints, Ready}
 use Rattle.layout.specs.Locating.{Located, locationOf, firstLocation, orElse, locatedOwn, locatedIn}
 use Rattle.layout.proofs.Readings.{HowRead, leftOut, full}
-use Rattle.layout.proofs.Standing as standing
+use Rattle.layout.proofs.FramePosition as position
 use Rattle.layout.proofs.AcceptedModels as models
 use Rattle.layout.proofs.PointAddresses.{Reads}
 use Rattle.layout.proofs.PointPlaces.{point-reads, point-inside}
-use Rattle.layout.proofs.IntoGroups.{top-groups}
+use Rattle.layout.proofs.GroupDescent.{top-groups}
 use Rattle.layout.proofs.LeftOutPad as pads
 use Rattle.layout.proofs.LocatingSteps.{no-sibling}
 use Rattle.layout.proofs.LocatedPoints.{or-none, top-found, groups-found, content-found}
-use Rattle.listing.specs.Finding.{nothingTold, foundTold}
-use Rattle.listing.specs.Promises.{ModelAsks, locatedWithin, targetAt, resultAt}
+use Rattle.listing.specs.Finding.{nothingResult, foundResult}
+use Rattle.listing.specs.InternalContracts.{ModelAsks, locatedWithin, targetAt, resultAt}
 use Rattle.listing.proofs.ReadyModels as model
 
 -- A reading with points is its points.
@@ -46,13 +46,13 @@ module _ {ws : List ℕ} {id : ℕ} {body table : List ℕ} {first fill : ℕ} (
     (ready : Ready ws id body table first fill) (words : (k : ℕ) → getD ws k 0 < 65536)
     (has : HasPoints (model.read accepted ready words)) (short : length body ≤ 65535) where
   abbrev top : Content
-  top = heldAt ws first
+  top = contentFrom ws first
 
   abbrev ps : List Point
   ps = top .points
 
-  abbrev laid : List Point
-  laid = model.laid accepted ready words
+  abbrev present : List Point
+  present = model.present accepted ready words
 
   abbrev count : Head → ℕ
   count = countOf (scopeIn table) fill
@@ -71,12 +71,12 @@ module _ {ws : List ℕ} {id : ℕ} {body table : List ℕ} {first fill : ℕ} (
   -- What locating requires.
   pub model-asks : ModelAsks ws table (length body) first fill
   model-asks =
-      let there = standing.behind-run ws first (ready .stands) in
+      let there = position.after-run ws first (ready .parses) in
       record {
-        stands = ready .stands;
+        parses = ready .parses;
         short = short;
         groups = record {
-          standing = top-groups ws id first accepted (ready .stands) (ready .known);
+          position = top-groups ws id first accepted (ready .parses) (ready .known);
           isTable = ready .isTable;
           atMost3 = omega arith;
           filling = omega (arith, ready .filling, model.fill-few top body, short);
@@ -96,11 +96,11 @@ module _ {ws : List ℕ} {id : ℕ} {body table : List ℕ} {first fill : ℕ} (
           → locatedWithin count number path (length body) top ≡ firstLocation number path (pointsOf r)
       go (leftOut h) =
           let l = pads.left-out id top (length body) h in
-          let b = pads.begun-but-pad ps id top (length body) (model.sound-points accepted ready words) h in
-          ap (λ g. orElse (locatedOwn number path 1 0 laid) (locatedIn count number path 2 (pointsSize ps) g))
+          let b = pads.present-but-pad ps id top (length body) (model.sound-points accepted ready words) h in
+          ap (λ g. orElse (locatedOwn number path 1 0 present) (locatedIn count number path 2 (pointsSize ps) g))
           (no-group (top .groups) (l .0))
-          ∙ ap (orElse (locatedOwn number path 1 0 laid)) (no-sibling count number path 2 (pointsSize ps))
-          ∙ or-none (locatedOwn number path 1 0 laid)
+          ∙ ap (orElse (locatedOwn number path 1 0 present)) (no-sibling count number path 2 (pointsSize ps))
+          ∙ or-none (locatedOwn number path 1 0 present)
           ∙ ap (locatedOwn number path 1 0) b
           ∙ sym (top-found number path long body (topInstance (allButLast ps) body) 0 (allButLast ps) refl)
       go (full kept f) =
@@ -112,7 +112,7 @@ module _ {ws : List ℕ} {id : ℕ} {body table : List ℕ} {first fill : ℕ} (
           ∙ ap (firstLocation number path) (model.same-groups accepted ready words f (pointsSize ps))
           ∙ groups-found number path long body (countsOf top body) ps ps (top .groups) (topInstance ps body) (pointsSize ps) refl
           sound in
-          ap (λ qs. orElse (own qs) (locatedIn count number path 2 (pointsSize ps) (top .groups))) (model.all-laid accepted ready words f)
+          ap (λ qs. orElse (own qs) (locatedIn count number path 2 (pointsSize ps) (top .groups))) (model.all-present accepted ready words f)
           ∙ ap (orElse (own ps)) lower
           ∙ sym (content-found number path long top body ps ps sound)
 
@@ -138,26 +138,26 @@ module _ {ws : List ℕ} {id : ℕ} {body table : List ℕ} {first fill : ℕ} (
     it = isPoint number path
 
     -- None is located, and none is found.
-    pub none-found : (at : ℕ) → locatedWithin count number path (length body) top ≡ none → nothingTold ≡ resultAt at (firstWith it all)
+    pub none-found : (at : ℕ) → locatedWithin count number path (length body) top ≡ none → nothingResult ≡ resultAt at (firstWith it all)
     none-found at e = go (firstWith it all) (sym (model-located number path long) ∙ e)
       where
         go : (o : Option ModelPoint) → _≡_ {A = Option Located} (elim o [ none ↦ none | some p ↦ some (locationOf p) ]) none
-            → nothingTold ≡ resultAt at o
+            → nothingResult ≡ resultAt at o
         go none q = refl
         go (some p) q = not-none (sym q)
 
     -- One is located, and it is the one that is found.
     pub one-found : (at : ℕ) {l : Located} → locatedWithin count number path (length body) top ≡ some l
-        → (l .offset ≤ length body) × (foundTold (targetAt at body l) ≡ resultAt at (firstWith it all))
+        → (l .offset ≤ length body) × (foundResult (targetAt at body l) ≡ resultAt at (firstWith it all))
     one-found at {l} e = go (firstWith it all) refl (sym (model-located number path long) ∙ e)
       where
         go : (o : Option ModelPoint) → firstWith it all ≡ o → elim o [ none ↦ none | some p ↦ some (locationOf p) ] ≡ some l
-            → (l .offset ≤ length body) × (foundTold (targetAt at body l) ≡ resultAt at o)
+            → (l .offset ≤ length body) × (foundResult (targetAt at body l) ≡ resultAt at o)
         go none q f = not-none f
         go (some p) q f =
             let same : locationOf p ≡ l = cc in
             let there = point-there p (found-in it all p q .0) in (
               subst (λ x. x .offset ≤ length body) same (there .1),
-              ap (λ x. foundTold (targetAt at body x)) (sym same)
-                  ∙ ap (λ r. foundTold (record { address = at + 2 + p .offset; definition = p .definition; raw = r })) (sym (there .0)),
+              ap (λ x. foundResult (targetAt at body x)) (sym same)
+                  ∙ ap (λ r. foundResult (record { address = at + 2 + p .offset; definition = p .definition; raw = r })) (sym (there .0)),
             )

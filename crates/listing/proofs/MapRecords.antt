@@ -13,13 +13,13 @@ use Rattle.register_map.specs.Scan.{Model}
 use Rattle.register_map.proofs.HeaderCases.{model-ends}
 use Rattle.layout.specs.Points.{ModelPoint}
 use Rattle.layout.specs.Reading.{Reading, unknown, faulty, points}
-use Rattle.layout.specs.Walks.{pointsOf}
+use Rattle.layout.specs.InternalWalks.{pointsOf}
 use Rattle.listing.specs.Listing as Listing
 use Rattle.listing.specs.Listing.{Record, recordWidth, recordOf, Answer, listed, walked, entries, stored}
-use Rattle.listing.specs.Promises.{written, WalkFits}
+use Rattle.listing.specs.InternalContracts.{written, WalkFits}
 use Rattle.listing.specs.declared.records.Visit.{Visit}
 use Rattle.listing.proofs.WrittenRecords.{sets-append, entries-length, entries-append, written-none, written-length}
-use Rattle.listing.proofs.WalkSteps.{not-listed, in-front-listed}
+use Rattle.listing.proofs.WalkSteps.{not-listed, prepended-listed}
 use Rattle.listing.proofs.MapSteps.{walkAt, modelAt, walk-starts, walk-at-end, walk-at-refused, walk-at-late, walk-at-unknown, walk-at-faulty, walk-at-points}
 
 -- Of no points nothing is written.
@@ -34,7 +34,7 @@ pub record WalkingMap (read : Model → Reading) (map before out : List ℕ) (at
   pub headers : ℕ
   pub rest : walkAt read map index at ≡ listed left headers
   pub leads : sets out (recordWidth * records) (entries left) ≡ stored (walked read map) before
-  pub room : recordWidth * (records + length left) ≤ length out
+  pub capacity : recordWidth * (records + length left) ≤ length out
   pub sameLength : length out ≡ length before
   pub low : 2 ≤ at
   pub high : at ≤ 65538
@@ -62,7 +62,7 @@ walking-starts read map out = go (walked read map) refl
           leads = sets-eq (entries rs) out 0 (omega (arith, n, f))
               ∙ ap (λ k. entries rs ++ drop k out) n
               ∙ ap (λ a. stored a out) (sym e);
-          room = omega (arith, f);
+          capacity = omega (arith, f);
           sameLength = refl;
           low = omega arith;
           high = omega arith;
@@ -118,7 +118,7 @@ module _ {read : Model → Reading} {map before out : List ℕ} {at index record
         ap length q ∙ omega (arith, length-append rs ss, length-map ps f) in
         let same = written-length visit records ps out in
         let ends = model-ends (eqb at 2) map at h in (
-          omega (arith, here .room, count),
+          omega (arith, here .capacity, count),
           record {
             left = ss;
             headers = here .headers;
@@ -127,7 +127,7 @@ module _ {read : Model → Reading} {map before out : List ℕ} {at index record
                 ∙ sym (sets-append out i (entries rs) (entries ss))
                 ∙ ap (sets out i) all
                 ∙ here .leads;
-            room = omega (arith, here .room, count, same);
+            capacity = omega (arith, here .capacity, count, same);
             sameLength = same ∙ here .sameLength;
             low = omega (arith, here .low);
             high = omega (arith, ends, short);
@@ -144,6 +144,6 @@ module _ {read : Model → Reading} {map before out : List ℕ} {at index record
             goes [] (here .left) (sym (walk-at-unknown read map index at id len (here .low) h e) ∙ here .rest) refl
         go (faulty fault) e = not-listed (sym (walk-at-faulty read map index at id len (here .low) h e) ∙ here .rest)
         go (points ps) e =
-            let b = in-front-listed (Lists.map (recordOf index at id) ps) next (here .left) (here .headers)
+            let b = prepended-listed (Lists.map (recordOf index at id) ps) next (here .left) (here .headers)
             (sym (walk-at-points read map index at id len (here .low) h e) ∙ here .rest) in
             goes ps (b .0) (b .1) (b .2)

@@ -16,13 +16,13 @@ use Rattle.register_map.proofs.HeaderCases.{model-ends}
 use Rattle.layout.specs.Points.{ModelPoint}
 use Rattle.layout.specs.Paths.{isPoint}
 use Rattle.layout.specs.Reading.{Reading, unknown, faulty, points, Fault}
-use Rattle.layout.specs.Walks.{pointsOf}
+use Rattle.layout.specs.InternalWalks.{pointsOf}
 use Rattle.listing.specs.Listing as Listing
 use Rattle.listing.specs.Listing.{Record, recordOf, Answer, listed, withRecords, walked}
 use Rattle.listing.specs.Finding as Finding
-use Rattle.listing.specs.Finding.{isRecord, findingIn, Told, nothingTold, told}
-use Rattle.listing.specs.Promises.{resultAt, IsListed}
-use Rattle.listing.proofs.Searches.{passed-over, own-records, none-later}
+use Rattle.listing.specs.Finding.{isRecord, findingIn, Result, nothingResult, result}
+use Rattle.listing.specs.InternalContracts.{resultAt, IsListed}
+use Rattle.listing.proofs.Searches.{skipped, own-records, none-later}
 use Rattle.listing.proofs.MapSteps.{walkAt, modelAt, walk-starts, walk-at-end, walk-at-refused, walk-at-late, walk-at-unknown, walk-at-faulty, walk-at-points}
 
 -- Answers that list records.
@@ -42,19 +42,19 @@ module _ (target number : ℕ) (path : List ℕ) where
 
   -- Where no record of an answer is the one, nothing is found.
   none-found : (a : Answer) → IsListed a → ((ss : List Record) (headers : ℕ) → a ≡ listed ss headers → firstWith (isRecord target number path) ss ≡ none)
-      → told (find a) ≡ nothingTold
+      → result (find a) ≡ nothingResult
   none-found (Listing.refused n place headers) l f = absurd l
-  none-found (listed ss headers) l f = ap (λ o. told (toFinding o)) (f ss headers refl)
+  none-found (listed ss headers) l f = ap (λ o. result (toFinding o)) (f ss headers refl)
 
   -- The records of another model do not count.
   others-skipped : (i at id : ℕ) → eqb i target ≡ false → (ps : List ModelPoint) (a : Answer)
       → find (withRecords (Lists.map (recordOf i at id) ps) a) ≡ find a
   others-skipped i at id n ps (Listing.refused m place headers) = refl
-  others-skipped i at id n ps (listed ss headers) = ap toFinding (passed-over target number path i at id n ps ss)
+  others-skipped i at id n ps (listed ss headers) = ap toFinding (skipped target number path i at id n ps ss)
 
   -- Of the records of one model the first is that of the first point.
   first-found : (i at id : ℕ) (ps : List ModelPoint)
-      → told (toFinding (firstWith (λ r. isPoint number path (r .point)) (Lists.map (recordOf i at id) ps)))
+      → result (toFinding (firstWith (λ r. isPoint number path (r .point)) (Lists.map (recordOf i at id) ps)))
       ≡ resultAt at (firstWith it ps)
   unfolding firstWith
   first-found i at id [] = refl
@@ -64,8 +64,8 @@ module _ (target number : ℕ) (path : List ℕ) where
       f = recordOf i at id
 
       go : (b : Bool)
-          → told (toFinding (firstWith (λ r. isPoint number path (r .point)) (Lists.map f ps))) ≡ resultAt at (firstWith it ps)
-          → told (toFinding (elim b [ true ↦ some (f p) | false ↦ firstWith (λ r. isPoint number path (r .point)) (Lists.map f ps) ]))
+          → result (toFinding (firstWith (λ r. isPoint number path (r .point)) (Lists.map f ps))) ≡ resultAt at (firstWith it ps)
+          → result (toFinding (elim b [ true ↦ some (f p) | false ↦ firstWith (λ r. isPoint number path (r .point)) (Lists.map f ps) ]))
           ≡ resultAt at (elim b [ true ↦ some p | false ↦ firstWith it ps ])
       go true e = refl
       go false e = e
@@ -73,10 +73,10 @@ module _ (target number : ℕ) (path : List ℕ) where
   -- The records of the model itself decide.
   own-decides : (i at id : ℕ) → eqb i target ≡ true → (ps : List ModelPoint) (a : Answer) → IsListed a
       → ((ss : List Record) (headers : ℕ) → a ≡ listed ss headers → firstWith (isRecord target number path) ss ≡ none)
-      → told (find (withRecords (Lists.map (recordOf i at id) ps) a)) ≡ resultAt at (firstWith it ps)
+      → result (find (withRecords (Lists.map (recordOf i at id) ps) a)) ≡ resultAt at (firstWith it ps)
   own-decides i at id y ps (Listing.refused m place headers) l f = absurd l
   own-decides i at id y ps (listed ss headers) l f =
-      ap (λ o. told (toFinding o)) (own-records target number path i at id y ps ss (f ss headers refl)) ∙ first-found i at id ps
+      ap (λ o. result (toFinding o)) (own-records target number path i at id y ps ss (f ss headers refl)) ∙ first-found i at id ps
 
 -- ---- Header by header
 
@@ -108,14 +108,14 @@ search-at {read} {map} {target} {number} {path} {at} {here} {index} e s =
 
 module _ {read : Model → Reading} {map : List ℕ} {target number : ℕ} {path : List ℕ} {at index : ℕ}
     (here : Searching read map target number path at index) where
-  abbrev result : Told
-  result = told (findingIn target number path (walked read map))
+  abbrev expected : Result
+  expected = result (findingIn target number path (walked read map))
 
   -- At the end marker there is none.
-  pub search-ends : at < length map → headerAt (eqb at 2) (drop at map) ≡ endMarker → nothingTold ≡ result
+  pub search-ends : at < length map → headerAt (eqb at 2) (drop at map) ≡ endMarker → nothingResult ≡ expected
   unfolding firstWith
   search-ends inside h =
-      sym (ap (λ a. told (findingIn target number path a)) (walk-at-end read map index at inside h)) ∙ ap told (here .same)
+      sym (ap (λ a. result (findingIn target number path a)) (walk-at-end read map index at inside h)) ∙ ap result (here .same)
 
   -- No header is refused, and the registers do not end.
   pub search-refused : {A : Type 0} {n : ℕ} → at < length map → headerAt (eqb at 2) (drop at map) ≡ refused n → A
@@ -163,23 +163,23 @@ module _ {read : Model → Reading} {map : List ℕ} {target number : ℕ} {path
             (under-records (Lists.map (recordOf index at id) ps) next (subst IsListed w (here .isListed)))
 
     -- The model itself decides.
-    pub search-own : index ≡ target → resultAt at (firstWith (isPoint number path) (pointsOf (read own))) ≡ result
+    pub search-own : index ≡ target → resultAt at (firstWith (isPoint number path) (pointsOf (read own))) ≡ expected
     unfolding firstWith
-    search-own y = go (read own) refl ∙ ap told (here .same)
+    search-own y = go (read own) refl ∙ ap result (here .same)
       where
         later : (ss : List Record) (headers : ℕ) → next ≡ listed ss headers → firstWith (isRecord target number path) ss ≡ none
         later ss headers q = none-later target number path read _ (index + 1) (at + (2 + len)) _ ss headers q (omega arith)
 
         go : (r : Reading) → read own ≡ r
             → resultAt at (firstWith (isPoint number path) (pointsOf r))
-            ≡ told (findingIn target number path (walkAt read map index at))
+            ≡ result (findingIn target number path (walkAt read map index at))
         go unknown e =
             let w = walk-at-unknown read map index at id len (here .low) h e in
-            sym (ap (λ a. told (findingIn target number path a)) w
+            sym (ap (λ a. result (findingIn target number path a)) w
             ∙ none-found target number path next (subst IsListed w (here .isListed)) later)
         go (faulty fault) e = not-faulty e
         go (points ps) e =
             let w = walk-at-points read map index at id len (here .low) h e in
             let l = under-records (Lists.map (recordOf index at id) ps) next (subst IsListed w (here .isListed)) in
-            sym (ap (λ a. told (findingIn target number path a)) w
+            sym (ap (λ a. result (findingIn target number path a)) w
             ∙ own-decides target number path index at id (eq-eqb index target y) ps next l later)

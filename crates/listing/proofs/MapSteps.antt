@@ -8,7 +8,7 @@ use lib.Dec.{eqb}
 use lib.ListN.{length, take, drop, length-drop}
 use lib.Seq.{length-take-le}
 use Rattle.register_map.specs.Headers.{model, endMarker, refused, headerAt}
-use Rattle.register_map.specs.Scan.{Model, sizeOf, Scan, marked, broken, ahead, scanFrom, scan}
+use Rattle.register_map.specs.Scan.{Model, sizeOf, Scan, marked, broken, withModel, scanFrom, scan}
 use Rattle.register_map.proofs.ScanSteps.{scan-next, scan-end, scan-refused, scan-enough}
 use Rattle.register_map.proofs.HeaderLaws.{header-late}
 use Rattle.register_map.proofs.HeaderCases.{model-ends}
@@ -41,7 +41,7 @@ module _ (map : List ℕ) (at : ℕ) where
 
   -- A model, and those behind it.
   scan-at-model : (id len : ℕ) → 2 ≤ at → headerAt (eqb at 2) (drop at map) ≡ model id len
-      → scanAt map at ≡ ahead (modelAt map at id len) (scanAt map (at + 2 + len))
+      → scanAt map at ≡ withModel (modelAt map at id len) (scanAt map (at + 2 + len))
   scan-at-model id len low h =
       let ends = model-ends (eqb at 2) map at h in
       let next = at + 2 + len in
@@ -49,7 +49,7 @@ module _ (map : List ℕ) (at : ℕ) where
       let k = length map - 1 in
       bound-left (omega (arith, ends))
       ∙ scan-next k map at low h
-      ∙ ap (ahead (modelAt map at id len))
+      ∙ ap (withModel (modelAt map at id len))
       (scan-enough k (length map) (eqb next 2) (drop next map) (omega (arith, left)) (omega (arith, left)))
 
   -- The end marker.
@@ -105,10 +105,10 @@ module _ (read : Model → Reading) (map : List ℕ) (index at : ℕ) where
 
   module _ (id len : ℕ) (low : 2 ≤ at) (h : headerAt (eqb at 2) (drop at map) ≡ model id len) where
     -- The walk behind a model.
-    behind : walk read (scanAt map (at + 2 + len) .ending) (index + 1) (at + sizeOf (modelAt map at id len))
+    following : walk read (scanAt map (at + 2 + len) .ending) (index + 1) (at + sizeOf (modelAt map at id len))
         (scanAt map (at + 2 + len) .models)
         ≡ walkAt read map (index + 1) (at + (2 + len))
-    behind =
+    following =
         let next : at + 2 + len ≡ at + (2 + len) = omega arith in
         let from : ℕ → ℕ → Answer =
         λ n size. walk read (scanAt map n .ending) (index + 1) (at + (2 + size)) (scanAt map n .models) in
@@ -121,7 +121,7 @@ module _ (read : Model → Reading) (map : List ℕ) (index at : ℕ) where
         let s = scanAt map (at + 2 + len) in
         by-scan (scan-at-model map at id len low h)
         ∙ walk-unknown read (s .ending) index at (modelAt map at id len) (s .models) e
-        ∙ behind
+        ∙ following
 
     -- A faulty one is refused.
     pub walk-at-faulty : {fault : Fault} → read (modelAt map at id len) ≡ faulty fault
@@ -139,4 +139,4 @@ module _ (read : Model → Reading) (map : List ℕ) (index at : ℕ) where
         let s = scanAt map (at + 2 + len) in
         by-scan (scan-at-model map at id len low h)
         ∙ walk-points read (s .ending) index at (modelAt map at id len) (s .models) e
-        ∙ ap (withRecords (Lists.map (recordOf index at id) ps)) behind
+        ∙ ap (withRecords (Lists.map (recordOf index at id) ps)) following

@@ -12,9 +12,9 @@ use Rattle.register_map.specs.Scan.{Model}
 use Rattle.register_map.proofs.HeaderCases.{model-ends}
 use Rattle.layout.specs.Points.{ModelPoint}
 use Rattle.layout.specs.Reading.{Reading, unknown, faulty, points, Fault, faultNumber}
-use Rattle.layout.specs.Walks.{surveyedUnknown, surveyedRefused, surveyedPoints, surveyed, pointsOf, HasPoints}
+use Rattle.layout.specs.InternalWalks.{surveyedUnknown, surveyedRefused, surveyedPoints, surveyed, pointsOf, HasPoints}
 use Rattle.listing.specs.Listing as Listing
-use Rattle.listing.specs.Listing.{Record, recordOf, Answer, listed, withRecords, walked, Told, refusedTold, listedTold, told}
+use Rattle.listing.specs.Listing.{Record, recordOf, Answer, listed, withRecords, walked, Result, refusedResult, listedResult, result}
 use Rattle.listing.proofs.MapSteps.{walkAt, modelAt, body-length, walk-starts, walk-at-end, walk-at-refused, walk-at-late, walk-at-unknown, walk-at-faulty, walk-at-points}
 
 -- ---- A reading by what surveying it answers
@@ -50,22 +50,22 @@ has-points r e = subst HasPoints (sym (points-surveyed r e .1)) tt
 -- ---- The walk
 
 -- Points in front of those of an answer.
-abbrev pub withPoints : ℕ → Told → Told
-withPoints n (refusedTold number place headers) = refusedTold number place headers
-withPoints n (listedTold k headers) = listedTold (n + k) headers
+abbrev pub withPoints : ℕ → Result → Result
+withPoints n (refusedResult number place headers) = refusedResult number place headers
+withPoints n (listedResult k headers) = listedResult (n + k) headers
 
-with-no-points : (t : Told) → withPoints 0 t ≡ t
-with-no-points (refusedTold number place headers) = refl
-with-no-points (listedTold k headers) = ap (λ n. listedTold n headers) (omega arith)
+with-no-points : (t : Result) → withPoints 0 t ≡ t
+with-no-points (refusedResult number place headers) = refl
+with-no-points (listedResult k headers) = ap (λ n. listedResult n headers) (omega arith)
 
 with-more-points : (n : ℕ) (rs : List Record) (a : Answer)
-    → withPoints n (told (withRecords rs a)) ≡ withPoints (n + length rs) (told a)
+    → withPoints n (result (withRecords rs a)) ≡ withPoints (n + length rs) (result a)
 with-more-points n rs (Listing.refused number place headers) = refl
-with-more-points n rs (listed ss headers) = ap (λ k. listedTold k headers) (omega (arith, length-append rs ss))
+with-more-points n rs (listed ss headers) = ap (λ k. listedResult k headers) (omega (arith, length-append rs ss))
 
 -- The walk stands at a header with so many headers and points before it: what is left decides as the whole does.
 pub record Surveying (read : Model → Reading) (map : List ℕ) (at headers points : ℕ) : Type 0 where
-  pub rest : withPoints points (told (walkAt read map headers at)) ≡ told (walked read map)
+  pub rest : withPoints points (result (walkAt read map headers at)) ≡ result (walked read map)
   pub low : 2 ≤ at
   pub high : at ≤ 65538
   pub fewHeaders : headers ≤ at
@@ -74,7 +74,7 @@ pub record Surveying (read : Model → Reading) (map : List ℕ) (at headers poi
 pub survey-starts : (read : Model → Reading) (map : List ℕ) → Surveying read map 2 0 0
 survey-starts read map =
     record {
-      rest = with-no-points (told (walkAt read map 0 2)) ∙ ap told (walk-starts read map);
+      rest = with-no-points (result (walkAt read map 0 2)) ∙ ap result (walk-starts read map);
       low = omega arith;
       high = omega arith;
       fewHeaders = omega arith;
@@ -83,23 +83,23 @@ survey-starts read map =
 
 module _ {read : Model → Reading} {map : List ℕ} {at headers count : ℕ} (here : Surveying read map at headers count) where
   -- An answer from here on is that of the whole.
-  answers : {a : Answer} → walkAt read map headers at ≡ a → withPoints count (told a) ≡ told (walked read map)
-  answers e = ap (λ a. withPoints count (told a)) (sym e) ∙ here .rest
+  answers : {a : Answer} → walkAt read map headers at ≡ a → withPoints count (result a) ≡ result (walked read map)
+  answers e = ap (λ a. withPoints count (result a)) (sym e) ∙ here .rest
 
   -- At the end marker the points so far are all.
   pub survey-ends : at < length map → headerAt (eqb at 2) (drop at map) ≡ endMarker
-      → listedTold count (headers + 1) ≡ told (walked read map)
+      → listedResult count (headers + 1) ≡ result (walked read map)
   survey-ends inside h =
       let all : count ≡ count + 0 = omega arith in
-      ap (λ n. listedTold n (headers + 1)) all ∙ answers (walk-at-end read map headers at inside h)
+      ap (λ n. listedResult n (headers + 1)) all ∙ answers (walk-at-end read map headers at inside h)
 
   -- A header is refused.
   pub survey-refused : {number : ℕ} → at < length map → headerAt (eqb at 2) (drop at map) ≡ refused number
-      → refusedTold number at headers ≡ told (walked read map)
+      → refusedResult number at headers ≡ result (walked read map)
   survey-refused inside h = answers (walk-at-refused read map headers at inside h)
 
   -- No register is left.
-  pub survey-late : length map ≤ at → refusedTold 22 at headers ≡ told (walked read map)
+  pub survey-late : length map ≤ at → refusedResult 22 at headers ≡ result (walked read map)
   survey-late past = answers (walk-at-late read map headers at past)
 
   module _ (short : length map ≤ 65536) {id len : ℕ} (h : headerAt (eqb at 2) (drop at map) ≡ model id len) where
@@ -119,10 +119,10 @@ module _ {read : Model → Reading} {map : List ℕ} {at headers count : ℕ} (h
 
     -- A model is refused.
     pub survey-faulty : {number : ℕ} → surveyedRefused number ≡ surveyed (read (modelAt map at id len))
-        → refusedTold number at headers ≡ told (walked read map)
+        → refusedResult number at headers ≡ result (walked read map)
     survey-faulty e =
         let r = refused-surveyed (read (modelAt map at id len)) e in
-        ap (λ n. refusedTold n at headers) (sym (r .2))
+        ap (λ n. refusedResult n at headers) (sym (r .2))
         ∙ answers (walk-at-faulty read map headers at id len (here .low) h (r .1))
 
     module _ (few : (m : Model) (ps : List ModelPoint) → read m ≡ points ps → length ps ≤ length (m .body)) {more : ℕ}
@@ -144,7 +144,7 @@ module _ {read : Model → Reading} {map : List ℕ} {at headers count : ℕ} (h
           let next = walkAt read map (headers + 1) (at + (2 + len)) in
           let total : count + more ≡ count + length rs = omega (arith, length-map (r .0) f, r .2) in
           record {
-            rest = ap (λ n. withPoints n (told next)) total
+            rest = ap (λ n. withPoints n (result next)) total
                 ∙ sym (with-more-points count rs next)
                 ∙ answers (walk-at-points read map headers at id len (here .low) h (r .1));
             low = omega (arith, here .low);

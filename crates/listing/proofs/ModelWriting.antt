@@ -11,16 +11,16 @@ use Rattle.model_definitions.specs.Soundness.{ScaleResolves}
 use Rattle.layout.specs.Layout.{countOf, groupsSize, countsOf, pointsAt, groupsAt, noInstance, topInstance, contentAt}
 use Rattle.layout.specs.Counts.{groupsPoints}
 use Rattle.layout.specs.Reading.{Reading, points, allButLast, readBy, reading}
-use Rattle.layout.specs.Walks.{heldAt, Accepted, scopeIn, instanceIn, begun, AtGroups, pointsOf, HasPoints, Ready}
+use Rattle.layout.specs.InternalWalks.{contentFrom, Accepted, scopeIn, instanceIn, presentWithin, AtGroups, pointsOf, HasPoints, Ready}
 use Rattle.layout.proofs.Readings.{Full, HowRead, leftOut, full, resolves-left}
-use Rattle.layout.proofs.Standing as standing
+use Rattle.layout.proofs.FramePosition as position
 use Rattle.layout.proofs.AcceptedModels as models
-use Rattle.layout.proofs.IntoGroups.{top-groups}
+use Rattle.layout.proofs.GroupDescent.{top-groups}
 use Rattle.layout.proofs.PointCounts as pointCounts
 use Rattle.layout.proofs.LeftOutPad as pads
 use Rattle.layout.proofs.Sizes.{points-sized}
 use Rattle.listing.specs.Listing.{recordWidth}
-use Rattle.listing.specs.Promises.{written, RunAsks, BehindRun, GroupsAsk, BehindGroups}
+use Rattle.listing.specs.InternalContracts.{written, RunAsks, AfterRun, GroupsAsk, AfterGroups}
 use Rattle.listing.specs.declared.records.Visit.{Visit}
 use Rattle.listing.specs.declared.records.Progress.{Progress}
 use Rattle.listing.proofs.WrittenRecords as lists
@@ -32,13 +32,13 @@ module _ {ws : List ℕ} {id : ℕ} {body table : List ℕ} {first fill : ℕ} (
     (accepted : Accepted ws) (ready : Ready ws id body table first fill) (words : (k : ℕ) → getD ws k 0 < 65536)
     (short : length body ≤ 65535) (address : visit .address ≤ 65536) where
   abbrev top : Content
-  top = heldAt ws first
+  top = contentFrom ws first
 
   abbrev ps : List Point
   ps = top .points
 
-  abbrev laid : List Point
-  laid = begun (length body) 0 ps
+  abbrev present : List Point
+  present = presentWithin (length body) 0 ps
 
   abbrev read : Reading
   read = reading (definitions ws) (record { id = id; body = body })
@@ -48,74 +48,74 @@ module _ {ws : List ℕ} {id : ℕ} {body table : List ℕ} {first fill : ℕ} (
 
   -- ---- What is asked and what comes out
 
-  module _ (has : HasPoints read) (room : recordWidth * (records + length (pointsOf read)) ≤ length out) where
+  module _ (has : HasPoints read) (capacity : recordWidth * (records + length (pointsOf read)) ≤ length out) where
     -- What writing the top points asks for.
-    pub run-asks : RunAsks ws body out visit start laid
+    pub run-asks : RunAsks ws body out visit start present
     run-asks = go (readBy id top body) (model.read-here accepted ready words) (model.how accepted ready words has)
       where
-        asks : pointsSize laid ≤ length body → length laid ≤ length (pointsOf read) → RunAsks ws body out visit start laid
+        asks : pointsSize present ≤ length body → length present ≤ length (pointsOf read) → RunAsks ws body out visit start present
         asks inside few =
             record {
-              stands = ready .stands;
+              parses = ready .parses;
               few = models.accepted-few ws accepted;
               short = short;
               address = address;
               sized = points-sized ps ps (model.sound-points accepted ready words);
               inside = omega (arith, inside);
-              room = omega (arith, few, room);
+              capacity = omega (arith, few, capacity);
             }
 
-        go : (r : Reading) → read ≡ r → HowRead id top body r → RunAsks ws body out visit start laid
+        go : (r : Reading) → read ≡ r → HowRead id top body r → RunAsks ws body out visit start present
         go r q (leftOut e) =
             let l = pads.left-out id top (length body) e in
-            let b = pads.begun-but-pad ps id top (length body) (model.sound-points accepted ready words) e in
+            let b = pads.present-but-pad ps id top (length body) (model.sound-points accepted ready words) e in
             let z = pads.without-pad ps ps (model.sound-points accepted ready words) (l .1) in
             let n = ap (λ x. length (pointsOf x)) q
             ∙ pointCounts.points-counted body (topInstance (allButLast ps) body) 0 (allButLast ps) in
             asks (omega (arith, ap pointsSize b, z, l .2)) (omega (arith, ap length b, n))
         go r q (full kept f) =
-            let b = model.all-laid accepted ready words f in
+            let b = model.all-present accepted ready words f in
             let n = ap (λ x. length (pointsOf x)) q ∙ pointCounts.content-counted top body in
-            asks (omega (arith, ap pointsSize b, f .room)) (omega (arith, ap length b, n))
+            asks (omega (arith, ap pointsSize b, f .capacity)) (omega (arith, ap length b, n))
 
     -- Where the top points fill the body they are all points.
-    pub all-points : pointsSize laid ≡ length body → pointsAt body (instanceIn table noInstance) 0 laid ≡ pointsOf read
+    pub all-points : pointsSize present ≡ length body → pointsAt body (instanceIn table noInstance) 0 present ≡ pointsOf read
     all-points e = go (readBy id top body) (model.read-here accepted ready words) (model.how accepted ready words has)
       where
-        go : (r : Reading) → read ≡ r → HowRead id top body r → pointsAt body (instanceIn table noInstance) 0 laid ≡ pointsOf read
+        go : (r : Reading) → read ≡ r → HowRead id top body r → pointsAt body (instanceIn table noInstance) 0 present ≡ pointsOf read
         go r q (leftOut h) =
             let l = pads.left-out id top (length body) h in
-            model.same-points accepted ready words (allButLast ps) (pads.begun-but-pad ps id top (length body) (model.sound-points accepted ready words) h)
+            model.same-points accepted ready words (allButLast ps) (pads.present-but-pad ps id top (length body) (model.sound-points accepted ready words) h)
             (resolves-left ps (allButLast ps) (l .1) (pads.each-but-last (ScaleResolves ps) ps (model.resolved accepted ready words)))
             ∙ sym (ap pointsOf q)
         go r q (full kept f) =
-            let z = ap pointsSize (model.all-laid accepted ready words f) in
+            let z = ap pointsSize (model.all-present accepted ready words f) in
             let P = pointsAt body (topInstance ps body) 0 ps in
-            model.same-points accepted ready words ps (model.all-laid accepted ready words f) (model.resolved accepted ready words)
+            model.same-points accepted ready words ps (model.all-present accepted ready words f) (model.resolved accepted ready words)
             ∙ sym (append-nil P)
             ∙ ap (λ xs. P ++ xs) (sym (model.no-lower accepted ready words f (omega (arith, z, e))))
             ∙ sym (model.content-parts top body)
             ∙ sym (ap pointsOf q)
 
     -- Else the model is read in full.
-    pub else-full : (pointsSize laid ≡ length body → ⊥) → Full top body × (read ≡ points (contentAt top body))
+    pub else-full : (pointsSize present ≡ length body → ⊥) → Full top body × (read ≡ points (contentAt top body))
     else-full n = go (readBy id top body) (model.read-here accepted ready words) (model.how accepted ready words has)
       where
         go : (r : Reading) → read ≡ r → HowRead id top body r → Full top body × (read ≡ points (contentAt top body))
         go r q (leftOut h) =
             let l = pads.left-out id top (length body) h in
-            let b = pads.begun-but-pad ps id top (length body) (model.sound-points accepted ready words) h in
+            let b = pads.present-but-pad ps id top (length body) (model.sound-points accepted ready words) h in
             let z = pads.without-pad ps ps (model.sound-points accepted ready words) (l .1) in
             absurd (n (omega (arith, ap pointsSize b, z, l .2)))
         go r q (full kept f) = (f, q)
 
-    module _ {at₁ : Progress} (run : BehindRun start laid at₁) (f : Full top body) (q : read ≡ points (contentAt top body))
-        {out₁ : List ℕ} (wrote : out₁ ≡ written visit records (pointsAt body (instanceIn table noInstance) 0 laid) out) where
+    module _ {at₁ : Progress} (run : AfterRun start present at₁) (f : Full top body) (q : read ≡ points (contentAt top body))
+        {out₁ : List ℕ} (wrote : out₁ ≡ written visit records (pointsAt body (instanceIn table noInstance) 0 present) out) where
       frame-there : at₁ .frame ≡ first + length ps
-      frame-there = run .frame ∙ ap (λ rs. first + length rs) (model.all-laid accepted ready words f)
+      frame-there = run .frame ∙ ap (λ rs. first + length rs) (model.all-present accepted ready words f)
 
-      groups-there : heldAt ws (at₁ .frame) .groups ≡ top .groups
-      groups-there = ap (λ k. heldAt ws k .groups) frame-there ∙ standing.behind-run ws first (ready .stands) .1
+      groups-there : contentFrom ws (at₁ .frame) .groups ≡ top .groups
+      groups-there = ap (λ k. contentFrom ws k .groups) frame-there ∙ position.after-run ws first (ready .parses) .1
 
       counted : length (pointsOf read) ≡ length ps + groupsPoints (countsOf top body) (top .groups)
       counted = ap (λ x. length (pointsOf x)) q ∙ pointCounts.content-counted top body
@@ -123,11 +123,11 @@ module _ {ws : List ℕ} {id : ℕ} {body table : List ℕ} {first fill : ℕ} (
       -- What writing the groups asks for.
       pub groups-ask : GroupsAsk ws body table out₁ visit fill 3 noInstance at₁
       groups-ask =
-          let b = model.all-laid accepted ready words f in
-          let o = lists.written-length visit records (pointsAt body (instanceIn table noInstance) 0 laid) out in
+          let b = model.all-present accepted ready words f in
+          let o = lists.written-length visit records (pointsAt body (instanceIn table noInstance) 0 present) out in
           record {
-            standing = subst (λ k. AtGroups ws k 3) (sym frame-there)
-                (top-groups ws id first accepted (ready .stands) (ready .known));
+            position = subst (λ k. AtGroups ws k 3) (sym frame-there)
+                (top-groups ws id first accepted (ready .parses) (ready .known));
             isTable = ready .isTable;
             threeLevels = refl;
             atMost3 = omega arith;
@@ -142,12 +142,12 @@ module _ {ws : List ℕ} {id : ℕ} {body table : List ℕ} {first fill : ℕ} (
               run .offset,
               ap pointsSize b,
             );
-            room = omega (
+            capacity = omega (
               arith,
               ap (groupsPoints (countOf (scopeIn table) fill)) groups-there,
               model.lower-same accepted ready words f length,
               counted,
-              room,
+              capacity,
               run .records,
               ap length b,
               ap length wrote ∙ o,
@@ -155,9 +155,9 @@ module _ {ws : List ℕ} {id : ℕ} {body table : List ℕ} {first fill : ℕ} (
           }
 
       -- What has been written behind the groups.
-      pub records-behind : {at₂ : Progress} → BehindGroups (heldAt ws (at₁ .frame) .groups) (countOf (scopeIn table) fill) at₁ at₂
+      pub records-after : {at₂ : Progress} → AfterGroups (contentFrom ws (at₁ .frame) .groups) (countOf (scopeIn table) fill) at₁ at₂
           → at₂ .records ≡ records + length (pointsOf read)
-      records-behind b =
+      records-after b =
           omega (
             arith,
             b .records,
@@ -165,28 +165,28 @@ module _ {ws : List ℕ} {id : ℕ} {body table : List ℕ} {first fill : ℕ} (
             ap (groupsPoints (countOf (scopeIn table) fill)) groups-there,
             model.lower-same accepted ready words f length,
             counted,
-            ap length (model.all-laid accepted ready words f),
+            ap length (model.all-present accepted ready words f),
           )
 
-      pub list-behind : {out₂ : List ℕ} → out₂
+      pub list-after : {out₂ : List ℕ} → out₂
           ≡ written visit (at₁ .records)
           (groupsAt body (countOf (scopeIn table) fill) 2 (instanceIn table noInstance) (at₁ .offset)
-          (heldAt ws (at₁ .frame) .groups)) out₁
+          (contentFrom ws (at₁ .frame) .groups)) out₁
           → out₂ ≡ written visit records (pointsOf read) out
-      list-behind e =
+      list-after e =
           let P = pointsAt body (topInstance ps body) 0 ps in
           let Q = groupsAt body (countsOf top body) 2 (topInstance ps body) (pointsSize ps) (top .groups) in
           let W : ℕ → ℕ → Groups → List ℕ → List ℕ = λ r a g l.
           written visit r (groupsAt body (countOf (scopeIn table) fill) 2 (instanceIn table noInstance) a g) l in
-          let b = model.all-laid accepted ready words f in
+          let b = model.all-present accepted ready words f in
           let n = pointCounts.points-counted body (topInstance ps body) 0 ps in
           let r : at₁ .records ≡ records + length P = omega (arith, run .records, ap length b, n) in
           let a : at₁ .offset ≡ pointsSize ps = omega (arith, run .offset, ap pointsSize b) in
           let o : out₁ ≡ written visit records P out =
           wrote ∙ ap (λ x. written visit records x out) (model.same-points accepted ready words ps b (model.resolved accepted ready words)) in
           e
-          ∙ ap (λ x. W x (at₁ .offset) (heldAt ws (at₁ .frame) .groups) out₁) r
-          ∙ ap (λ x. W (records + length P) x (heldAt ws (at₁ .frame) .groups) out₁) a
+          ∙ ap (λ x. W x (at₁ .offset) (contentFrom ws (at₁ .frame) .groups) out₁) r
+          ∙ ap (λ x. W (records + length P) x (contentFrom ws (at₁ .frame) .groups) out₁) a
           ∙ ap (λ x. W (records + length P) (pointsSize ps) x out₁) groups-there
           ∙ ap (W (records + length P) (pointsSize ps) (top .groups)) o
           ∙ ap (λ x. written visit (records + length P) x (written visit records P out)) (model.same-groups accepted ready words f (pointsSize ps))

@@ -14,13 +14,13 @@ use Rattle.frame_rules.specs.FrameTests.{isSizeOf}
 use Rattle.model_definitions.specs.Definitions.{pointsSize}
 use Rattle.layout.specs.Points.{ModelPoint, registersAt, pointAt}
 use Rattle.layout.specs.Layout.{pointsAt}
-use Rattle.layout.specs.Walks.{heldAt, pointOf, scopeIn, instanceIn, begun}
-use Rattle.shown_points.specs.Answers.{PointShown, shownForm, shownBy}
+use Rattle.layout.specs.InternalWalks.{contentFrom, pointOf, scopeIn, instanceIn, presentWithin}
+use Rattle.shown_points.specs.CodeTypes.{PointShown, toSpecShown, shownBy}
 use Rattle.shown_points.specs.declared.Shown.{Shown}
-use Rattle.layout.proofs.Standing as standing
-use Rattle.layout.proofs.NotedPoints.{begun-past, begun-first}
+use Rattle.layout.proofs.FramePosition as position
+use Rattle.layout.proofs.RecordedPoints.{present-past, present-first}
 use Rattle.listing.specs.Listing.{recordNumbers, recordWidth}
-use Rattle.listing.specs.Promises.{recordAt, written, PointFits, RunAsks, BehindRun}
+use Rattle.listing.specs.InternalContracts.{recordAt, written, PointFits, RunAsks, AfterRun}
 use Rattle.listing.specs.declared.records.Visit.{Visit}
 use Rattle.listing.specs.declared.records.Progress.{Progress}
 use Rattle.listing.proofs.WrittenRecords.{written-none, written-length, written-append}
@@ -28,7 +28,7 @@ use Rattle.listing.proofs.WrittenRecords.{written-none, written-length,
 -- The numbers of a record from what is shown of its point.
 pub shown-numbers : (visit : Visit) (body table path : List ℕ) (offset address : ℕ) (p : Point) (shown : Shown)
     → address ≡ visit .address + 2 + offset
-    → shownForm shown ≡ shownBy p (classified (p .typeCode) (join (registersAt body offset p))) (registersAt body offset p)
+    → toSpecShown shown ≡ shownBy p (classified (p .typeCode) (join (registersAt body offset p))) (registersAt body offset p)
     (scopeIn table (p .scale))
     → visit .index ∷ visit .id ∷ p .number ∷ getD path 0 0 ∷ getD path 1 0 ∷ getD path 2 0 ∷ address
     ∷ shown .status ∷ shown .raw ∷ shown .scale ∷ []
@@ -42,7 +42,7 @@ shown-numbers visit body table path offset address p shown at s =
 
 -- The points that are left to write.
 abbrev pub leftAt : List ℕ → List ℕ → Progress → List Point
-leftAt ws body at = begun (length body) (at .offset) (heldAt ws (at .frame) .points)
+leftAt ws body at = presentWithin (length body) (at .offset) (contentFrom ws (at .frame) .points)
 
 -- As they lie in the body.
 abbrev pub shownAt : List ℕ → List ℕ → List ℕ → List ℕ → Progress → List ModelPoint
@@ -54,7 +54,7 @@ pub record StillWrites (ws body table : List ℕ) (visit : Visit) (path : List �
   pub asks : RunAsks ws body out visit at (leftAt ws body at)
   pub holds : written visit (at .records) (shownAt ws body table path at) out
       ≡ written visit (at₀ .records) (shownAt ws body table path at₀) out₀
-  pub behind : BehindRun at₀ (leftAt ws body at₀) (record {
+  pub following : AfterRun at₀ (leftAt ws body at₀) (record {
     records = at .records + length (leftAt ws body at);
     offset = at .offset + pointsSize (leftAt ws body at);
     frame = at .frame + length (leftAt ws body at);
@@ -69,20 +69,20 @@ pastPoint at p = record { records = at .records + 1; offset = at .offset + p .si
 pub still-all : (ws body table : List ℕ) (visit : Visit) (path out : List ℕ) (at : Progress)
     → RunAsks ws body out visit at (leftAt ws body at) → StillWrites ws body table visit path out at out at
 still-all ws body table visit path out at a =
-    record { asks = a; holds = refl; behind = record { records = refl; offset = refl; frame = refl }; same = refl }
+    record { asks = a; holds = refl; following = record { records = refl; offset = refl; frame = refl }; same = refl }
 
 module _ {ws body table : List ℕ} {visit : Visit} {path out₀ : List ℕ} {at₀ : Progress} {out : List ℕ} {at : Progress}
     (s : StillWrites ws body table visit path out₀ at₀ out at) where
   -- The walk stands in the catalog.
   pub still-within : at .frame < length ws / 8
-  still-within = standing.stands-within ws (at .frame) (s .asks .stands)
+  still-within = position.parses-within ws (at .frame) (s .asks .parses)
 
   -- None is left.
   still-none : leftAt ws body at ≡ []
-      → BehindRun at₀ (leftAt ws body at₀) at × (out ≡ written visit (at₀ .records) (shownAt ws body table path at₀) out₀)
+      → AfterRun at₀ (leftAt ws body at₀) at × (out ≡ written visit (at₀ .records) (shownAt ws body table path at₀) out₀)
   unfolding pointsAt
   still-none e =
-      let b = s .behind in
+      let b = s .following in
       let n = ap length e in
       let z = ap pointsSize e in
       let shown : shownAt ws body table path at ≡ [] =
@@ -98,29 +98,29 @@ module _ {ws body table : List ℕ} {visit : Visit} {path out₀ : List ℕ} {at
 
   -- None begins behind the end of the body, or where no point stands.
   pub still-past : length body ≤ at .offset
-      → BehindRun at₀ (leftAt ws body at₀) at × (out ≡ written visit (at₀ .records) (shownAt ws body table path at₀) out₀)
-  still-past h = still-none (begun-past (length body) (at .offset) (heldAt ws (at .frame) .points) h)
+      → AfterRun at₀ (leftAt ws body at₀) at × (out ≡ written visit (at₀ .records) (shownAt ws body table path at₀) out₀)
+  still-past h = still-none (present-past (length body) (at .offset) (contentFrom ws (at .frame) .points) h)
 
   pub still-other : pointOf (frameIn ws (at .frame)) ≡ none
-      → BehindRun at₀ (leftAt ws body at₀) at × (out ≡ written visit (at₀ .records) (shownAt ws body table path at₀) out₀)
-  unfolding begun
+      → AfterRun at₀ (leftAt ws body at₀) at × (out ≡ written visit (at₀ .records) (shownAt ws body table path at₀) out₀)
+  unfolding presentWithin
   still-other f =
-      let e = standing.no-point ws (at .frame) (s .asks .stands) f in
-      still-none (ap (λ (ps : List Point). begun (length body) (at .offset) ps) e)
+      let e = position.no-point ws (at .frame) (s .asks .parses) f in
+      still-none (ap (λ (ps : List Point). presentWithin (length body) (at .offset) ps) e)
 
   module _ (p : Point) (h : at .offset < length body) (f : pointOf (frameIn ws (at .frame)) ≡ some p) where
     -- The first of those left, and the others.
     first-left : leftAt ws body at ≡ p ∷ leftAt ws body (pastPoint at p)
     first-left =
-        let next = standing.point-next ws (at .frame) (s .asks .stands) p f in
-        ap (λ (ps : List Point). begun (length body) (at .offset) ps) (next .0)
-        ∙ begun-first (length body) (at .offset) p (heldAt ws (at .frame + 1) .points) h
+        let next = position.point-next ws (at .frame) (s .asks .parses) p f in
+        ap (λ (ps : List Point). presentWithin (length body) (at .offset) ps) (next .0)
+        ∙ present-first (length body) (at .offset) p (contentFrom ws (at .frame + 1) .points) h
 
     -- It lies in the body, and has room.
     pub first-fits : PointFits body (at .offset) visit p
         × (recordWidth * (at .records + 1) ≤ length out)
     first-fits =
-        let next = standing.point-next ws (at .frame) (s .asks .stands) p f in
+        let next = position.point-next ws (at .frame) (s .asks .parses) p f in
         let sized = subst (Each (λ q. isSizeOf (q .typeCode) (q .size) ≡ true)) (next .0) (s .asks .sized) in
         let n = ap length first-left in
         let z = ap pointsSize first-left in (
@@ -130,7 +130,7 @@ module _ {ws body table : List ℕ} {visit : Visit} {path out₀ : List ℕ} {at
             short = s .asks .short;
             address = s .asks .address;
           },
-          omega (arith, s .asks .room, n),
+          omega (arith, s .asks .capacity, n),
         )
 
     -- Once its record is written, the others are left.
@@ -140,8 +140,8 @@ module _ {ws body table : List ℕ} {visit : Visit} {path out₀ : List ℕ} {at
     unfolding pointsAt
     still-first out′ e =
         let a = s .asks in
-        let b = s .behind in
-        let next = standing.point-next ws (at .frame) (a .stands) p f in
+        let b = s .following in
+        let next = position.point-next ws (at .frame) (a .parses) p f in
         let sized = subst (Each (λ q. isSizeOf (q .typeCode) (q .size) ≡ true)) (next .0) (a .sized) in
         let n = ap length first-left in
         let z = ap pointsSize first-left in
@@ -154,19 +154,19 @@ module _ {ws body table : List ℕ} {visit : Visit} {path out₀ : List ℕ} {at
         let same : length out′ ≡ length out = ap length e ∙ written-length visit k (x ∷ []) out in
         record {
           asks = record {
-            stands = next .2;
+            parses = next .2;
             few = a .few;
             short = a .short;
             address = a .address;
             sized = sized .1;
             inside = omega (arith, a .inside, z);
-            room = omega (arith, a .room, n, same);
+            capacity = omega (arith, a .capacity, n, same);
           };
           holds = sym (ap (λ (ps : List ModelPoint). written visit k ps out) shown
               ∙ written-append visit k (x ∷ []) xs out
               ∙ ap (λ (o : List ℕ). written visit (k + 1) xs o) (sym e))
               ∙ s .holds;
-          behind = record {
+          following = record {
             records = omega (arith, b .records, n);
             offset = omega (arith, b .offset, z);
             frame = omega (arith, b .frame, n);

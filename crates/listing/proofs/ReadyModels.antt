@@ -17,14 +17,14 @@ use Rattle.model_definitions.proofs.References.{points-resolve}
 use Rattle.layout.specs.Points.{ModelPoint, Scope}
 use Rattle.layout.specs.Layout.{nothing, within, topScope, countOf, measured, groupsSize, fillSizeOf, fillOf, countsOf, pointsAt, entered, groupsAt, noInstance, topInstance, contentAt, restSize}
 use Rattle.layout.specs.Reading.{Reading, points, readBy, reading}
-use Rattle.layout.specs.Walks.{heldAt, Accepted, scopeIn, instanceIn, begun, IsTable, HasPoints, Ready}
+use Rattle.layout.specs.InternalWalks.{contentFrom, Accepted, scopeIn, instanceIn, presentWithin, IsTable, HasPoints, Ready}
 use Rattle.layout.proofs.Readings.{Full, HowRead, how-read}
 use Rattle.layout.proofs.AcceptedModels as models
 use Rattle.layout.proofs.CountsAgree as counts
-use Rattle.layout.proofs.ReachOnly.{Agree, within-own, points-agree, groups-agree}
+use Rattle.layout.proofs.ScopeOnly.{Agree, within-own, points-agree, groups-agree}
 use Rattle.layout.proofs.PointCounts as pointCounts
-use Rattle.layout.proofs.NotedPoints as notes
-use Rattle.layout.proofs.Sizes.{laid-size, points-sized}
+use Rattle.layout.proofs.RecordedPoints as recorded
+use Rattle.layout.proofs.Sizes.{full-size, points-sized}
 
 -- The points of a model in full.
 pub content-parts : (c : Content) (body : List ℕ) → contentAt c body
@@ -42,13 +42,13 @@ fill-few c body = go (fillSizeOf c body)
     go none = omega arith
     go (some size) = let d = div-le-self (length body - restSize c body) size in omega arith
 
-each-begun : (P : Point → Type 0) (len offset : ℕ) (ps : List Point) → Each P ps → Each P (begun len offset ps)
-unfolding begun
-each-begun P len offset [] e = tt
-each-begun P len offset (p ∷ ps) e = go (ltb offset len) (each-begun P len (offset + p .size) ps (e .1))
+each-present : (P : Point → Type 0) (len offset : ℕ) (ps : List Point) → Each P ps → Each P (presentWithin len offset ps)
+unfolding presentWithin
+each-present P len offset [] e = tt
+each-present P len offset (p ∷ ps) e = go (ltb offset len) (each-present P len (offset + p .size) ps (e .1))
   where
-    go : (b : Bool) → Each P (begun len (offset + p .size) ps)
-        → Each P (elim b [ true ↦ p ∷ begun len (offset + p .size) ps | false ↦ [] ])
+    go : (b : Bool) → Each P (presentWithin len (offset + p .size) ps)
+        → Each P (elim b [ true ↦ p ∷ presentWithin len (offset + p .size) ps | false ↦ [] ])
     go true r = (e .0, r)
     go false r = tt
 
@@ -57,13 +57,13 @@ each-begun P len offset (p ∷ ps) e = go (ltb offset len) (each-begun P len (of
 module _ {ws : List ℕ} {id : ℕ} {body table : List ℕ} {first fill : ℕ} (accepted : Accepted ws)
     (ready : Ready ws id body table first fill) (words : (k : ℕ) → getD ws k 0 < 65536) where
   abbrev pub top : Content
-  top = heldAt ws first
+  top = contentFrom ws first
 
   abbrev pub ps : List Point
   ps = top .points
 
-  abbrev pub laid : List Point
-  laid = begun (length body) 0 ps
+  abbrev pub present : List Point
+  present = presentWithin (length body) 0 ps
 
   abbrev pub read : Reading
   read = reading (definitions ws) (record { id = id; body = body })
@@ -79,16 +79,16 @@ module _ {ws : List ℕ} {id : ℕ} {body table : List ℕ} {first fill : ℕ} (
   sound-groups = models.top-groups-sound ws id top accepted (ready .known)
 
   -- The table holds the scope of the points that are laid.
-  table-scope : scopeIn table ≡ within body 0 laid (scopeIn (ready .before))
+  table-scope : scopeIn table ≡ within body 0 present (scopeIn (ready .before))
   table-scope =
-      ap scopeIn (ready .tableNoted)
-      ∙ notes.noted-scope body 0 laid (ready .before) (before-long)
-      (each-begun (λ p. p .number < 65536) (length body) 0 ps (notes.numbers-in-table ws words first (ready .stands)))
+      ap scopeIn (ready .tableRecorded)
+      ∙ recorded.table-with-scope body 0 present (ready .before) (before-long)
+      (each-present (λ p. p .number < 65536) (length body) 0 ps (recorded.numbers-in-table ws words first (ready .parses)))
     where
       before-long : IsTable (ready .before)
       before-long =
-          sym (notes.noted-length body 0 (begun (length body) 0 (heldAt ws first .points)) (ready .before))
-          ∙ sym (ap length (ready .tableNoted)) ∙ ready .isTable
+          sym (recorded.table-with-length body 0 (presentWithin (length body) 0 (contentFrom ws first .points)) (ready .before))
+          ∙ sym (ap length (ready .tableRecorded)) ∙ ready .isTable
 
   -- It is read in one of two ways.
   pub how : HasPoints read → HowRead id top body (readBy id top body)
@@ -96,23 +96,23 @@ module _ {ws : List ℕ} {id : ℕ} {body table : List ℕ} {first fill : ℕ} (
 
   -- ---- The top points
 
-  module _ (qs : List Point) (e : laid ≡ qs) where
+  module _ (qs : List Point) (e : present ≡ qs) where
     -- In the table's scope and in the model's these points are the same.
-    agree-laid : Agree qs (scopeIn table) (topScope qs body)
-    agree-laid p i =
+    agree-present : Agree qs (scopeIn table) (topScope qs body)
+    agree-present p i =
         ap (λ (s : Scope). s (p .number)) (table-scope ∙ ap (λ rs. within body 0 rs (scopeIn (ready .before))) e)
         ∙ within-own body 0 qs (scopeIn (ready .before)) nothing p i
 
     pub same-points : Each (ScaleResolves qs) qs
-        → pointsAt body (instanceIn table noInstance) 0 laid ≡ pointsAt body (topInstance qs body) 0 qs
+        → pointsAt body (instanceIn table noInstance) 0 present ≡ pointsAt body (topInstance qs body) 0 qs
     same-points r =
         ap (pointsAt body (instanceIn table noInstance) 0) e
         ∙ points-agree body 0 qs qs (instanceIn table noInstance) (topInstance qs body) r
-        (record { samePath = refl; agree = agree-laid })
+        (record { samePath = refl; agree = agree-present })
 
   -- In full all top points are laid.
-  pub all-laid : Full top body → laid ≡ ps
-  all-laid f = notes.begun-all (length body) 0 ps (points-sized ps ps sound-points) (omega (arith, f .room))
+  pub all-present : Full top body → present ≡ ps
+  all-present f = recorded.present-all (length body) 0 ps (points-sized ps ps sound-points) (omega (arith, f .capacity))
 
   pub resolved : Each (ScaleResolves ps) ps
   resolved = points-resolve ps ps sound-points
@@ -120,7 +120,7 @@ module _ {ws : List ℕ} {id : ℕ} {body table : List ℕ} {first fill : ℕ} (
   -- The size of a body in full, with the table's counts.
   module _ (f : Full top body) where
     agree-top : Agree ps (scopeIn table) (topScope ps body)
-    agree-top = agree-laid ps (all-laid f)
+    agree-top = agree-present ps (all-present f)
 
     pub lower-same : (weight : List Point → ℕ)
         → measured weight (countOf (scopeIn table) fill) (top .groups) ≡ measured weight (countsOf top body) (top .groups)
@@ -129,7 +129,7 @@ module _ {ws : List ℕ} {id : ℕ} {body table : List ℕ} {first fill : ℕ} (
         ∙ ap (λ n. measured weight (countOf (topScope ps body) n) (top .groups)) (ready .filling)
 
     pub in-full : pointsSize ps + groupsSize (countsOf top body) (top .groups) ≡ length body
-    in-full = laid-size ps ps top body sound-groups (f .fitting)
+    in-full = full-size ps ps top body sound-groups (f .fitting)
 
     pub same-groups : (offset : ℕ) → groupsAt body (countOf (scopeIn table) fill) 2 (instanceIn table noInstance) offset (top .groups)
         ≡ groupsAt body (countsOf top body) 2 (topInstance ps body) offset (top .groups)

@@ -15,21 +15,21 @@ use Rattle.layout.specs.Reading.{Reading, unknown, faulty, points}
 use Rattle.listing.specs.Listing.{Record, recordOf, listed, walk}
 use Rattle.layout.specs.Paths.{isPoint}
 use Rattle.listing.specs.Finding.{isRecord}
-use Rattle.listing.proofs.WalkSteps.{not-listed, in-front-listed, walk-unknown, walk-faulty, walk-points}
+use Rattle.listing.proofs.WalkSteps.{not-listed, prepended-listed, walk-unknown, walk-faulty, walk-points}
 
 module _ (index number : ℕ) (path : List ℕ) where
   abbrev isIt : Record → Bool
   isIt = isRecord index number path
 
   -- The records of another model are passed over.
-  pub passed-over : (i at id : ℕ) → eqb i index ≡ false → (ps : List ModelPoint) (ss : List Record)
+  pub skipped : (i at id : ℕ) → eqb i index ≡ false → (ps : List ModelPoint) (ss : List Record)
       → firstWith isIt (Lists.map (recordOf i at id) ps ++ ss) ≡ firstWith isIt ss
   unfolding firstWith
-  passed-over i at id n [] ss = refl
-  passed-over i at id n (p ∷ ps) ss =
+  skipped i at id n [] ss = refl
+  skipped i at id n (p ∷ ps) ss =
       let rest = firstWith isIt (Lists.map (recordOf i at id) ps ++ ss) in
       ap {B = Option Record} (λ b. elim (b && isPoint number path p) [ true ↦ some (recordOf i at id p) | false ↦ rest ]) n
-      ∙ passed-over i at id n ps ss
+      ∙ skipped i at id n ps ss
 
   -- Of its own model the point decides.
   pub own-records : (i at id : ℕ) → eqb i index ≡ true → (ps : List ModelPoint) (ss : List Record) → firstWith isIt ss ≡ none
@@ -56,13 +56,13 @@ module _ (index number : ℕ) (path : List ℕ) where
       go : (r : Reading) → read m ≡ r
           → ((rs : List Record) → walk read ending (i + 1) (at + sizeOf m) ms ≡ listed rs headers → firstWith isIt rs ≡ none)
           → firstWith isIt ss ≡ none
-      go unknown q behind = behind ss (sym (walk-unknown read ending i at m ms q) ∙ e)
-      go (faulty fault) q behind = not-listed (sym (walk-faulty read ending i at m ms q) ∙ e)
-      go (points ps) q behind =
+      go unknown q following = following ss (sym (walk-unknown read ending i at m ms q) ∙ e)
+      go (faulty fault) q following = not-listed (sym (walk-faulty read ending i at m ms q) ∙ e)
+      go (points ps) q following =
           let f = recordOf i at (m .id) in
-          let rest = in-front-listed (Lists.map f ps) (walk read ending (i + 1) (at + sizeOf m) ms) ss headers
+          let rest = prepended-listed (Lists.map f ps) (walk read ending (i + 1) (at + sizeOf m) ms) ss headers
           (sym (walk-points read ending i at m ms q) ∙ e) in
           let n : i ≡ index → ⊥ = λ z. omega arith in
           ap (firstWith isIt) (rest .2)
-          ∙ passed-over i at (m .id) (ne-eqb i index n) ps (rest .0)
-          ∙ behind (rest .0) (rest .1)
+          ∙ skipped i at (m .id) (ne-eqb i index n) ps (rest .0)
+          ∙ following (rest .0) (rest .1)

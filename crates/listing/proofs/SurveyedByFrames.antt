@@ -11,25 +11,25 @@ use Rattle.model_definitions.specs.Definitions.{Content, definitions, pointsSiz
 use Rattle.model_definitions.specs.Soundness.{SoundPoint, SoundGroups}
 use Rattle.layout.specs.Layout.{nothing, topScope, fits, fillOf, contentAt}
 use Rattle.layout.specs.Reading.{padLeftOut, readBy, topOf}
-use Rattle.layout.specs.Walks.{heldAt, Stands, Accepted, scopeIn, noted, begun, IsTable, surveyedRefused, surveyedPoints, surveyed, Ready, AtGroups}
-use Rattle.layout.proofs.Standing as standing
+use Rattle.layout.specs.InternalWalks.{contentFrom, ParsesAt, Accepted, scopeIn, tableWith, presentWithin, IsTable, surveyedRefused, surveyedPoints, surveyed, Ready, AtGroups}
+use Rattle.layout.proofs.FramePosition as position
 use Rattle.layout.proofs.AcceptedModels.{accepted-few, top-points-sound, top-groups-sound}
 use Rattle.layout.proofs.Sizes.{points-sized}
-use Rattle.layout.proofs.IntoGroups.{top-groups}
-use Rattle.layout.proofs.ReachOnly.{Agree, within-own}
-use Rattle.layout.proofs.NotedPoints.{noted-length, noted-scope, numbers-in-table, begun-all}
+use Rattle.layout.proofs.GroupDescent.{top-groups}
+use Rattle.layout.proofs.ScopeOnly.{Agree, within-own}
+use Rattle.layout.proofs.RecordedPoints.{table-with-length, table-with-scope, numbers-in-table, present-all}
 use Rattle.layout.proofs.LeftOutPad.{but-one, left-out, no-fill}
-use Rattle.listing.specs.Answers.{surveyForm}
-use Rattle.listing.specs.Promises.{RunOf, ExtentOf, fittedBy, ReadyBy}
+use Rattle.listing.specs.CodeTypes.{toSpecSurvey}
+use Rattle.listing.specs.InternalContracts.{RunOf, ExtentOf, fittedBy, ReadyBy}
 use Rattle.definition_frames.specs.declared.runs.Run.{Run}
 use Rattle.listing.specs.declared.extents.Extent.{Extent}
 use Rattle.listing.specs.declared.surveys.Survey.{Survey}
 use Rattle.listing.proofs.SurveyedModels as models
 
-module _ {ws : List ℕ} (id : ℕ) {first : ℕ} (accepted : Accepted ws) (stands : Stands ws first)
-    (known : topOf id (definitions ws) ≡ some (heldAt ws first)) where
+module _ {ws : List ℕ} (id : ℕ) {first : ℕ} (accepted : Accepted ws) (parses : ParsesAt ws first)
+    (known : topOf id (definitions ws) ≡ some (contentFrom ws first)) where
   abbrev c : Content
-  c = heldAt ws first
+  c = contentFrom ws first
 
   -- The definition is sound.
   sound-points : Each (SoundPoint (c .points)) (c .points)
@@ -42,7 +42,7 @@ module _ {ws : List ℕ} (id : ℕ) {first : ℕ} (accepted : Accepted ws) (stan
   pub few-points : {run : Run} → RunOf ws first run → run .points ≤ 4096
   few-points r =
       let n = r .points in
-      let w = standing.past-end-within ws first stands in
+      let w = position.past-end-within ws first parses in
       let f = accepted-few ws accepted in
       omega arith
 
@@ -55,20 +55,20 @@ module _ {ws : List ℕ} (id : ℕ) {first : ℕ} (accepted : Accepted ws) (stan
 
   -- Behind the run stand the groups.
   pub at-groups : {run : Run} → RunOf ws first run → AtGroups ws (run .next) 3
-  at-groups r = subst (λ i. AtGroups ws i 3) (sym (r .next)) (top-groups ws id first accepted stands known)
+  at-groups r = subst (λ i. AtGroups ws i 3) (sym (r .next)) (top-groups ws id first accepted parses known)
 
   -- ---- With the table behind the run
 
   module _ (body table : List ℕ) {after : List ℕ} (isTable : IsTable table)
-      (noting : after ≡ noted body 0 (begun (length body) 0 (c .points)) table) where
+      (noting : after ≡ tableWith body 0 (presentWithin (length body) 0 (c .points)) table) where
     pub still-table : IsTable after
     still-table =
-        ap length noting ∙ noted-length body 0 (begun (length body) 0 (c .points)) table ∙ isTable
+        ap length noting ∙ table-with-length body 0 (presentWithin (length body) 0 (c .points)) table ∙ isTable
 
     -- The definition is ready to be written by.
     ready : (f : ℕ) → f ≡ fillOf c body → Ready ws id body after first f
     ready f e =
-        record { known = known; stands = stands; filling = e; isTable = still-table; before = table; tableNoted = noting }
+        record { known = known; parses = parses; filling = e; isTable = still-table; before = table; tableRecorded = noting }
 
     -- A model without its pad.
     pub pad-left-out : {run : Run} → RunOf ws first run → padLeftOut id c (length body) ≡ true
@@ -82,20 +82,20 @@ module _ {ws : List ℕ} (id : ℕ) {first : ℕ} (accepted : Accepted ws) (stan
       -- The table holds the scope of the top group, as far as its points go.
       agrees : Agree (c .points) (scopeIn after) (topScope (c .points) body)
       agrees p i =
-          let all = begun-all (length body) 0 (c .points) (points-sized (c .points) (c .points) sound-points) (omega arith) in
-          let there : after ≡ noted body 0 (c .points) table = noting ∙ ap (λ ps. noted body 0 ps table) all in
-          let scope = noted-scope body 0 (c .points) table isTable (numbers-in-table ws words first stands) in
+          let all = present-all (length body) 0 (c .points) (points-sized (c .points) (c .points) sound-points) (omega arith) in
+          let there : after ≡ tableWith body 0 (c .points) table = noting ∙ ap (λ ps. tableWith body 0 ps table) all in
+          let scope = table-with-scope body 0 (c .points) table isTable (numbers-in-table ws words first parses) in
           ap (λ t. scopeIn t (p .number)) there
           ∙ ap (λ s. s (p .number)) scope
           ∙ within-own body 0 (c .points) (scopeIn table) nothing p i
 
       module _ {run : Run} (r : RunOf ws first run) {groups : Extent}
-          (x : ExtentOf (scopeIn after) (heldAt ws (run .next) .groups) groups) where
+          (x : ExtentOf (scopeIn after) (contentFrom ws (run .next) .groups) groups) where
         -- The extent is that by the definition.
         extent : ExtentOf (topScope (c .points) body) (c .groups) groups
         extent =
-            let here : heldAt ws (run .next) .groups ≡ c .groups =
-            ap (λ i. heldAt ws i .groups) (r .next) ∙ standing.behind-run ws first stands .1 in
+            let here : contentFrom ws (run .next) .groups ≡ c .groups =
+            ap (λ i. contentFrom ws i .groups) (r .next) ∙ position.after-run ws first parses .1 in
             models.extent-agrees (scopeIn after) (topScope (c .points) body) (c .points) (c .points) 2 (c .groups) groups agrees
             sound-groups (subst (λ g. ExtentOf (scopeIn after) g groups) here x)
 
@@ -105,7 +105,7 @@ module _ {ws : List ℕ} (id : ℕ) {first : ℕ} (accepted : Accepted ws) (stan
 
         -- 29, or the points.
         pub surveyed-here : groups .unimplemented ≡ false → {s : Survey} → s ≡ fittedBy first run groups (length body)
-            → (surveyForm s ≡ surveyed (readBy id c body)) × (ReadyBy ws id body after s × IsTable after)
+            → (toSpecSurvey s ≡ surveyed (readBy id c body)) × (ReadyBy ws id body after s × IsTable after)
         surveyed-here u {s} q =
             let d = q ∙ models.fitted-by-definition first run groups c body short sound-groups (r .size) (r .points) extent in (
               models.fits-surveyed id c body kept long s first (sym (extent .unimplemented) ∙ u) d,

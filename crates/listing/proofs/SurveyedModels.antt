@@ -19,8 +19,8 @@ use Rattle.model_definitions.specs.Soundness.{SoundGroups}
 use Rattle.layout.specs.Points.{Scope}
 use Rattle.layout.specs.Layout.{topScope, countOf, fillMeasured, groupsSize, fillSize, countUnimplemented, fillSizeOf, fits, fillOf, pointsAt, topInstance, contentAt}
 use Rattle.layout.specs.Counts.{groupsPoints, fillPoints, or0}
-use Rattle.layout.specs.Reading.{faulty, points, belowTopPoints, countPointUnimplemented, notTheSize, allButLast, padLeftOut, laidOut, readBy}
-use Rattle.layout.specs.Walks.{surveyedRefused, surveyedPoints, surveyed, Ready}
+use Rattle.layout.specs.Reading.{faulty, points, belowTopPoints, countPointUnimplemented, notTheSize, allButLast, padLeftOut, readFull, readBy}
+use Rattle.layout.specs.InternalWalks.{surveyedRefused, surveyedPoints, surveyed, Ready}
 use Rattle.layout.proofs.Sizes.{points-fit, fill-adds, fill-takes-registers}
 use Rattle.layout.proofs.PointCounts.{points-counted, content-counted, groups-fit}
 use Rattle.layout.proofs.Capping.{capped-remainder, capped-quotient}
@@ -28,8 +28,8 @@ use Rattle.layout.proofs.LeftOutPad.{but-one, left-out}
 use Rattle.layout.proofs.CountsAgree.{measures-agree, fills-agree, unimplemented-agrees}
 use Rattle.group_instances.specs.Fills.{filled}
 use Rattle.group_instances.proofs.FillCounts as fills
-use Rattle.listing.specs.Answers.{surveyForm}
-use Rattle.listing.specs.Promises.{ExtentOf, surveyedBy, fittedBy, ReadyBy}
+use Rattle.listing.specs.CodeTypes.{toSpecSurvey}
+use Rattle.listing.specs.InternalContracts.{ExtentOf, surveyedBy, fittedBy, ReadyBy}
 use Rattle.definition_frames.specs.declared.runs.Run.{Run}
 use Rattle.listing.specs.declared.extents.Extent.{Extent}
 use Rattle.listing.specs.declared.surveys.Survey.{Survey}
@@ -39,12 +39,12 @@ fill-fits : (count : Head → ℕ) (top enclosing : List Point) (level : ℕ) (g
     → fillPoints count g ≤ or0 (fillSize count g)
 unfolding fillMeasured
 fill-fits count top enclosing level noGroup e = omega arith
-fill-fits count top enclosing level (group h ps inside behind) e =
-    go (eqb (h .countKind) fill) (fill-fits count top enclosing level behind (e .4))
+fill-fits count top enclosing level (group h ps inside following) e =
+    go (eqb (h .countKind) fill) (fill-fits count top enclosing level following (e .4))
   where
-    go : (b : Bool) → fillPoints count behind ≤ or0 (fillSize count behind)
-        → or0 (elim b [ true ↦ some (length ps + groupsPoints count inside) | false ↦ fillMeasured length count behind ])
-        ≤ or0 (elim b [ true ↦ some (pointsSize ps + groupsSize count inside) | false ↦ fillSize count behind ])
+    go : (b : Bool) → fillPoints count following ≤ or0 (fillSize count following)
+        → or0 (elim b [ true ↦ some (length ps + groupsPoints count inside) | false ↦ fillMeasured length count following ])
+        ≤ or0 (elim b [ true ↦ some (pointsSize ps + groupsSize count inside) | false ↦ fillSize count following ])
     go true r =
         let p = points-fit (ps ++ enclosing) ps (e .2) in
         let i = groups-fit count top (ps ++ enclosing) (suc level) inside (e .3) in
@@ -275,25 +275,25 @@ module _ (id : ℕ) (c : Content) (body : List ℕ) where
 
   module _ (kept : padLeftOut id c (length body) ≡ false) where
     -- Any other is read by its layout.
-    whole : readBy id c body ≡ laidOut c body
+    whole : readBy id c body ≡ readFull c body
     unfolding readBy
     whole = rw (kept, readBy)
 
     -- 27.
     pub below-surveyed : length body < pointsSize (c .points) → surveyedRefused 27 ≡ surveyed (readBy id c body)
-    unfolding laidOut
+    unfolding readFull
     below-surveyed l =
-        let e : laidOut c body ≡ faulty belowTopPoints = rw (lt-ltb (length body) (pointsSize (c .points)) l, laidOut) in
+        let e : readFull c body ≡ faulty belowTopPoints = rw (lt-ltb (length body) (pointsSize (c .points)) l, readFull) in
         sym (ap surveyed (whole ∙ e))
 
     module _ (long : pointsSize (c .points) ≤ length body) where
       -- 28.
       pub unimplemented-surveyed : countUnimplemented (topScope (c .points) body) (c .groups) ≡ true
           → surveyedRefused 28 ≡ surveyed (readBy id c body)
-      unfolding laidOut
+      unfolding readFull
       unimplemented-surveyed u =
-          let e : laidOut c body ≡ faulty countPointUnimplemented =
-          rw (le-ltb (length body) (pointsSize (c .points)) long, laidOut) (rw u) in
+          let e : readFull c body ≡ faulty countPointUnimplemented =
+          rw (le-ltb (length body) (pointsSize (c .points)) long, readFull) (rw u) in
           sym (ap surveyed (whole ∙ e))
 
       -- 29, or the points.
@@ -302,15 +302,15 @@ module _ (id : ℕ) (c : Content) (body : List ℕ) where
             | true ↦ Survey.Points first (length (contentAt c body)) (fillOf c body)
             | false ↦ Survey.Refused 29
           ]
-          → surveyForm r ≡ surveyed (readBy id c body)
-      unfolding laidOut
+          → toSpecSurvey r ≡ surveyed (readBy id c body)
+      unfolding readFull
       fits-surveyed r first u q =
-          let e : laidOut c body ≡ elim (fits c body) [ false ↦ faulty notTheSize | true ↦ points (contentAt c body) ] =
-          rw (le-ltb (length body) (pointsSize (c .points)) long, laidOut) (rw u) in
-          ap surveyForm q ∙ go (fits c body) ∙ sym (ap surveyed (whole ∙ e))
+          let e : readFull c body ≡ elim (fits c body) [ false ↦ faulty notTheSize | true ↦ points (contentAt c body) ] =
+          rw (le-ltb (length body) (pointsSize (c .points)) long, readFull) (rw u) in
+          ap toSpecSurvey q ∙ go (fits c body) ∙ sym (ap surveyed (whole ∙ e))
         where
           go : (b : Bool)
-              → surveyForm (elim b [
+              → toSpecSurvey (elim b [
                 | true ↦ Survey.Points first (length (contentAt c body)) (fillOf c body)
                 | false ↦ Survey.Refused 29
               ])

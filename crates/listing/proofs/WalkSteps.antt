@@ -9,9 +9,9 @@ use Rattle.layout.specs.Reading.{Reading, unknown, faulty, points, Fault, fault
 use Rattle.listing.specs.Listing.{Record, recordOf, Answer, refused, listed, withRecords, walk}
 
 -- With no records in front an answer is as it was.
-none-in-front : (answer : Answer) → withRecords [] answer ≡ answer
-none-in-front (refused number place headers) = refl
-none-in-front (listed rs headers) = refl
+none-prepended : (answer : Answer) → withRecords [] answer ≡ answer
+none-prepended (refused number place headers) = refl
+none-prepended (listed rs headers) = refl
 
 -- No answer is both a refusal and a list.
 pub not-listed : {A : Type 0} {number place models headers : ℕ} {rs : List Record}
@@ -19,19 +19,19 @@ pub not-listed : {A : Type 0} {number place models headers : ℕ} {rs : List Rec
 not-listed e = impossible (cc)
 
 -- With records in front an answer lists these and what it lists.
-pub in-front-listed : (front : List Record) (answer : Answer) (rs : List Record) (headers : ℕ)
-    → withRecords front answer ≡ listed rs headers
-    → (ss : List Record) × (answer ≡ listed ss headers) × (rs ≡ front ++ ss)
-in-front-listed front (refused number place models) rs headers e = not-listed e
-in-front-listed front (listed ss n) rs headers e = (ss, ap (λ k. listed ss k) cc, cc)
+pub prepended-listed : (preceding : List Record) (answer : Answer) (rs : List Record) (headers : ℕ)
+    → withRecords preceding answer ≡ listed rs headers
+    → (ss : List Record) × (answer ≡ listed ss headers) × (rs ≡ preceding ++ ss)
+prepended-listed preceding (refused number place models) rs headers e = not-listed e
+prepended-listed preceding (listed ss n) rs headers e = (ss, ap (λ k. listed ss k) cc, cc)
 
 -- A model with an index at an address, by what is read of it, in front of the answer from behind it on.
 abbrev pub withModel : Reading → ℕ → ℕ → Model → Answer → Answer
-withModel r index at m behind =
+withModel r index at m following =
     elim r [
-      | unknown ↦ behind
+      | unknown ↦ following
       | faulty fault ↦ refused (faultNumber fault) at index
-      | points ps ↦ withRecords (map (recordOf index at (m .id)) ps) behind
+      | points ps ↦ withRecords (map (recordOf index at (m .id)) ps) following
     ]
 
 -- A walk is its first model in front of the walk behind it.
@@ -49,7 +49,7 @@ module _ (read : Model → Reading) (ending : Ending) (index at : ℕ) (m : Mode
 
   pub walk-no-records : read m ≡ unknown
       → walk read ending index at (m ∷ ms) ≡ withRecords [] (walk read ending (index + 1) (at + sizeOf m) ms)
-  walk-no-records e = walk-unknown e ∙ sym (none-in-front (walk read ending (index + 1) (at + sizeOf m) ms))
+  walk-no-records e = walk-unknown e ∙ sym (none-prepended (walk read ending (index + 1) (at + sizeOf m) ms))
 
   -- A faulty one is refused.
   pub walk-faulty : {fault : Fault} → read m ≡ faulty fault

@@ -9,7 +9,7 @@ use lib.ListN.{length, getD, drop, set, length-append, length-map}
 use lib.Seq.{sets, drop-cons, length-sets}
 use Rattle.layout.specs.Points.{ModelPoint}
 use Rattle.listing.specs.Listing.{Record, recordNumbers, recordWidth, entries}
-use Rattle.listing.specs.Promises.{recordAt, written}
+use Rattle.listing.specs.InternalContracts.{recordAt, written}
 use Rattle.listing.specs.declared.records.Visit.{Visit}
 
 -- ---- Runs of stores

@@ -41,13 +41,13 @@ abbrev pub targetOf : Record → Target
 targetOf r = record { address = r .address; definition = r .point .definition; raw = r .point .raw }
 
 -- What is returned of what finding results in: of a record only what a write needs of it.
-pub data Told : Type 0 where
-  refusedTold : ℕ → ℕ → Told
-  nothingTold : Told
-  foundTold : Target → Told
+pub data Result : Type 0 where
+  refusedResult : ℕ → ℕ → Result
+  nothingResult : Result
+  foundResult : Target → Result
 
 -- The refusal with its place, that there is no such point, or the point.
-abbrev pub told : Finding → Told
-told (refused n place) = refusedTold n place
-told nothing = nothingTold
-told (found r) = foundTold (targetOf r)
+abbrev pub result : Finding → Result
+result (refused n place) = refusedResult n place
+result nothing = nothingResult
+result (found r) = foundResult (targetOf r)

@@ -1,4 +1,4 @@
 pub mod Listing
 pub mod Finding
-pub mod Answers
-pub mod Promises
+pub mod CodeTypes
+pub mod InternalContracts

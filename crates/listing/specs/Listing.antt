@@ -82,14 +82,14 @@ allRecords catalog map =
     ]
 
 -- 30: the list has fewer than ten entries a point; its place is the number of points.
-unfoldable pub withRoom : ℕ → Answer → Answer
-withRoom room (refused number place headers) = refused number place headers
-withRoom room (listed rs headers) =
-    elim (ltb room (recordWidth * length rs)) [ true ↦ refused 30 (length rs) headers | false ↦ listed rs headers ]
+unfoldable pub withCapacity : ℕ → Answer → Answer
+withCapacity capacity (refused number place headers) = refused number place headers
+withCapacity capacity (listed rs headers) =
+    elim (ltb capacity (recordWidth * length rs)) [ true ↦ refused 30 (length rs) headers | false ↦ listed rs headers ]
 
 -- Listing a map by a catalog, into a list of so many entries: 30 last.
 unfoldable pub listing : List ℕ → List ℕ → ℕ → Answer
-listing catalog map room = withRoom room (allRecords catalog map)
+listing catalog map capacity = withCapacity capacity (allRecords catalog map)
 
 -- ---- The answer and the output list
 
@@ -109,11 +109,11 @@ stored (refused number place headers) out = out
 stored (listed rs headers) out = entries rs ++ drop (recordWidth * length rs) out
 
 -- What listing answers of what it finds: the count of points and of headers, or the refusal.
-pub data Told : Type 0 where
-  refusedTold : ℕ → ℕ → ℕ → Told
-  listedTold : ℕ → ℕ → Told
+pub data Result : Type 0 where
+  refusedResult : ℕ → ℕ → ℕ → Result
+  listedResult : ℕ → ℕ → Result
 
 -- The counts, or the refusal, of what it finds.
-abbrev pub told : Answer → Told
-told (refused number place headers) = refusedTold number place headers
-told (listed rs headers) = listedTold (length rs) headers
+abbrev pub result : Answer → Result
+result (refused number place headers) = refusedResult number place headers
+result (listed rs headers) = listedResult (length rs) headers

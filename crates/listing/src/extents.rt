@@ -9,9 +9,9 @@ use group_instances::count_of;
 use group_instances::is_unimplemented;
 ghost use mathlib.Core.Path.{_≡_};
 ghost use Prim.Native.Nat.{_+_, _*_, _≤_, min};
-ghost use Rattle.catalog_frames.specs.Forms.{headForm};
-ghost use Rattle.layout.specs.Walks.{heldAt, pastEnd, scopeIn, IsTable, AtGroups};
-ghost use Rattle.listing.specs.Promises.{ExtentOf, SameExtent, WithGroup};
+ghost use Rattle.catalog_frames.specs.CodeTypes.{toSpecHead};
+ghost use Rattle.layout.specs.InternalWalks.{contentFrom, pastEnd, scopeIn, IsTable, AtGroups};
+ghost use Rattle.listing.specs.InternalContracts.{ExtentOf, SameExtent, WithGroup};
 
 // Nested counts can make a size of more than 64 bits. No map has more registers than this, so sizes and
 // numbers of points are capped at it.
@@ -34,7 +34,7 @@ pub(crate) fn groups_extent(catalog: &[u16], table: &[u16], levels: usize, first
     requires { ⌜ AtGroups (now catalog) first levels ⌝ }
     requires { ⌜ IsTable (now table) ⌝ }
     requires { ⌜ levels ≤ 3 ⌝ }
-    ensures { λ r. ⌜ ExtentOf (scopeIn (now (table .entry))) (heldAt (now (catalog .entry)) first .groups) r ⌝ }
+    ensures { λ r. ⌜ ExtentOf (scopeIn (now (table .entry))) (contentFrom (now (catalog .entry)) first .groups) r ⌝ }
     ensures { λ r. ⌜ r .next ≡ pastEnd (now (catalog .entry)) first ⌝ }
 {
     let frames = catalog.len() / 8;
@@ -83,7 +83,7 @@ fn with_group(sum: Extent, table: &[u16], head: Head, run: Run, inside: Extent) 
     requires { ⌜ IsTable (now table) ⌝ }
     requires { ⌜ (sum .size ≤ 65536) × (sum .points ≤ 65536) × (inside .size ≤ 65536) × (inside .points ≤ 65536) ⌝ }
     requires { ⌜ (run .size ≤ 268435456) × (run .points ≤ 4096) ⌝ }
-    ensures { λ r. ⌜ WithGroup sum (scopeIn (now (table .entry))) (headForm head) run inside r ⌝ }
+    ensures { λ r. ⌜ WithGroup sum (scopeIn (now (table .entry))) (toSpecHead head) run inside r ⌝ }
 {
     let size = grown(run.size, 1, inside.size);
     let points = grown(run.points, 1, inside.points);

@@ -5,9 +5,9 @@ ghost use mathlib.Core.Path.{_≡_};
 ghost use Rattle.catalog_frames.specs.Frames.{frameIn};
 ghost use Rattle.model_definitions.specs.Definitions.{definitions};
 ghost use Rattle.layout.specs.Reading.{topOf};
-ghost use Rattle.layout.specs.Walks.{Accepted, isModelOf};
-ghost use Rattle.listing.specs.Answers.{foundForm};
-ghost use Rattle.listing.specs.Promises.{FoundStands};
+ghost use Rattle.layout.specs.InternalWalks.{Accepted, isModelOf};
+ghost use Rattle.listing.specs.CodeTypes.{toSpecFound};
+ghost use Rattle.listing.specs.InternalContracts.{FoundParses};
 
 // Where a definition begins: the frame behind its model frame. Or the catalog lacks it.
 pub(crate) enum Found {
@@ -18,8 +18,8 @@ pub(crate) enum Found {
 // Where the definition of an id begins, if the catalog has it. The search takes the frames in order.
 pub(crate) fn find_model(catalog: &[u16], id: u16) -> Found
     requires { ⌜ Accepted (now catalog) ⌝ }
-    ensures { λ r. ⌜ foundForm (now (catalog .entry)) r ≡ topOf id (definitions (now (catalog .entry))) ⌝ }
-    ensures { λ r. ⌜ FoundStands (now (catalog .entry)) r ⌝ }
+    ensures { λ r. ⌜ toSpecFound (now (catalog .entry)) r ≡ topOf id (definitions (now (catalog .entry))) ⌝ }
+    ensures { λ r. ⌜ FoundParses (now (catalog .entry)) r ⌝ }
 {
     let frames = catalog.len() / 8;
     let mut i = 0;

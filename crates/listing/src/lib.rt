@@ -34,10 +34,10 @@ ghost use lib.ListN as Lists;
 ghost use Rattle.model_definitions.specs.Definitions.{definitions};
 ghost use Rattle.register_map.specs.Headers.{opening};
 ghost use Rattle.layout.specs.Reading.{reading};
-ghost use Rattle.layout.specs.Walks.{Accepted, IsTable, pointsOf, readIn};
+ghost use Rattle.layout.specs.InternalWalks.{Accepted, IsTable, pointsOf, readIn};
 ghost use Rattle.listing.specs.Listing as Listings;
-ghost use Rattle.listing.specs.Answers.{answer};
-ghost use Rattle.listing.specs.Promises.{written, bodyAt, WalkFits};
+ghost use Rattle.listing.specs.CodeTypes.{toSpecListing};
+ghost use Rattle.listing.specs.InternalContracts.{written, bodyAt, WalkFits};
 
 // What `list` answers: the points and the headers; or the number of a refusal, its place and the headers
 // before it.
@@ -58,7 +58,7 @@ pub enum Listing {
 // times the frames of the catalog: each model's id is searched for in the catalog, each instance takes the
 // frames of its group anew, and nothing is searched for each point.
 pub fn list(catalog: &[u16], map: &[u16], out: &mut [u64]) -> Listing
-    ensures { λ r. ⌜ answer r ≡ Listings.told (Listings.listing (now (catalog .entry)) (now (map .entry)) (length (now (out .entry)))) ⌝ }
+    ensures { λ r. ⌜ toSpecListing r ≡ Listings.result (Listings.listing (now (catalog .entry)) (now (map .entry)) (length (now (out .entry)))) ⌝ }
     ensures { λ _. ⌜ now (out .exit) ≡ Listings.stored (Listings.listing (now (catalog .entry)) (now (map .entry)) (length (now (out .entry)))) (now (out .entry)) ⌝ }
 {
     let mut table = [0u16; NUMBERS];
@@ -82,7 +82,7 @@ pub fn list(catalog: &[u16], map: &[u16], out: &mut [u64]) -> Listing
 // 1 to 29, or the points of all known models and the headers: a walk over the headers that writes nothing.
 fn survey_plant(catalog: &[u16], map: &[u16], table: &mut [u16]) -> Listing
     requires { ⌜ IsTable (now table) ⌝ }
-    ensures { λ r. ⌜ answer r ≡ Listings.told (Listings.allRecords (now (catalog .entry)) (now (map .entry))) ⌝ }
+    ensures { λ r. ⌜ toSpecListing r ≡ Listings.result (Listings.allRecords (now (catalog .entry)) (now (map .entry))) ⌝ }
     ensures { λ _. ⌜ IsTable (now (table .exit)) ⌝ }
 {
     let checked = check(catalog);
@@ -96,7 +96,7 @@ fn survey_plant(catalog: &[u16], map: &[u16], table: &mut [u16]) -> Listing
 fn survey_checked(catalog: &[u16], map: &[u16], table: &mut [u16]) -> Listing
     requires { ⌜ Accepted (now catalog) ⌝ }
     requires { ⌜ IsTable (now table) ⌝ }
-    ensures { λ r. ⌜ answer r ≡ Listings.told (Listings.recordsBy (reading (definitions (now (catalog .entry)))) (now (map .entry))) ⌝ }
+    ensures { λ r. ⌜ toSpecListing r ≡ Listings.result (Listings.recordsBy (reading (definitions (now (catalog .entry)))) (now (map .entry))) ⌝ }
     ensures { λ _. ⌜ IsTable (now (table .exit)) ⌝ }
 {
     let opening = opened(map);
@@ -111,7 +111,7 @@ fn survey_map(catalog: &[u16], map: &[u16], table: &mut [u16]) -> Listing
     requires { ⌜ Accepted (now catalog) ⌝ }
     requires { ⌜ opening (now map) ≡ none ⌝ }
     requires { ⌜ IsTable (now table) ⌝ }
-    ensures { λ r. ⌜ answer r ≡ Listings.told (Listings.walked (reading (definitions (now (catalog .entry)))) (now (map .entry))) ⌝ }
+    ensures { λ r. ⌜ toSpecListing r ≡ Listings.result (Listings.walked (reading (definitions (now (catalog .entry)))) (now (map .entry))) ⌝ }
     ensures { λ _. ⌜ IsTable (now (table .exit)) ⌝ }
 {
     let mut at = FIRST_HEADER;
@@ -156,7 +156,7 @@ fn after_model(at: usize, length: u16) -> usize
 
 // A refusal.
 fn refused(number: u16, place: usize, headers: usize) -> Listing
-    ensures { λ r. ⌜ answer r ≡ Listings.refusedTold number place headers ⌝ }
+    ensures { λ r. ⌜ toSpecListing r ≡ Listings.refusedResult number place headers ⌝ }
 {
     Listing::Refused {
         number,

@@ -18,12 +18,12 @@ ghost use Prim.Native.Nat.{_+_, _-_, _/_, _≤_};
 ghost use lib.ListN.{length};
 ghost use lib.ListN as Lists;
 ghost use Rattle.catalog_frames.specs.Frames.{frameIn};
-ghost use Rattle.catalog_frames.specs.Forms.{headForm};
+ghost use Rattle.catalog_frames.specs.CodeTypes.{toSpecHead};
 ghost use Rattle.layout.specs.Layout.{countOf};
-ghost use Rattle.layout.specs.Walks.{heldAt, Stands, headOf, levelOf, scopeIn, begun, IsTable, AtGroups};
+ghost use Rattle.layout.specs.InternalWalks.{contentFrom, ParsesAt, headOf, levelOf, scopeIn, presentWithin, IsTable, AtGroups};
 ghost use Rattle.layout.specs.Locating.{locatedAmong, locatedOwn, locatedIn};
-ghost use Rattle.listing.specs.Answers.{locatedForm};
-ghost use Rattle.listing.specs.Promises.{ModelAsks, locatedWithin, LocateAsks, ShapeOf};
+ghost use Rattle.listing.specs.CodeTypes.{toSpecLocated};
+ghost use Rattle.listing.specs.InternalContracts.{ModelAsks, locatedWithin, LocateAsks, ShapeOf};
 
 // What is searched for in a model: a point's number and its instance path.
 pub(crate) struct Key {
@@ -61,7 +61,7 @@ pub(crate) fn locate_model(
 ) -> Located
     requires { ⌜ ModelAsks (now catalog) (now table) length first fill ⌝ }
     requires { ⌜ Lists.length (key .path .instances) ≡ 3 ⌝ }
-    ensures { λ r. ⌜ locatedForm r ≡ locatedWithin (countOf (scopeIn (now (table .entry))) fill) (key .number) (key .path .instances) length (heldAt (now (catalog .entry)) first) ⌝ }
+    ensures { λ r. ⌜ toSpecLocated r ≡ locatedWithin (countOf (scopeIn (now (table .entry))) fill) (key .number) (key .path .instances) length (contentFrom (now (catalog .entry)) first) ⌝ }
 {
     let top = Position {
         frame: first,
@@ -101,7 +101,7 @@ fn locate_groups(
 ) -> Located
     requires { ⌜ LocateAsks (now catalog) (now table) fill levels (start .frame) (start .offset) ⌝ }
     requires { ⌜ length (key .path .instances) ≡ 3 ⌝ }
-    ensures { λ r. ⌜ locatedForm r ≡ locatedIn (countOf (scopeIn (now (table .entry))) fill) (key .number) (key .path .instances) (levelOf levels) (start .offset) (heldAt (now (catalog .entry)) (start .frame) .groups) ⌝ }
+    ensures { λ r. ⌜ toSpecLocated r ≡ locatedIn (countOf (scopeIn (now (table .entry))) fill) (key .number) (key .path .instances) (levelOf levels) (start .offset) (contentFrom (now (catalog .entry)) (start .frame) .groups) ⌝ }
 {
     let frames = catalog.len() / 8;
     let mut at = start;
@@ -151,8 +151,8 @@ fn shape_of(
 ) -> Shape
     requires { ⌜ AtGroups (now catalog) frame levels ⌝ }
     requires { ⌜ IsTable (now table) × (levels ≤ 3) × (fill ≤ 65535) ⌝ }
-    requires { ⌜ headOf (frameIn (now catalog) frame) ≡ some (headForm head) ⌝ }
-    ensures { λ r. ⌜ ShapeOf (now (catalog .entry)) (countOf (scopeIn (now (table .entry))) fill) (headForm head) frame r ⌝ }
+    requires { ⌜ headOf (frameIn (now catalog) frame) ≡ some (toSpecHead head) ⌝ }
+    ensures { λ r. ⌜ ShapeOf (now (catalog .entry)) (countOf (scopeIn (now (table .entry))) fill) (toSpecHead head) frame r ⌝ }
 {
     let run = run_extent(catalog, frame + 1);
     let inside = groups_extent(catalog, table, levels - 1, run.next);
@@ -168,9 +168,9 @@ fn shape_of(
 // Looks for the point among the own points of an instance that may hold groups of `levels` levels. They have the instance
 // number 0 at every deeper level.
 fn locate_own(catalog: &[u16], start: Position, limit: usize, levels: usize, key: Key) -> Located
-    requires { ⌜ Stands (now catalog) (start .frame) × (length (now catalog) / 8 ≤ 4096) ⌝ }
+    requires { ⌜ ParsesAt (now catalog) (start .frame) × (length (now catalog) / 8 ≤ 4096) ⌝ }
     requires { ⌜ (limit ≤ 65536) × (levels ≤ 3) × (length (key .path .instances) ≡ 3) ⌝ }
-    ensures { λ r. ⌜ locatedForm r ≡ locatedOwn (key .number) (key .path .instances) (4 - levels) (start .offset) (begun limit (start .offset) (heldAt (now (catalog .entry)) (start .frame) .points)) ⌝ }
+    ensures { λ r. ⌜ toSpecLocated r ≡ locatedOwn (key .number) (key .path .instances) (4 - levels) (start .offset) (presentWithin limit (start .offset) (contentFrom (now (catalog .entry)) (start .frame) .points)) ⌝ }
 {
     if is_zero_from(key.path, LOWER_LEVELS - levels) {
         return locate_run(catalog, start, limit, key.number);
@@ -181,9 +181,9 @@ fn locate_own(catalog: &[u16], start: Position, limit: usize, levels: usize, key
 // Looks for the point with a number among the points from a frame on. Ends at offset `limit`, so that a pad that is
 // left out is not found.
 fn locate_run(catalog: &[u16], start: Position, limit: usize, number: u16) -> Located
-    requires { ⌜ Stands (now catalog) (start .frame) × (length (now catalog) / 8 ≤ 4096) ⌝ }
+    requires { ⌜ ParsesAt (now catalog) (start .frame) × (length (now catalog) / 8 ≤ 4096) ⌝ }
     requires { ⌜ limit ≤ 65536 ⌝ }
-    ensures { λ r. ⌜ locatedForm r ≡ locatedAmong number (start .offset) (begun limit (start .offset) (heldAt (now (catalog .entry)) (start .frame) .points)) ⌝ }
+    ensures { λ r. ⌜ toSpecLocated r ≡ locatedAmong number (start .offset) (presentWithin limit (start .offset) (contentFrom (now (catalog .entry)) (start .frame) .points)) ⌝ }
 {
     let mut at = start;
     while at.offset < limit {

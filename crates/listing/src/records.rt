@@ -8,7 +8,7 @@ use definition_frames::point_at;
 use group_instances::InstancePath;
 use group_instances::LOWER_LEVELS;
 use group_instances::count_of;
-use group_instances::note_run;
+use group_instances::record_run;
 use group_instances::with_number;
 use register_map::body_address;
 use registers::part;
@@ -20,12 +20,12 @@ ghost use lib.ListN.{length, set};
 ghost use lib.Seq.{sets};
 ghost use Rattle.model_definitions.specs.Definitions.{groupFrames};
 ghost use Rattle.model_definitions.specs.Soundness as Soundness;
-ghost use Rattle.catalog_frames.specs.Forms.{pointForm};
+ghost use Rattle.catalog_frames.specs.CodeTypes.{toSpecPoint};
 ghost use Rattle.layout.specs.Points.{pointAt};
 ghost use Rattle.layout.specs.Layout.{within, countOf, pointsAt, groupsAt};
-ghost use Rattle.layout.specs.Walks.{heldAt, Accepted, levelOf, scopeIn, instanceIn, noted, IsTable, Elsewhere, pointsOf, HasPoints, Ready, readIn, begunAt};
+ghost use Rattle.layout.specs.InternalWalks.{contentFrom, Accepted, levelOf, scopeIn, instanceIn, tableWith, IsTable, AgreeExcept, pointsOf, HasPoints, Ready, readIn, presentPoints};
 ghost use Rattle.listing.specs.Listing.{recordWidth};
-ghost use Rattle.listing.specs.Promises.{written, PointFits, RunAsks, BehindRun, GroupsAsk, BehindGroups};
+ghost use Rattle.listing.specs.InternalContracts.{written, PointFits, RunAsks, AfterRun, GroupsAsk, AfterGroups};
 
 // The numbers of a record.
 pub const WIDTH: usize = 10;
@@ -116,9 +116,9 @@ fn put_run(
     start: Progress,
 ) -> Progress
     requires { ⌜ IsTable (now table) × (length (instance .path .instances) ≡ 3) ⌝ }
-    requires { ⌜ RunAsks (now catalog) (now body) (now out) visit start (begunAt (now catalog) (now body) (start .offset) (start .frame)) ⌝ }
-    ensures { λ r. ⌜ BehindRun start (begunAt (now (catalog .entry)) (now (body .entry)) (start .offset) (start .frame)) r ⌝ }
-    ensures { λ _. ⌜ now (out .exit) ≡ written visit (start .records) (pointsAt (now (body .entry)) (instanceIn (now (table .entry)) (instance .path .instances)) (start .offset) (begunAt (now (catalog .entry)) (now (body .entry)) (start .offset) (start .frame))) (now (out .entry)) ⌝ }
+    requires { ⌜ RunAsks (now catalog) (now body) (now out) visit start (presentPoints (now catalog) (now body) (start .offset) (start .frame)) ⌝ }
+    ensures { λ r. ⌜ AfterRun start (presentPoints (now (catalog .entry)) (now (body .entry)) (start .offset) (start .frame)) r ⌝ }
+    ensures { λ _. ⌜ now (out .exit) ≡ written visit (start .records) (pointsAt (now (body .entry)) (instanceIn (now (table .entry)) (instance .path .instances)) (start .offset) (presentPoints (now (catalog .entry)) (now (body .entry)) (start .offset) (start .frame))) (now (out .entry)) ⌝ }
 {
     let mut at = start;
     while at.offset < body.len() {
@@ -151,9 +151,9 @@ fn put_groups(
     start: Progress,
 ) -> Progress
     requires { ⌜ GroupsAsk (now catalog) (now body) (now table) (now out) (model .visit) (model .fill) levels (instance .path .instances) start ⌝ }
-    ensures { λ r. ⌜ BehindGroups (heldAt (now (catalog .entry)) (start .frame) .groups) (countOf (scopeIn (now (table .entry))) (model .fill)) start r ⌝ }
-    ensures { λ _. ⌜ now (out .exit) ≡ written (model .visit) (start .records) (groupsAt (now (body .entry)) (countOf (scopeIn (now (table .entry))) (model .fill)) (levelOf levels) (instanceIn (now (table .entry)) (instance .path .instances)) (start .offset) (heldAt (now (catalog .entry)) (start .frame) .groups)) (now (out .entry)) ⌝ }
-    ensures { λ _. ⌜ Elsewhere (Soundness.numbersOf (groupFrames (heldAt (now (catalog .entry)) (start .frame) .groups))) (now (table .entry)) (now (table .exit)) ⌝ }
+    ensures { λ r. ⌜ AfterGroups (contentFrom (now (catalog .entry)) (start .frame) .groups) (countOf (scopeIn (now (table .entry))) (model .fill)) start r ⌝ }
+    ensures { λ _. ⌜ now (out .exit) ≡ written (model .visit) (start .records) (groupsAt (now (body .entry)) (countOf (scopeIn (now (table .entry))) (model .fill)) (levelOf levels) (instanceIn (now (table .entry)) (instance .path .instances)) (start .offset) (contentFrom (now (catalog .entry)) (start .frame) .groups)) (now (out .entry)) ⌝ }
+    ensures { λ _. ⌜ AgreeExcept (Soundness.numbersOf (groupFrames (contentFrom (now (catalog .entry)) (start .frame) .groups))) (now (table .entry)) (now (table .exit)) ⌝ }
     ensures { λ _. ⌜ IsTable (now (table .exit)) ⌝ }
 {
     let frames = catalog.len() / 8;
@@ -191,10 +191,10 @@ fn put_own(
     at: Progress,
 ) -> Progress
     requires { ⌜ IsTable (now table) × (length (instance .path .instances) ≡ 3) ⌝ }
-    requires { ⌜ RunAsks (now catalog) (now body) (now out) visit (record { records = at .records; offset = at .offset; frame = at .frame + 1 }) (heldAt (now catalog) (at .frame + 1) .points) ⌝ }
-    ensures { λ r. ⌜ BehindRun (record { records = at .records; offset = at .offset; frame = at .frame + 1 }) (heldAt (now (catalog .entry)) (at .frame + 1) .points) r ⌝ }
-    ensures { λ _. ⌜ now (out .exit) ≡ written visit (at .records) (pointsAt (now (body .entry)) (record { scope = within (now (body .entry)) (at .offset) (heldAt (now (catalog .entry)) (at .frame + 1) .points) (scopeIn (now (table .entry))); path = instance .path .instances }) (at .offset) (heldAt (now (catalog .entry)) (at .frame + 1) .points)) (now (out .entry)) ⌝ }
-    ensures { λ _. ⌜ now (table .exit) ≡ noted (now (body .entry)) (at .offset) (heldAt (now (catalog .entry)) (at .frame + 1) .points) (now (table .entry)) ⌝ }
+    requires { ⌜ RunAsks (now catalog) (now body) (now out) visit (record { records = at .records; offset = at .offset; frame = at .frame + 1 }) (contentFrom (now catalog) (at .frame + 1) .points) ⌝ }
+    ensures { λ r. ⌜ AfterRun (record { records = at .records; offset = at .offset; frame = at .frame + 1 }) (contentFrom (now (catalog .entry)) (at .frame + 1) .points) r ⌝ }
+    ensures { λ _. ⌜ now (out .exit) ≡ written visit (at .records) (pointsAt (now (body .entry)) (record { scope = within (now (body .entry)) (at .offset) (contentFrom (now (catalog .entry)) (at .frame + 1) .points) (scopeIn (now (table .entry))); path = instance .path .instances }) (at .offset) (contentFrom (now (catalog .entry)) (at .frame + 1) .points)) (now (out .entry)) ⌝ }
+    ensures { λ _. ⌜ now (table .exit) ≡ tableWith (now (body .entry)) (at .offset) (contentFrom (now (catalog .entry)) (at .frame + 1) .points) (now (table .entry)) ⌝ }
 {
     let inside = at.frame + 1;
     let first = Progress {
@@ -202,7 +202,7 @@ fn put_own(
         offset: at.offset,
         frame: inside,
     };
-    note_run(catalog, inside, body, at.offset, table);
+    record_run(catalog, inside, body, at.offset, table);
     put_run(catalog, table, out, visit, body, instance, first)
 }
 
@@ -239,9 +239,9 @@ fn put_record(
     point: Point,
 )
     requires { ⌜ IsTable (now table) × (length (instance .path .instances) ≡ 3) ⌝ }
-    requires { ⌜ PointFits (now body) (at .offset) visit (pointForm point) ⌝ }
+    requires { ⌜ PointFits (now body) (at .offset) visit (toSpecPoint point) ⌝ }
     requires { ⌜ recordWidth * (at .records + 1) ≤ length (now out) ⌝ }
-    ensures { λ _. ⌜ now (out .exit) ≡ written visit (at .records) (pointAt (now (body .entry)) (instanceIn (now (table .entry)) (instance .path .instances)) (at .offset) (pointForm point) ∷ []) (now (out .entry)) ⌝ }
+    ensures { λ _. ⌜ now (out .exit) ≡ written visit (at .records) (pointAt (now (body .entry)) (instanceIn (now (table .entry)) (instance .path .instances)) (at .offset) (toSpecPoint point) ∷ []) (now (out .entry)) ⌝ }
 {
     let path = instance.path.instances;
     let registers = part(body, at.offset, point.size as usize);

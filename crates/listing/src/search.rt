@@ -23,15 +23,15 @@ ghost use Prim.Native.Nat.{_≤_};
 ghost use lib.ListN.{length};
 ghost use Rattle.lists.specs.Tests.{firstWith};
 ghost use Rattle.model_definitions.specs.Definitions.{definitions};
-ghost use Rattle.catalog_frames.specs.Forms.{pointForm};
+ghost use Rattle.catalog_frames.specs.CodeTypes.{toSpecPoint};
 ghost use Rattle.register_map.specs.Headers.{opening};
 ghost use Rattle.layout.specs.Paths.{isPoint};
 ghost use Rattle.layout.specs.Reading.{reading};
-ghost use Rattle.layout.specs.Walks.{Accepted, IsTable, pointsOf, readIn};
+ghost use Rattle.layout.specs.InternalWalks.{Accepted, IsTable, pointsOf, readIn};
 ghost use Rattle.listing.specs.Listing as Listings;
 ghost use Rattle.listing.specs.Finding as Findings;
-ghost use Rattle.listing.specs.Answers.{targetForm, findingForm};
-ghost use Rattle.listing.specs.Promises.{targetAt, resultAt, IsListed};
+ghost use Rattle.listing.specs.CodeTypes.{toSpecTarget, toSpecFinding};
+ghost use Rattle.listing.specs.InternalContracts.{targetAt, resultAt, IsListed};
 
 // A point: its address, its definition in the catalog, and its raw value (0 if it takes over four registers).
 pub struct Target {
@@ -49,7 +49,7 @@ pub enum Finding {
 
 // Finds a point. All refusals are decided before, as for listing; then the point is located in its model.
 pub fn find(catalog: &[u16], map: &[u16], model: usize, point: u16, path: InstancePath) -> Finding
-    ensures { λ r. ⌜ findingForm r ≡ Findings.told (Findings.finding (now (catalog .entry)) (now (map .entry)) model point (path .instances)) ⌝ }
+    ensures { λ r. ⌜ toSpecFinding r ≡ Findings.result (Findings.finding (now (catalog .entry)) (now (map .entry)) model point (path .instances)) ⌝ }
 {
     let mut table = [0u16; NUMBERS];
     let survey = survey_plant(catalog, map, &mut table);
@@ -71,7 +71,7 @@ fn search_map(catalog: &[u16], map: &[u16], table: &mut [u16], model: usize, key
     requires { ⌜ opening (now map) ≡ none ⌝ }
     requires { ⌜ IsTable (now table) × (length (key .path .instances) ≡ 3) ⌝ }
     requires { ⌜ IsListed (Listings.walked (reading (definitions (now catalog))) (now map)) ⌝ }
-    ensures { λ r. ⌜ findingForm r ≡ Findings.told (Findings.findingIn model (key .number) (key .path .instances) (Listings.walked (reading (definitions (now (catalog .entry)))) (now (map .entry)))) ⌝ }
+    ensures { λ r. ⌜ toSpecFinding r ≡ Findings.result (Findings.findingIn model (key .number) (key .path .instances) (Listings.walked (reading (definitions (now (catalog .entry)))) (now (map .entry)))) ⌝ }
 {
     let mut at = FIRST_HEADER;
     let mut index = 0usize;
@@ -105,7 +105,7 @@ fn search_model(
     requires { ⌜ Accepted (now catalog) ⌝ }
     requires { ⌜ IsTable (now table) × (length (key .path .instances) ≡ 3) ⌝ }
     requires { ⌜ (length (now body) ≤ 65535) × (at ≤ 65536) ⌝ }
-    ensures { λ r. ⌜ findingForm r ≡ resultAt at (firstWith (isPoint (key .number) (key .path .instances)) (pointsOf (readIn (now (catalog .entry)) id (now (body .entry))))) ⌝ }
+    ensures { λ r. ⌜ toSpecFinding r ≡ resultAt at (firstWith (isPoint (key .number) (key .path .instances)) (pointsOf (readIn (now (catalog .entry)) id (now (body .entry))))) ⌝ }
 {
     let survey = survey_model(catalog, table, id, body);
     match survey {
@@ -128,7 +128,7 @@ fn search_model(
 // A point that was located in a body, in the model whose header is at address `at`.
 fn target_at(at: usize, body: &[u16], location: Location) -> Target
     requires { ⌜ (at ≤ 65536) × (location .offset ≤ 65536) ⌝ }
-    ensures { λ r. ⌜ targetForm r ≡ targetAt at (now (body .entry)) (record { offset = location .offset; definition = pointForm (location .point) }) ⌝ }
+    ensures { λ r. ⌜ toSpecTarget r ≡ targetAt at (now (body .entry)) (record { offset = location .offset; definition = toSpecPoint (location .point) }) ⌝ }
 {
     let point = location.point;
     Target {

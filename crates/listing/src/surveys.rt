@@ -9,16 +9,16 @@ use definition_frames::run_extent;
 use group_instances::Fill;
 use group_instances::LOWER_LEVELS;
 use group_instances::fill_count;
-use group_instances::note_run;
+use group_instances::record_run;
 ghost use mathlib.Core.Path.{_≡_};
 ghost use mathlib.Core.Option.{some};
 ghost use Prim.Native.Nat.{_+_, _≤_};
 ghost use lib.ListN.{length};
 ghost use Rattle.model_definitions.specs.Definitions.{definitions};
 ghost use Rattle.layout.specs.Reading.{readBy, topOf};
-ghost use Rattle.layout.specs.Walks.{heldAt, Stands, Accepted, IsTable, surveyed, readIn};
-ghost use Rattle.listing.specs.Answers.{surveyForm};
-ghost use Rattle.listing.specs.Promises.{ReadyBy, fittedBy};
+ghost use Rattle.layout.specs.InternalWalks.{contentFrom, ParsesAt, Accepted, IsTable, surveyed, readIn};
+ghost use Rattle.listing.specs.CodeTypes.{toSpecSurvey};
+ghost use Rattle.listing.specs.InternalContracts.{ReadyBy, fittedBy};
 
 // What a catalog says of a model: nothing where it lacks the id; a refusal (27 to 29); or the frame where its
 // definition begins, the number of its points and the count of its fill group.
@@ -36,7 +36,7 @@ pub(crate) enum Survey {
 pub(crate) fn survey_model(catalog: &[u16], table: &mut [u16], id: u16, body: &[u16]) -> Survey
     requires { ⌜ Accepted (now catalog) ⌝ }
     requires { ⌜ IsTable (now table) × (length (now body) ≤ 65535) ⌝ }
-    ensures { λ r. ⌜ surveyForm r ≡ surveyed (readIn (now (catalog .entry)) id (now (body .entry))) ⌝ }
+    ensures { λ r. ⌜ toSpecSurvey r ≡ surveyed (readIn (now (catalog .entry)) id (now (body .entry))) ⌝ }
     ensures { λ r. ⌜ ReadyBy (now (catalog .entry)) id (now (body .entry)) (now (table .exit)) r ⌝ }
     ensures { λ _. ⌜ IsTable (now (table .exit)) ⌝ }
 {
@@ -51,14 +51,14 @@ pub(crate) fn survey_model(catalog: &[u16], table: &mut [u16], id: u16, body: &[
 fn survey_known(catalog: &[u16], table: &mut [u16], id: u16, body: &[u16], first: usize) -> Survey
     requires { ⌜ Accepted (now catalog) ⌝ }
     requires { ⌜ IsTable (now table) × (length (now body) ≤ 65535) ⌝ }
-    requires { ⌜ Stands (now catalog) first × (topOf id (definitions (now catalog)) ≡ some (heldAt (now catalog) first)) ⌝ }
-    ensures { λ r. ⌜ surveyForm r ≡ surveyed (readBy id (heldAt (now (catalog .entry)) first) (now (body .entry))) ⌝ }
+    requires { ⌜ ParsesAt (now catalog) first × (topOf id (definitions (now catalog)) ≡ some (contentFrom (now catalog) first)) ⌝ }
+    ensures { λ r. ⌜ toSpecSurvey r ≡ surveyed (readBy id (contentFrom (now (catalog .entry)) first) (now (body .entry))) ⌝ }
     ensures { λ r. ⌜ ReadyBy (now (catalog .entry)) id (now (body .entry)) (now (table .exit)) r ⌝ }
     ensures { λ _. ⌜ IsTable (now (table .exit)) ⌝ }
 {
     let run = run_extent(catalog, first);
     if is_pad_left_out(catalog, id, run, body.len()) {
-        note_run(catalog, first, body, 0, table);
+        record_run(catalog, first, body, 0, table);
         return Survey::Points {
             first,
             points: run.points - 1,
@@ -68,7 +68,7 @@ fn survey_known(catalog: &[u16], table: &mut [u16], id: u16, body: &[u16], first
     if body.len() < run.size {
         return Survey::Refused(27);
     }
-    note_run(catalog, first, body, 0, table);
+    record_run(catalog, first, body, 0, table);
     let groups = groups_extent(catalog, table, LOWER_LEVELS, run.next);
     if groups.unimplemented {
         return Survey::Refused(28);

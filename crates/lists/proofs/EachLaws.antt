@@ -41,10 +41,10 @@ each-drop P (suc i) [] e = tt
 each-drop P (suc i) (x ∷ xs) e = each-drop P i xs (e .1)
 
 -- With one of them replaced.
-pub each-replaced : {A : Type 0} (P : A → Type 0) (front behind : List A) (x y : A) → (P x → P y) → Each P (front ++ x ∷ behind)
-    → Each P (front ++ y ∷ behind)
-each-replaced P [] behind x y f e = (f (e .0), e .1)
-each-replaced P (z ∷ front) behind x y f e = (e .0, each-replaced P front behind x y f (e .1))
+pub each-replaced : {A : Type 0} (P : A → Type 0) (preceding following : List A) (x y : A) → (P x → P y) → Each P (preceding ++ x ∷ following)
+    → Each P (preceding ++ y ∷ following)
+each-replaced P [] following x y f e = (f (e .0), e .1)
+each-replaced P (z ∷ preceding) following x y f e = (e .0, each-replaced P preceding following x y f (e .1))
 
 -- Of what is made of each.
 pub each-map : {A B : Type 0} (P : B → Type 0) (f : A → B) (xs : List A) → Each (λ x. P (f x)) xs → Each P (map f xs)

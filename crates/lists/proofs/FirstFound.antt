@@ -19,9 +19,9 @@ module _ {A : Type 0} (test : A → Bool) where
   found-here x xs e = rw (e, firstWith)
 
   -- and where it does not.
-  pub found-behind : (x : A) (xs : List A) → test x ≡ false → firstWith test (x ∷ xs) ≡ firstWith test xs
+  pub found-later : (x : A) (xs : List A) → test x ≡ false → firstWith test (x ∷ xs) ≡ firstWith test xs
   unfolding firstWith
-  found-behind x xs e = rw (e, firstWith)
+  found-later x xs e = rw (e, firstWith)
 
   -- What is found is one of the list, and the test holds of it.
   pub found-in : (xs : List A) (w : A) → firstWith test xs ≡ some w → In w xs × (test w ≡ true)
@@ -34,7 +34,7 @@ module _ {A : Type 0} (test : A → Bool) where
           let same : x ≡ w = cc (found-here x xs t) in
           (rw (← same) first, rw (← same) t)
       go false t rest =
-          let r = rest (sym (found-behind x xs t) ∙ e) in
+          let r = rest (sym (found-later x xs t) ∙ e) in
           (later (r .0), r .1)
 
   -- Where nothing is found, the test holds of none.
@@ -45,4 +45,4 @@ module _ {A : Type 0} (test : A → Bool) where
       go : (b : Bool) → test x ≡ b → (firstWith test xs ≡ none → Each (λ x. test x ≡ false) xs)
           → Each (λ x. test x ≡ false) (x ∷ xs)
       go true t rest = not-none (sym e ∙ found-here x xs t)
-      go false t rest = (t, rest (sym (found-behind x xs t) ∙ e))
+      go false t rest = (t, rest (sym (found-later x xs t) ∙ e))

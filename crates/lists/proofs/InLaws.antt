@@ -8,13 +8,13 @@ use Rattle.lists.proofs.EachLaws.{each-implied}
 
 module _ {A : Type 0} (x : A) where
   -- With others behind the list, or in front of it.
-  pub in-front : (xs ys : List A) → In x xs → In x (xs ++ ys)
-  in-front (y ∷ xs) ys first = first
-  in-front (y ∷ xs) ys (later i) = later (in-front xs ys i)
+  pub in-append-left : (xs ys : List A) → In x xs → In x (xs ++ ys)
+  in-append-left (y ∷ xs) ys first = first
+  in-append-left (y ∷ xs) ys (later i) = later (in-append-left xs ys i)
 
-  pub in-behind : (xs ys : List A) → In x ys → In x (xs ++ ys)
-  in-behind [] ys i = i
-  in-behind (y ∷ xs) ys i = later (in-behind xs ys i)
+  pub in-append-right : (xs ys : List A) → In x ys → In x (xs ++ ys)
+  in-append-right [] ys i = i
+  in-append-right (y ∷ xs) ys i = later (in-append-right xs ys i)
 
   -- One of two lists has it.
   pub in-either : (xs ys : List A) {B : Type 0} → In x (xs ++ ys) → (In x xs → B) → (In x ys → B) → B

@@ -8,7 +8,7 @@ use lib.ListN.{length}
 use Rattle.lists.specs.Each.{Pairwise}
 use Rattle.lists.specs.Members.{In, first, later}
 use Rattle.lists.specs.Tests.{firstWith}
-use Rattle.lists.proofs.FirstFound.{not-none, found-here, found-behind}
+use Rattle.lists.proofs.FirstFound.{not-none, found-here, found-later}
 
 module _ {A : Type 0} (R : A → A → Type 0) where
   -- Pairs behind pairs.
@@ -31,13 +31,13 @@ module _ {A : Type 0} (R : A → A → Type 0) where
   pairwise-length (x ∷ xs) (y ∷ ys) p = let e = pairwise-length xs ys (p .1) in omega arith
 
   -- The pair at one position.
-  pub pairwise-at : (front front′ : List A) (x y : A) (behind behind′ : List A) → length front ≡ length front′
-      → Pairwise R (front ++ x ∷ behind) (front′ ++ y ∷ behind′) → R x y
-  pairwise-at [] [] x y behind behind′ e p = p .0
-  pairwise-at [] (g ∷ front′) x y behind behind′ e p = absurd (omega arith)
-  pairwise-at (f ∷ front) [] x y behind behind′ e p = absurd (omega arith)
-  pairwise-at (f ∷ front) (g ∷ front′) x y behind behind′ e p =
-      pairwise-at front front′ x y behind behind′ (omega arith) (p .1)
+  pub pairwise-at : (preceding preceding′ : List A) (x y : A) (following following′ : List A) → length preceding ≡ length preceding′
+      → Pairwise R (preceding ++ x ∷ following) (preceding′ ++ y ∷ following′) → R x y
+  pairwise-at [] [] x y following following′ e p = p .0
+  pairwise-at [] (g ∷ preceding′) x y following following′ e p = absurd (omega arith)
+  pairwise-at (f ∷ preceding) [] x y following following′ e p = absurd (omega arith)
+  pairwise-at (f ∷ preceding) (g ∷ preceding′) x y following following′ e p =
+      pairwise-at preceding preceding′ x y following following′ (omega arith) (p .1)
 
   -- Where a test comes out the same on both sides of each pair, what it finds first is a pair.
   pub pairwise-found : (test : A → Bool) → ((x y : A) → R x y → test y ≡ test x) → (xs ys : List A) → Pairwise R xs ys
@@ -54,8 +54,8 @@ module _ {A : Type 0} (R : A → A → Type 0) where
           let here : x ≡ w = cc (found-here test x xs t) in
           (y, found-here test y ys (same x y (p .0) ∙ t), rw (← here) (p .0))
       go false t rest =
-          let r = rest (sym (found-behind test x xs t) ∙ e) in
-          (r .0, found-behind test y ys (same x y (p .0) ∙ t) ∙ r .1, r .2)
+          let r = rest (sym (found-later test x xs t) ∙ e) in
+          (r .0, found-later test y ys (same x y (p .0) ∙ t) ∙ r .1, r .2)
 
   -- What follows of each pair.
   pub pairwise-implied : (Q : A → A → Type 0) (xs ys : List A) → ((x y : A) → In x xs → R x y → Q x y) → Pairwise R xs ys

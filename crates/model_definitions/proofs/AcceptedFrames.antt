@@ -13,24 +13,24 @@ use Rattle.lists.proofs.TestOutcomes.{clash}
 use Rattle.lists.proofs.TestLaws.{none-broken}
 use Rattle.catalog_frames.specs.Frames.{Frame, modelFrame, groupFrame, pointFrame, endFrame, malformed, fill}
 use Rattle.catalog.specs.State.{OpenGroup, State, opened, withPoint, withGroup, closed, next}
-use Rattle.catalog.specs.Rules.{noModel, inTop, afterGroup, run, inReach, lacksContent, rules}
+use Rattle.catalog.specs.Rules.{noModel, inTop, afterGroup, run, pointsInScope, lacksContent, rules}
 use Rattle.catalog.specs.Checking.{accepted, checkFrom}
 use Rattle.model_definitions.specs.Soundness.{SoundPoint}
 use Rattle.model_definitions.proofs.AcceptedSteps.{accepted-step, accepted-end}
 use Rattle.model_definitions.proofs.SoundFrames.{sound-point, HeadUnbroken}
 
 -- With these groups open, and a fill group in the top group or not, the frames break no rule but perhaps 6, and close all groups.
-abbrev pub Standing : Bool → List OpenGroup → List Frame → Type 0
-Standing filled ls [] = noModel ls ≡ true
-Standing filled ls (modelFrame id ∷ fs) = (noModel ls ≡ true) × Standing false (opened ∷ []) fs
-Standing filled ls (groupFrame h ∷ fs) =
+abbrev pub RunAllowed : Bool → List OpenGroup → List Frame → Type 0
+RunAllowed filled ls [] = noModel ls ≡ true
+RunAllowed filled ls (modelFrame id ∷ fs) = (noModel ls ≡ true) × RunAllowed false (opened ∷ []) fs
+RunAllowed filled ls (groupFrame h ∷ fs) =
     (noModel ls || inTop ls && filled ≡ false)
     × HeadUnbroken ls h
-    × Standing (filled || eqb (h .countKind) fill) (withGroup ls) fs
-Standing filled ls (pointFrame p ∷ fs) =
-    (noModel ls || afterGroup ls ≡ false) × SoundPoint (inReach ls (p ∷ run fs)) p × Standing filled (withPoint p ls) fs
-Standing filled ls (endFrame ∷ fs) = (noModel ls ≡ false) × (lacksContent ls endFrame ≡ false) × Standing filled (closed ls) fs
-Standing filled ls (malformed ∷ fs) = ⊥
+    × RunAllowed (filled || eqb (h .countKind) fill) (withGroup ls) fs
+RunAllowed filled ls (pointFrame p ∷ fs) =
+    (noModel ls || afterGroup ls ≡ false) × SoundPoint (pointsInScope ls (p ∷ run fs)) p × RunAllowed filled (withPoint p ls) fs
+RunAllowed filled ls (endFrame ∷ fs) = (noModel ls ≡ false) × (lacksContent ls endFrame ≡ false) × RunAllowed filled (closed ls) fs
+RunAllowed filled ls (malformed ∷ fs) = ⊥
 
 -- Behind models with these ids, and these numbers in the open model, the frames do not break rule 6, and end with n models.
 abbrev pub Numbered : ℕ → List ℕ → List ℕ → List Frame → Type 0
@@ -46,7 +46,7 @@ Numbered n ids used (malformed ∷ fs) = Numbered n ids used fs
 
 -- Frames are accepted just where they stand in their places and are numbered.
 pub accepted-frames : (fs : List Frame) (s : State) (i n : ℕ)
-    → (checkFrom s i fs ≡ accepted n) ↔ (Standing (s .hasFill) (s .openGroups) fs × Numbered n (s .ids) (s .numbers) fs)
+    → (checkFrom s i fs ≡ accepted n) ↔ (RunAllowed (s .hasFill) (s .openGroups) fs × Numbered n (s .ids) (s .numbers) fs)
 accepted-frames [] s i n = accepted-end s i n
 accepted-frames (f ∷ fs) s i n =
     Iff·trans (accepted-step s i f fs n)
@@ -54,8 +54,8 @@ accepted-frames (f ∷ fs) s i n =
   where
     by-kind : (g : Frame)
         → (Each (λ r. r .0 ≡ false) (rules s g (run (g ∷ fs)))
-        × (Standing (next s g .hasFill) (next s g .openGroups) fs × Numbered n (next s g .ids) (next s g .numbers) fs))
-        ↔ (Standing (s .hasFill) (s .openGroups) (g ∷ fs) × Numbered n (s .ids) (s .numbers) (g ∷ fs))
+        × (RunAllowed (next s g .hasFill) (next s g .openGroups) fs × Numbered n (next s g .ids) (next s g .numbers) fs))
+        ↔ (RunAllowed (s .hasFill) (s .openGroups) (g ∷ fs) × Numbered n (s .ids) (s .numbers) (g ∷ fs))
     by-kind (modelFrame id) = (
       λ c. ((not-false (noModel (s .openGroups)) (c .0 .1 .0), c .1 .0), (c .0 .1 .1 .1 .0, c .1 .1)),
       λ w. ((refl, (ap not (w .0 .0), (refl, (w .1 .0, (refl, (refl, (refl, (refl, tt)))))))), (w .0 .1, w .1 .1)),
@@ -67,7 +67,7 @@ accepted-frames (f ∷ fs) s i n =
           ((refl, (w .0 .0, (u .0, (w .1 .0, (u .1, (refl, (u .2, (refl, tt)))))))), (w .0 .2, w .1 .1)),
     )
     by-kind (pointFrame p) =
-        let sound = sound-point (inReach (s .openGroups) (p ∷ run fs)) p in (
+        let sound = sound-point (pointsInScope (s .openGroups) (p ∷ run fs)) p in (
           λ c. let d = c .0 .1 .1 .1 in
               ((c .0 .1 .0, sound .0 (d .1 .0, d .1 .1 .0), c .1 .0), (d .0, c .1 .1)),
           λ w. let u = sound .1 (w .0 .1) in

@@ -3,7 +3,7 @@ use mathlib.Core.Path.{_≡_, refl, ap, _∙_}
 use mathlib.Core.List.{List, [], _∷_, _++_}
 use Rattle.catalog_frames.specs.Frames.{Point, Frame, pointFrame, endFrame, wordsOfAll}
 use Rattle.model_definitions.specs.Definitions.{Groups, noGroup, group, Definition, pointFrames, groupFrames, definitionFrames}
-use Rattle.model_definitions.specs.Definitions.{catalogFrames, Parsed, inFront, parsed, definitions}
+use Rattle.model_definitions.specs.Definitions.{catalogFrames, Parsed, prepended, parsed, definitions}
 use Rattle.catalog.proofs.FrameWords.{frames-words}
 use Rattle.model_definitions.proofs.TreeFrames.{group-frames, definition-frames}
 
@@ -16,16 +16,16 @@ pub points-read : (ps : List Point) (g : Groups) (fs : List Frame) (r : Parsed)
     → parsed fs ≡ holding [] g r → parsed (pointFrames ps ++ fs) ≡ holding ps g r
 unfolding parsed
 points-read [] g fs r e = e
-points-read (p ∷ ps) g fs r e = ap (inFront (pointFrame p)) (points-read ps g fs r e)
+points-read (p ∷ ps) g fs r e = ap (prepended (pointFrame p)) (points-read ps g fs r e)
 
 -- Groups are read up to the end frame of the group around them.
 pub groups-read : (g : Groups) (fs : List Frame) → parsed (groupFrames g ++ (endFrame ∷ fs)) ≡ holding [] g (parsed fs)
 unfolding parsed
 groups-read noGroup fs = refl
-groups-read (group h ps inside behind) fs =
-    let tail = groupFrames behind ++ (endFrame ∷ fs) in
+groups-read (group h ps inside following) fs =
+    let tail = groupFrames following ++ (endFrame ∷ fs) in
     let e = points-read ps inside (groupFrames inside ++ (endFrame ∷ tail)) (parsed tail) (groups-read inside tail) in
-    ap parsed (group-frames h ps inside behind (endFrame ∷ fs)) ∙ rw (e, groups-read behind fs)
+    ap parsed (group-frames h ps inside following (endFrame ∷ fs)) ∙ rw (e, groups-read following fs)
 
 -- A model is read in front of the models behind it.
 definition-read : (d : Definition) (fs : List Frame)

@@ -11,16 +11,16 @@ use Rattle.model_definitions.specs.Soundness.{SoundPoint, SoundHead, Sou
 use Rattle.model_definitions.proofs.AcceptedIsSound.{accepted-is-sound}
 
 module _ (P : List Point → ℕ → Head → List Point → Groups → Type 0) (top : List Point)
-    (f : (enclosing : List Point) (level : ℕ) (h : Head) (ps : List Point) (behind : Groups)
-    → SoundHead top level h behind → 1 ≤ length ps → Each (SoundPoint (ps ++ enclosing)) ps → P enclosing level h ps behind) where
+    (f : (enclosing : List Point) (level : ℕ) (h : Head) (ps : List Point) (following : Groups)
+    → SoundHead top level h following → 1 ≤ length ps → Each (SoundPoint (ps ++ enclosing)) ps → P enclosing level h ps following) where
   -- What holds of a sound group holds of each of sound groups.
   of-groups : (enclosing : List Point) (level : ℕ) (g : Groups) → SoundGroups top enclosing level g
       → EachGroup P enclosing level g
   of-groups enclosing level noGroup s = tt
-  of-groups enclosing level (group h ps inside behind) s = (
-    f enclosing level h ps behind (s .0) (s .1) (s .2),
+  of-groups enclosing level (group h ps inside following) s = (
+    f enclosing level h ps following (s .0) (s .1) (s .2),
     of-groups (ps ++ enclosing) (suc level) inside (s .3),
-    of-groups enclosing level behind (s .4),
+    of-groups enclosing level following (s .4),
   )
 
   -- So it does of each lower group of a sound model with this top group.

@@ -11,8 +11,8 @@ use Rattle.model_definitions.proofs.EveryGroup.{of-lower-groups, of-mod
 
 -- Wherever there is a fill group, it is at level 2 and no group stands behind it.
 pub fill-is-last : (ws : List ℕ) (n : ℕ) → checked ws ≡ accepted n
-    → Each (EachLowerGroup (λ enclosing level h ps behind. FillsLast level h behind)) (definitions ws)
+    → Each (EachLowerGroup (λ enclosing level h ps following. FillsLast level h following)) (definitions ws)
 fill-is-last =
-    let P : List Point → ℕ → Head → List Point → Groups → Type 0 = λ enclosing level h ps behind. FillsLast level h behind in
+    let P : List Point → ℕ → Head → List Point → Groups → Type 0 = λ enclosing level h ps following. FillsLast level h following in
     of-models (EachLowerGroup P) (λ d s. of-lower-groups P (d .top .points)
-    (λ enclosing level h ps behind head some each k. let f = head .filling k in (f .0, f .1)) d refl s)
+    (λ enclosing level h ps following head some each k. let f = head .filling k in (f .0, f .1)) d refl s)

@@ -57,12 +57,12 @@ numbers-append (endFrame ∷ fs) gs = numbers-append fs gs
 numbers-append (malformed ∷ fs) gs = numbers-append fs gs
 
 -- The numbers in a group and of the groups behind it.
-part-numbers : (ps : List Point) (inside behind : Groups)
-    → numbersOf (pointFrames ps ++ (groupFrames inside ++ (endFrame ∷ groupFrames behind)))
-    ≡ numbersOf (pointFrames ps) ++ (numbersOf (groupFrames inside) ++ numbersOf (groupFrames behind))
-part-numbers ps inside behind =
-    numbers-append (pointFrames ps) (groupFrames inside ++ (endFrame ∷ groupFrames behind))
-    ∙ ap (λ ns. numbersOf (pointFrames ps) ++ ns) (numbers-append (groupFrames inside) (endFrame ∷ groupFrames behind))
+part-numbers : (ps : List Point) (inside following : Groups)
+    → numbersOf (pointFrames ps ++ (groupFrames inside ++ (endFrame ∷ groupFrames following)))
+    ≡ numbersOf (pointFrames ps) ++ (numbersOf (groupFrames inside) ++ numbersOf (groupFrames following))
+part-numbers ps inside following =
+    numbers-append (pointFrames ps) (groupFrames inside ++ (endFrame ∷ groupFrames following))
+    ∙ ap (λ ns. numbersOf (pointFrames ps) ++ ns) (numbers-append (groupFrames inside) (endFrame ∷ groupFrames following))
 
 -- A point's number is among those of the points.
 pub point-among : (p : Point) (ps : List Point) → In p ps → among (p .number) (numbersOf (pointFrames ps)) ≡ true
@@ -75,49 +75,49 @@ excluded true b f e = clash (sym e ∙ f refl)
 excluded false b f e = refl
 
 -- What is known of the numbers of points, of the groups in their group and of those behind it, where all are different.
-pub record Apart (ps : List Point) (inside behind : Groups) : Type 0 where
+pub record Apart (ps : List Point) (inside following : Groups) : Type 0 where
   pub pointsDistinct : Distinct (numbersOf (pointFrames ps))
   pub insideDistinct : Distinct (numbersOf (groupFrames inside))
-  pub behindDistinct : Distinct (numbersOf (groupFrames behind))
+  pub followingDistinct : Distinct (numbersOf (groupFrames following))
   pub pointsInside : (n : ℕ) → among n (numbersOf (pointFrames ps)) ≡ true → among n (numbersOf (groupFrames inside)) ≡ false
   pub insidePoints : (n : ℕ) → among n (numbersOf (groupFrames inside)) ≡ true → among n (numbersOf (pointFrames ps)) ≡ false
-  pub behindPoints : (n : ℕ) → among n (numbersOf (groupFrames behind)) ≡ true → among n (numbersOf (pointFrames ps)) ≡ false
-  pub behindInside : (n : ℕ) → among n (numbersOf (groupFrames behind)) ≡ true → among n (numbersOf (groupFrames inside)) ≡ false
+  pub followingPoints : (n : ℕ) → among n (numbersOf (groupFrames following)) ≡ true → among n (numbersOf (pointFrames ps)) ≡ false
+  pub followingInside : (n : ℕ) → among n (numbersOf (groupFrames following)) ≡ true → among n (numbersOf (groupFrames inside)) ≡ false
 
 -- So it is where the frames of a group, behind its first one, and those of the groups behind it have different numbers.
-pub apart : (ps : List Point) (inside behind : Groups)
-    → Distinct (numbersOf (pointFrames ps ++ (groupFrames inside ++ (endFrame ∷ groupFrames behind)))) → Apart ps inside behind
-apart ps inside behind d =
+pub apart : (ps : List Point) (inside following : Groups)
+    → Distinct (numbersOf (pointFrames ps ++ (groupFrames inside ++ (endFrame ∷ groupFrames following)))) → Apart ps inside following
+apart ps inside following d =
     let A = numbersOf (pointFrames ps) in
     let I = numbersOf (groupFrames inside) in
-    let B = numbersOf (groupFrames behind) in
-    let r = distinct-parts A (I ++ B) (subst (λ ns. Distinct ns) (part-numbers ps inside behind) d) in
+    let B = numbersOf (groupFrames following) in
+    let r = distinct-parts A (I ++ B) (subst (λ ns. Distinct ns) (part-numbers ps inside following) d) in
     let s = distinct-parts I B (r .1) in
     record {
       pointsDistinct = r .0;
       insideDistinct = s .0;
-      behindDistinct = s .1;
+      followingDistinct = s .1;
       pointsInside = λ n e. among-neither n I B (r .2 n e) .0;
       insidePoints = λ n. excluded (among n A) (among n I) (λ e. among-neither n I B (r .2 n e) .0);
-      behindPoints = λ n. excluded (among n A) (among n B) (λ e. among-neither n I B (r .2 n e) .1);
-      behindInside = λ n. excluded (among n I) (among n B) (s .2 n);
+      followingPoints = λ n. excluded (among n A) (among n B) (λ e. among-neither n I B (r .2 n e) .1);
+      followingInside = λ n. excluded (among n I) (among n B) (s .2 n);
     }
 
 -- A number that is none of a group's and of those behind it is none of each part's.
-pub record NoneOf (n : ℕ) (ps : List Point) (inside behind : Groups) : Type 0 where
+pub record NoneOf (n : ℕ) (ps : List Point) (inside following : Groups) : Type 0 where
   pub ofPoints : among n (numbersOf (pointFrames ps)) ≡ false
   pub ofInside : among n (numbersOf (groupFrames inside)) ≡ false
-  pub ofBehind : among n (numbersOf (groupFrames behind)) ≡ false
+  pub ofFollowing : among n (numbersOf (groupFrames following)) ≡ false
 
-pub none-of-parts : (n : ℕ) (h : Head) (ps : List Point) (inside behind : Groups)
-    → among n (numbersOf (groupFrames (group h ps inside behind))) ≡ false → NoneOf n ps inside behind
-none-of-parts n h ps inside behind e =
+pub none-of-parts : (n : ℕ) (h : Head) (ps : List Point) (inside following : Groups)
+    → among n (numbersOf (groupFrames (group h ps inside following))) ≡ false → NoneOf n ps inside following
+none-of-parts n h ps inside following e =
     let A = numbersOf (pointFrames ps) in
     let I = numbersOf (groupFrames inside) in
-    let B = numbersOf (groupFrames behind) in
-    let frames = pointFrames ps ++ (groupFrames inside ++ (endFrame ∷ groupFrames behind)) in
+    let B = numbersOf (groupFrames following) in
+    let frames = pointFrames ps ++ (groupFrames inside ++ (endFrame ∷ groupFrames following)) in
     let g = neither (eqb n (h .number)) (among n (numbersOf frames)) .0 e .1 in
-    let f = subst (λ ns. among n ns ≡ false) (part-numbers ps inside behind) g in
+    let f = subst (λ ns. among n ns ≡ false) (part-numbers ps inside following) g in
     let r = among-neither n A (I ++ B) f in
     let s = among-neither n I B (r .1) in
-    record { ofPoints = r .0; ofInside = s .0; ofBehind = s .1 }
+    record { ofPoints = r .0; ofInside = s .0; ofFollowing = s .1 }

@@ -40,18 +40,18 @@ type-size code size = go (rowOf code) refl
         (omega (arith, few .0), omega (arith, few .1))
 
 -- A sound point takes 1 to 64 registers.
-pub point-size : (reach : List Point) (p : Point) → SoundPoint reach p → (1 ≤ p .size) × (p .size ≤ 64)
-point-size reach p s = type-size (p .typeCode) (p .size) (s .sized)
+pub point-size : (inScope : List Point) (p : Point) → SoundPoint inScope p → (1 ≤ p .size) × (p .size ≤ 64)
+point-size inScope p s = type-size (p .typeCode) (p .size) (s .sized)
 
 -- Sound points, one or more, take at least one register.
-group-size : (reach ps : List Point) → 1 ≤ length ps → Each (SoundPoint reach) ps → 1 ≤ pointsSize ps
-group-size reach [] l e = absurd (omega arith)
-group-size reach (p ∷ ps) l e = let s = point-size reach p (e .0) .0 in omega arith
+group-size : (inScope ps : List Point) → 1 ≤ length ps → Each (SoundPoint inScope) ps → 1 ≤ pointsSize ps
+group-size inScope [] l e = absurd (omega arith)
+group-size inScope (p ∷ ps) l e = let s = point-size inScope p (e .0) .0 in omega arith
 
 -- In an accepted catalog every lower group takes at least one register.
 pub lower-groups-take-registers : (ws : List ℕ) (n : ℕ) → checked ws ≡ accepted n
-    → Each (EachLowerGroup (λ enclosing level h ps behind. 1 ≤ pointsSize ps)) (definitions ws)
+    → Each (EachLowerGroup (λ enclosing level h ps following. 1 ≤ pointsSize ps)) (definitions ws)
 lower-groups-take-registers =
-    let P : List Point → ℕ → Head → List Point → Groups → Type 0 = λ enclosing level h ps behind. 1 ≤ pointsSize ps in
+    let P : List Point → ℕ → Head → List Point → Groups → Type 0 = λ enclosing level h ps following. 1 ≤ pointsSize ps in
     of-models (EachLowerGroup P) (λ d s. of-lower-groups P (d .top .points)
-    (λ enclosing level h ps behind head some each. group-size (ps ++ enclosing) ps some each) d refl s)
+    (λ enclosing level h ps following head some each. group-size (ps ++ enclosing) ps some each) d refl s)

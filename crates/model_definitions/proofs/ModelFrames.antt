@@ -13,16 +13,16 @@ use Rattle.catalog_frames.specs.Frames.{wordsOfAll}
 use Rattle.catalog.specs.State.{OpenGroup, State, start, opened, withPoint, withGroup, closed, next}
 use Rattle.catalog.specs.Rules.{noModel, inTop, afterGroup, run, isMalformed, rules}
 use Rattle.catalog.specs.Checking.{accepted, checkFrom, checked}
-use Rattle.model_definitions.specs.Definitions.{Content, Definition, catalogFrames, Parsed, inFront, parsed, definitions}
+use Rattle.model_definitions.specs.Definitions.{Content, Definition, catalogFrames, Parsed, prepended, parsed, definitions}
 use Rattle.model_definitions.proofs.AcceptedSteps.{accepted-start, accepted-step}
-use Rattle.model_definitions.proofs.AcceptedFrames.{Standing, accepted-frames}
+use Rattle.model_definitions.proofs.AcceptedFrames.{RunAllowed, accepted-frames}
 use Rattle.model_definitions.proofs.TreeFrames.{contentFrames, group-frames, definition-frames}
 use Rattle.catalog.proofs.FrameWords.{words-frames}
 
 -- The frames of what open groups still hold, each to its end frame, the innermost first, and then the frames behind.
 abbrev pub restFrames : List Content → List Frame → List Frame
-restFrames [] behind = behind
-restFrames (c ∷ cs) behind = contentFrames (c .points) (c .groups) (restFrames cs behind)
+restFrames [] following = following
+restFrames (c ∷ cs) following = contentFrames (c .points) (c .groups) (restFrames cs following)
 
 -- What is left stands for the open groups one by one, and one that has a group already holds no further point of its own.
 abbrev Matches : List OpenGroup → List Content → Type 0
@@ -43,7 +43,7 @@ module _ (fs : List Frame) (ds : List Definition) where
   -- A model frame is read where no model is open.
   model-read : (id : ℕ) (ls : List OpenGroup) (cs : List Content) → noModel ls ≡ true
       → Reads (opened ∷ []) fs (read cs)
-      → Reads ls (modelFrame id ∷ fs) (inFront (modelFrame id) (read cs))
+      → Reads ls (modelFrame id ∷ fs) (prepended (modelFrame id) (read cs))
   model-read id ls [] e h = absurd (h .0)
   model-read id ls (c ∷ b ∷ cs) e h = absurd (h .0 .1)
   model-read id (l ∷ ls) (c ∷ []) e h = clash (sym e)
@@ -54,20 +54,20 @@ module _ (fs : List Frame) (ds : List Definition) where
   -- A group frame is read where a model is open.
   group-read : (g : Head) (ls : List OpenGroup) (cs : List Content) → noModel ls ≡ false
       → Reads (withGroup ls) fs (read cs)
-      → Reads ls (groupFrame g ∷ fs) (inFront (groupFrame g) (read cs))
+      → Reads ls (groupFrame g ∷ fs) (prepended (groupFrame g) (read cs))
   group-read g [] cs e h = clash e
   group-read g (l ∷ ls) [] e h = absurd (h .0)
   group-read g (l ∷ ls) (c ∷ []) e h = absurd (h .0 .1)
   group-read g (l ∷ ls) (c ∷ b ∷ cs) e h =
       let none-left : b .points ≡ [] = h .0 .1 .0 refl in
-      let behind = endFrame ∷ restFrames cs (catalogFrames ds) in
+      let following = endFrame ∷ restFrames cs (catalogFrames ds) in
       let tail = rw none-left at (h .1) in
-      ((λ t. none-left, h .0 .1 .1), rw (none-left, group-frames g (c .points) (c .groups) (b .groups) behind, tail))
+      ((λ t. none-left, h .0 .1 .1), rw (none-left, group-frames g (c .points) (c .groups) (b .groups) following, tail))
 
   -- A point frame is read where no group stands in its group yet.
   point-read : (p : Point) (ls : List OpenGroup) (cs : List Content) → noModel ls || afterGroup ls ≡ false
       → Reads (withPoint p ls) fs (read cs)
-      → Reads ls (pointFrame p ∷ fs) (inFront (pointFrame p) (read cs))
+      → Reads ls (pointFrame p ∷ fs) (prepended (pointFrame p) (read cs))
   point-read p [] cs e h = clash e
   point-read p (l ∷ ls) [] e h = absurd (h .0)
   point-read p (l ∷ ls) (c ∷ cs) e h = ((λ t. cc, h .0 .1), rw (h .1))
@@ -75,7 +75,7 @@ module _ (fs : List Frame) (ds : List Definition) where
   -- An end frame is read where a group is open.
   end-read : (ls : List OpenGroup) (cs : List Content) → noModel ls ≡ false
       → Reads (closed ls) fs (read cs)
-      → Reads ls (endFrame ∷ fs) (inFront endFrame (read cs))
+      → Reads ls (endFrame ∷ fs) (prepended endFrame (read cs))
   end-read [] cs e h = clash e
   end-read (l ∷ ls) cs e h = ((λ t. refl, h .0), rw (h .1))
 
@@ -85,7 +85,7 @@ none-open [] e = tt
 none-open (l ∷ ls) e = clash (sym e)
 
 -- Frames that stand in their places are read.
-reads : (fs : List Frame) (filled : Bool) (ls : List OpenGroup) → Standing filled ls fs → Reads ls fs (parsed fs)
+reads : (fs : List Frame) (filled : Bool) (ls : List OpenGroup) → RunAllowed filled ls fs → Reads ls fs (parsed fs)
 unfolding parsed
 reads [] filled ls s = (none-open ls s, refl)
 reads (modelFrame id ∷ fs) filled ls s =
@@ -103,8 +103,8 @@ reads (malformed ∷ fs) filled ls s = absurd s
 -- The frames of an accepted catalog are those of its models.
 pub frames-of-definitions : (ws : List ℕ) (n : ℕ) → checked ws ≡ accepted n → catalogFrames (definitions ws) ≡ frames ws
 frames-of-definitions ws n e =
-    let standing = accepted-frames (frames ws) start 0 n .0 (accepted-start ws n .0 e .2) .0 in
-    let r = reads (frames ws) false [] standing in
+    let position = accepted-frames (frames ws) start 0 n .0 (accepted-start ws n .0 e .2) .0 in
+    let r = reads (frames ws) false [] position in
     go (parsed (frames ws) .rest) (r .0) (r .1)
   where
     go : (cs : List Content) → Matches [] cs → restFrames cs (catalogFrames (definitions ws)) ≡ frames ws

@@ -20,15 +20,15 @@ pub ids-distinct : (ws : List ℕ) (n : ℕ) → checked ws ≡ accepted n → D
 ids-distinct ws n e = accepted-is-sound ws n e .0 .distinct
 
 -- Words behind others are registers where all of them are.
-registers-behind : (us vs : List ℕ) → AreRegisters (us ++ vs) → AreRegisters vs
-registers-behind [] vs a = a
-registers-behind (u ∷ us) vs a = registers-behind us vs (a .1)
+registers-after : (us vs : List ℕ) → AreRegisters (us ++ vs) → AreRegisters vs
+registers-after [] vs a = a
+registers-after (u ∷ us) vs a = registers-after us vs (a .1)
 
 -- So are the words of frames behind others.
-frames-behind : (fs gs : List Frame) → AreRegisters (wordsOfAll (fs ++ gs)) → AreRegisters (wordsOfAll gs)
+frames-after : (fs gs : List Frame) → AreRegisters (wordsOfAll (fs ++ gs)) → AreRegisters (wordsOfAll gs)
 unfolding wordsOfAll
-frames-behind [] gs a = a
-frames-behind (f ∷ fs) gs a = frames-behind fs gs (registers-behind (wordsOf f) (wordsOfAll (fs ++ gs)) a)
+frames-after [] gs a = a
+frames-after (f ∷ fs) gs a = frames-after fs gs (registers-after (wordsOf f) (wordsOfAll (fs ++ gs)) a)
 
 -- The ids of sound models whose words are registers are 1 to 65534.
 in-range : (ds : List Definition) → Each SoundDefinition ds → AreRegisters (wordsOfAll (catalogFrames ds))
@@ -39,7 +39,7 @@ in-range (d ∷ ds) s a =
     let zero = s .0 .notZero in
     let marker = s .0 .notMarker in
     let register : d .id < 65536 = a .1 .0 in
-    ((omega arith, omega arith), in-range ds (s .1) (frames-behind (definitionFrames d) (catalogFrames ds) a))
+    ((omega arith, omega arith), in-range ds (s .1) (frames-after (definitionFrames d) (catalogFrames ds) a))
 
 -- The ids of an accepted catalog's models are 1 to 65534, where its words are registers.
 pub ids-in-range : (ws : List ℕ) (n : ℕ) → AreRegisters ws → checked ws ≡ accepted n

@@ -33,10 +33,10 @@ points-in-model (p ∷ ps) fs e = (tt, points-in-model ps fs e)
 -- So do the frames of groups.
 groups-in-model : (g : Groups) (fs : List Frame) → Each InModel fs → Each InModel (groupFrames g ++ fs)
 groups-in-model noGroup fs e = e
-groups-in-model (group h ps inside behind) fs e =
-    let tail = groupFrames behind ++ fs in
-    let inner = groups-in-model inside (endFrame ∷ tail) (tt, groups-in-model behind fs e) in
-    subst (Each InModel) (sym (group-frames h ps inside behind fs))
+groups-in-model (group h ps inside following) fs e =
+    let tail = groupFrames following ++ fs in
+    let inner = groups-in-model inside (endFrame ∷ tail) (tt, groups-in-model following fs e) in
+    subst (Each InModel) (sym (group-frames h ps inside following fs))
     (tt, points-in-model ps (groupFrames inside ++ (endFrame ∷ tail)) inner)
 
 -- The numbers `ns`, the newest first, in front of those used.
@@ -61,17 +61,17 @@ one-more n used ns rest =
 
 module _ (n : ℕ) where
   -- Frames in a model keep rule 6: their numbers are not 0 and new; then the frames behind.
-  numbers-in-model : (ids used : List ℕ) (fs behind : List Frame) → Each InModel fs
-      → Numbered n ids used (fs ++ behind)
-      ↔ (Each (λ m. 1 ≤ m) (numbersOf fs) × New used (numbersOf fs) × Numbered n ids (usedAfter (numbersOf fs) used) behind)
-  numbers-in-model ids used [] behind e = (λ w. (tt, tt, w), λ w. w .2)
-  numbers-in-model ids used (modelFrame id ∷ fs) behind e = absurd (e .0)
-  numbers-in-model ids used (groupFrame h ∷ fs) behind e =
-      one-more (h .number) used (numbersOf fs) (numbers-in-model ids (h .number ∷ used) fs behind (e .1))
-  numbers-in-model ids used (pointFrame p ∷ fs) behind e =
-      one-more (p .number) used (numbersOf fs) (numbers-in-model ids (p .number ∷ used) fs behind (e .1))
-  numbers-in-model ids used (endFrame ∷ fs) behind e = numbers-in-model ids used fs behind (e .1)
-  numbers-in-model ids used (malformed ∷ fs) behind e = numbers-in-model ids used fs behind (e .1)
+  numbers-in-model : (ids used : List ℕ) (fs following : List Frame) → Each InModel fs
+      → Numbered n ids used (fs ++ following)
+      ↔ (Each (λ m. 1 ≤ m) (numbersOf fs) × New used (numbersOf fs) × Numbered n ids (usedAfter (numbersOf fs) used) following)
+  numbers-in-model ids used [] following e = (λ w. (tt, tt, w), λ w. w .2)
+  numbers-in-model ids used (modelFrame id ∷ fs) following e = absurd (e .0)
+  numbers-in-model ids used (groupFrame h ∷ fs) following e =
+      one-more (h .number) used (numbersOf fs) (numbers-in-model ids (h .number ∷ used) fs following (e .1))
+  numbers-in-model ids used (pointFrame p ∷ fs) following e =
+      one-more (p .number) used (numbersOf fs) (numbers-in-model ids (p .number ∷ used) fs following (e .1))
+  numbers-in-model ids used (endFrame ∷ fs) following e = numbers-in-model ids used fs following (e .1)
+  numbers-in-model ids used (malformed ∷ fs) following e = numbers-in-model ids used fs following (e .1)
 
   -- A model's frames keep rule 6: its id is not 0 or 65535 and new, its numbers are not 0 and distinct; then the frames behind.
   pub numbered-model : (ids used : List ℕ) (d : Definition) (fs : List Frame)

@@ -23,8 +23,8 @@ point-found such (p ∷ ps) e = go (such p) refl e (point-found such ps)
     go : (b : Bool) → such p ≡ b → b || hasPoint such ps ≡ true
         → (hasPoint such ps ≡ true → (q : Point) × (In q ps) × (such q ≡ true))
         → (q : Point) × (In q (p ∷ ps)) × (such q ≡ true)
-    go true h f behind = (p, first, h)
-    go false h f behind = let r = behind f in (r .0, later (r .1), r .2)
+    go true h f following = (p, first, h)
+    go false h f following = let r = following f in (r .0, later (r .1), r .2)
 
 -- A scale reference names a sunssf point.
 pub scale-factor-found : (n : ℕ) (ps : List Point) → hasScaleFactor n ps ≡ true
@@ -46,17 +46,17 @@ count-point-found n ps e =
     (p, r .1, eqb-true (p .number) n (u .0), eqb-true (p .typeCode) uint16 (u .1), eqb-true (p .access) readOnly (t .1))
 
 -- The scale references of sound points resolve among the points in their reach.
-pub points-resolve : (reach ps : List Point) → Each (SoundPoint reach) ps → Each (ScaleResolves reach) ps
-points-resolve reach [] s = tt
-points-resolve reach (p ∷ ps) s = (λ k. scale-factor-found (p .scale) reach (s .0 .resolved k), points-resolve reach ps (s .1))
+pub points-resolve : (inScope ps : List Point) → Each (SoundPoint inScope) ps → Each (ScaleResolves inScope) ps
+points-resolve inScope [] s = tt
+points-resolve inScope (p ∷ ps) s = (λ k. scale-factor-found (p .scale) inScope (s .0 .resolved k), points-resolve inScope ps (s .1))
 
 module _ (ws : List ℕ) (n : ℕ) (e : checked ws ≡ accepted n) where
   -- In an accepted catalog every scale reference names a sunssf point of the same or an enclosing group.
   pub scales-resolve : Each (λ d. Each (ScaleResolves (d .top .points)) (d .top .points)
-      × EachLowerGroup (λ enclosing level h ps behind. Each (ScaleResolves (ps ++ enclosing)) ps) d) (definitions ws)
+      × EachLowerGroup (λ enclosing level h ps following. Each (ScaleResolves (ps ++ enclosing)) ps) d) (definitions ws)
   scales-resolve =
       let P : List Point → ℕ → Head → List Point → Groups → Type 0 =
-      λ enclosing level h ps behind. Each (ScaleResolves (ps ++ enclosing)) ps in
+      λ enclosing level h ps following. Each (ScaleResolves (ps ++ enclosing)) ps in
       of-models (λ d. Each (ScaleResolves (d .top .points)) (d .top .points) × EachLowerGroup P d) (λ d s. (
         points-resolve (d .top .points) (d .top .points) (s .points),
         of-lower-groups P (d .top .points) (λ enclosing level h ps after head some each. points-resolve (ps ++ enclosing) ps each)
@@ -65,10 +65,10 @@ module _ (ws : List ℕ) (n : ℕ) (e : checked ws ≡ accepted n) where
 
   -- Every count reference names a uint16 point with access R of the top group.
   pub counts-resolve : Each
-      (λ d. EachLowerGroup (λ enclosing level h ps behind. CountResolves (d .top .points) h) d) (definitions ws)
+      (λ d. EachLowerGroup (λ enclosing level h ps following. CountResolves (d .top .points) h) d) (definitions ws)
   counts-resolve =
       let P : Definition → List Point → ℕ → Head → List Point → Groups → Type 0 =
-      λ d enclosing level h ps behind. CountResolves (d .top .points) h in
+      λ d enclosing level h ps following. CountResolves (d .top .points) h in
       of-models (λ d. EachLowerGroup (P d) d)
       (λ d s.
       let top = d .top .points in

@@ -16,25 +16,25 @@ use Rattle.values.specs.Classes.{twosComplement, isScaleFactor}
 use Rattle.catalog_frames.specs.Frames.{Point, Head, pointFrame, noScale, fixedScale, scaleByPoint, constantCount, countByPoint}
 use Rattle.catalog_frames.specs.Frames.{fill}
 use Rattle.catalog.specs.State.{OpenGroup}
-use Rattle.frame_rules.specs.FrameTests.{isSizeOf, isMistyped}
+use Rattle.frame_rules.specs.FrameTests.{isSizeOf, hasBadType}
 use Rattle.catalog.specs.Rules.{inTop, topPoints, hasScaleFactor, hasCountPoint, scaleFaults}
 use Rattle.catalog.specs.Rules.{countFaults}
 use Rattle.model_definitions.specs.Definitions.{Groups, noGroup}
 use Rattle.model_definitions.specs.Soundness.{SoundPoint, SoundHead}
 
 -- A point frame breaks neither rule 7 nor rule 8 just where the point is sound.
-pub sound-point : (reach : List Point) (p : Point)
-    → ((isMistyped (pointFrame p) ≡ false) × (oneHolds (scaleFaults reach p) ≡ false)) ↔ SoundPoint reach p
-sound-point reach p =
+pub sound-point : (inScope : List Point) (p : Point)
+    → ((hasBadType (pointFrame p) ≡ false) × (oneHolds (scaleFaults inScope p) ≡ false)) ↔ SoundPoint inScope p
+sound-point inScope p =
     let k = p .scaleKind in
     let size = isSizeOf (p .typeCode) (p .size) in
     let flags = neither (not size || ltb 1 (p .mandatory)) (ltb 1 (p .access)) in
     let sizes = neither (not size) (ltb 1 (p .mandatory)) in
-    let faults = none-of (scaleFaults reach p) in
+    let faults = none-of (scaleFaults inScope p) in
     let unscaled = clause k noScale (eqb (p .scale) 0) in
     let scalable = excludes (not (eqb k noScale)) (not (mayScale (p .typeCode))) in
     let fixed = clause k fixedScale (isScaleFactor (twosComplement 16 (p .scale))) in
-    let found = clause k scaleByPoint (hasScaleFactor (p .scale) reach) in (
+    let found = clause k scaleByPoint (hasScaleFactor (p .scale) inScope) in (
       λ e.
           let f = flags .0 (e .0) in
           let g = sizes .0 (f .0) in
@@ -72,10 +72,10 @@ HeadUnbroken ls h =
     (leb 4 (length ls) ≡ false) × (ltb 1 (h .groupType) ≡ false) × (oneHolds (countFaults (topPoints ls) (inTop ls) h) ≡ false)
 
 -- It breaks none of them, and no group stands behind a fill group in the top group, just where the group's head is sound.
-pub sound-head : (ls : List OpenGroup) (h : Head) (behind : Groups)
-    → (HeadUnbroken ls h × (h .countKind ≡ fill → inTop ls ≡ true → behind ≡ noGroup))
-    ↔ SoundHead (topPoints ls) (suc (length ls)) h behind
-sound-head ls h behind =
+pub sound-head : (ls : List OpenGroup) (h : Head) (following : Groups)
+    → (HeadUnbroken ls h × (h .countKind ≡ fill → inTop ls ≡ true → following ≡ noGroup))
+    ↔ SoundHead (topPoints ls) (suc (length ls)) h following
+sound-head ls h following =
     let k = h .countKind in
     let faults = none-of (countFaults (topPoints ls) (inTop ls) h) in
     let constant = excludes (eqb k constantCount) (eqb (h .count) 0) in

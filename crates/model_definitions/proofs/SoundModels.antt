@@ -17,7 +17,7 @@ use Rattle.catalog.specs.Rules.{noModel, inTop, run, pointsOf, topPoints, noPoi
 use Rattle.model_definitions.specs.Definitions.{Groups, noGroup, group, Definition, pointFrames, groupFrames, definitionFrames}
 use Rattle.model_definitions.specs.Definitions.{catalogFrames}
 use Rattle.model_definitions.specs.Soundness.{SoundPoint, SoundGroups, SoundDefinition, numbersOf, idsOf}
-use Rattle.model_definitions.proofs.AcceptedFrames.{Standing, Numbered}
+use Rattle.model_definitions.proofs.AcceptedFrames.{RunAllowed, Numbered}
 use Rattle.model_definitions.proofs.SoundFrames.{sound-head}
 use Rattle.model_definitions.proofs.TreeFrames.{contentFrames, group-frames, definition-frames, run-points, run-groups}
 use Rattle.model_definitions.proofs.NewNumbers.{New}
@@ -30,13 +30,13 @@ abbrev withPoints : List Point → OpenGroup
 withPoints ps = record { points = ps; hasGroup = false }
 
 -- The points `ps` of a group, behind the points `before`, stand in their places just where they are sound.
-points-stand : (ps before : List Point) (filled : Bool) (ls : List OpenGroup) (fs : List Frame) → run fs ≡ []
-    → Standing filled (withPoints before ∷ ls) (pointFrames ps ++ fs)
-    ↔ (Each (SoundPoint ((before ++ ps) ++ pointsOf ls)) ps × Standing filled (withPoints (before ++ ps) ∷ ls) fs)
-points-stand [] before filled ls fs e = rw (append-nil before) (λ w. (tt, w), λ w. w .1)
-points-stand (p ∷ ps) before filled ls fs e =
-    let behind = points-stand ps (before ++ (p ∷ [])) filled ls fs e in
-    let rest = rw (append-assoc before (p ∷ []) ps) at behind in
+points-accepted : (ps before : List Point) (filled : Bool) (ls : List OpenGroup) (fs : List Frame) → run fs ≡ []
+    → RunAllowed filled (withPoints before ∷ ls) (pointFrames ps ++ fs)
+    ↔ (Each (SoundPoint ((before ++ ps) ++ pointsOf ls)) ps × RunAllowed filled (withPoints (before ++ ps) ∷ ls) fs)
+points-accepted [] before filled ls fs e = rw (append-nil before) (λ w. (tt, w), λ w. w .1)
+points-accepted (p ∷ ps) before filled ls fs e =
+    let following = points-accepted ps (before ++ (p ∷ [])) filled ls fs e in
+    let rest = rw (append-assoc before (p ∷ []) ps) at following in
     rw (run-points ps fs e) (
       λ w. let r = rest .0 (w .2) in ((w .1, r .0), r .1),
       λ w. (refl, w .0 .0, rest .1 (w .0 .1, w .1)),
@@ -47,12 +47,12 @@ points-stand (p ∷ ps) before filled ls fs e =
 -- Does a group stand among these, or did one before?
 abbrev anyGroup : Groups → Bool → Bool
 anyGroup noGroup before = before
-anyGroup (group h ps inside behind) before = true
+anyGroup (group h ps inside following) before = true
 
 -- A group that stood before still does.
 still-any : (g : Groups) → anyGroup g true ≡ true
 still-any noGroup = refl
-still-any (group h ps inside behind) = refl
+still-any (group h ps inside following) = refl
 
 -- An open group behind these groups in it.
 abbrev past : Groups → OpenGroup → OpenGroup
@@ -61,53 +61,53 @@ past g l = record { points = l .points; hasGroup = anyGroup g (l .hasGroup) }
 -- Is there a fill group among these and the groups in them, or was there one before?
 abbrev anyFill : Groups → Bool → Bool
 anyFill noGroup before = before
-anyFill (group h ps inside behind) before = anyFill behind (anyFill inside (before || eqb (h .countKind) fill))
+anyFill (group h ps inside following) before = anyFill following (anyFill inside (before || eqb (h .countKind) fill))
 
 -- A fill group that was there before still is.
 still-fill : (g : Groups) → anyFill g true ≡ true
 still-fill noGroup = refl
-still-fill (group h ps inside behind) = rw (still-fill inside) (still-fill behind)
+still-fill (group h ps inside following) = rw (still-fill inside) (still-fill following)
 
 -- Sound groups below the top group have no fill group.
 no-fill : (top enclosing : List Point) (level : ℕ) (g : Groups) → 3 ≤ level → SoundGroups top enclosing level g
     → anyFill g false ≡ false
 no-fill top enclosing level noGroup h s = refl
-no-fill top enclosing level (group k ps inside behind) h s =
+no-fill top enclosing level (group k ps inside following) h s =
     let constant : eqb (k .countKind) fill ≡ false =
     ne-eqb (k .countKind) fill (λ q. let two = s .0 .filling q .0 in absurd (omega arith)) in
     rw (constant, no-fill top (ps ++ enclosing) (suc level) inside (omega arith) (s .3))
-    (no-fill top enclosing level behind h (s .4))
+    (no-fill top enclosing level following h (s .4))
 
 -- A sound group that is a fill group, or holds one, is the last in its group.
-fills-last : (top enclosing : List Point) (n : ℕ) (h : Head) (ps : List Point) (inside behind : Groups)
-    → SoundGroups top enclosing (suc (suc n)) (group h ps inside behind) → anyFill inside (eqb (h .countKind) fill) ≡ true
-    → behind ≡ noGroup
-fills-last top enclosing n h ps inside behind s = go (eqb (h .countKind) fill) refl
+fills-last : (top enclosing : List Point) (n : ℕ) (h : Head) (ps : List Point) (inside following : Groups)
+    → SoundGroups top enclosing (suc (suc n)) (group h ps inside following) → anyFill inside (eqb (h .countKind) fill) ≡ true
+    → following ≡ noGroup
+fills-last top enclosing n h ps inside following s = go (eqb (h .countKind) fill) refl
   where
-    go : (b : Bool) → eqb (h .countKind) fill ≡ b → anyFill inside b ≡ true → behind ≡ noGroup
+    go : (b : Bool) → eqb (h .countKind) fill ≡ b → anyFill inside b ≡ true → following ≡ noGroup
     go true q f = s .0 .filling (eqb-true (h .countKind) fill q) .1
     go false q f = clash (sym f ∙ no-fill top (ps ++ enclosing) (suc (suc (suc n))) inside (omega arith) (s .3))
 
 -- Groups in the innermost open group stand in their places just where they are sound and, in the top group, behind no fill group.
-abbrev GroupsStand : Groups → Type 0
-GroupsStand g =
+abbrev GroupsAccepted : Groups → Type 0
+GroupsAccepted g =
     (filled : Bool) (l : OpenGroup) (ls : List OpenGroup) (fs : List Frame)
-    → Standing filled (l ∷ ls) (groupFrames g ++ fs)
+    → RunAllowed filled (l ∷ ls) (groupFrames g ++ fs)
     ↔ (SoundGroups (topPoints (l ∷ ls)) (pointsOf (l ∷ ls)) (suc (suc (length ls))) g
     × (inTop (l ∷ ls) && filled ≡ true → g ≡ noGroup)
-    × Standing (anyFill g filled) (past g l ∷ ls) fs)
+    × RunAllowed (anyFill g filled) (past g l ∷ ls) fs)
 
 -- What a group holds, to its end frame, stands in its place just where its points and groups are sound and rule 10 holds.
-content-stands : (ps : List Point) (g : Groups) → GroupsStand g → (filled : Bool) (ls : List OpenGroup) (fs : List Frame)
+content-accepted : (ps : List Point) (g : Groups) → GroupsAccepted g → (filled : Bool) (ls : List OpenGroup) (fs : List Frame)
     → noModel ls && filled ≡ false
-    → Standing filled (opened ∷ ls) (contentFrames ps g fs)
+    → RunAllowed filled (opened ∷ ls) (contentFrames ps g fs)
     ↔ (Each (SoundPoint (ps ++ pointsOf ls)) ps
     × SoundGroups (topPoints (withPoints ps ∷ ls)) (ps ++ pointsOf ls) (suc (suc (length ls))) g
     × (noPoint ps && not (noModel ls && anyGroup g false) ≡ false)
-    × Standing (anyFill g filled) ls fs)
-content-stands ps g stand filled ls fs unfilled =
-    let own = points-stand ps [] filled ls (groupFrames g ++ (endFrame ∷ fs)) (run-groups g fs) in
-    let lower = stand filled (withPoints ps) ls (endFrame ∷ fs) in (
+    × RunAllowed (anyFill g filled) ls fs)
+content-accepted ps g accepted-below filled ls fs unfilled =
+    let own = points-accepted ps [] filled ls (groupFrames g ++ (endFrame ∷ fs)) (run-groups g fs) in
+    let lower = accepted-below filled (withPoints ps) ls (endFrame ∷ fs) in (
       λ w.
           let o = own .0 w in
           let r = lower .0 (o .1) in
@@ -121,68 +121,68 @@ has-point [] = (λ e. clash e, λ h. absurd (omega arith))
 has-point (p ∷ ps) = (λ e. omega arith, λ h. refl)
 
 -- A test that holds only where a group is none does not hold.
-never-none : (b : Bool) (h : Head) (ps : List Point) (inside behind : Groups) → (b ≡ true → group h ps inside behind ≡ noGroup)
+never-none : (b : Bool) (h : Head) (ps : List Point) (inside following : Groups) → (b ≡ true → group h ps inside following ≡ noGroup)
     → b ≡ false
-never-none true h ps inside behind f = let z = f refl in cc
-never-none false h ps inside behind f = refl
+never-none true h ps inside following f = let z = f refl in cc
+never-none false h ps inside following f = refl
 
 -- Frames may be written otherwise.
 rewritten : {B : Type 0} (filled : Bool) (ls : List OpenGroup) {fs gs : List Frame} → fs ≡ gs
-    → Standing filled ls gs ↔ B → Standing filled ls fs ↔ B
-rewritten {B = B} filled ls e h = subst (λ x. Standing filled ls x ↔ B) (sym e) h
+    → RunAllowed filled ls gs ↔ B → RunAllowed filled ls fs ↔ B
+rewritten {B = B} filled ls e h = subst (λ x. RunAllowed filled ls x ↔ B) (sym e) h
 
 -- A group stands in its place with the groups behind it, where those in it and those behind it do.
-group-stands : (h : Head) (ps : List Point) (inside behind : Groups) → GroupsStand inside → GroupsStand behind
-    → GroupsStand (group h ps inside behind)
-group-stands h ps inside behind stand-inside stand-behind = λ filled l ls fs.
-    let around = past (group h ps inside behind) l in
+group-accepted : (h : Head) (ps : List Point) (inside following : Groups) → GroupsAccepted inside → GroupsAccepted following
+    → GroupsAccepted (group h ps inside following)
+group-accepted h ps inside following accepted-inside accepted-after = λ filled l ls fs.
+    let around = past (group h ps inside following) l in
     let direct = inTop (l ∷ ls) in
     let isFill = eqb (h .countKind) fill in
     let now = anyFill inside (filled || isFill) in
-    let held = content-stands ps inside stand-inside (filled || isFill) (around ∷ ls) (groupFrames behind ++ fs) refl in
-    let side = rw (still-any behind) at (stand-behind now around ls fs) in
-    let head = sound-head (l ∷ ls) h behind in
-    rewritten filled (l ∷ ls) (group-frames h ps inside behind fs) (
+    let held = content-accepted ps inside accepted-inside (filled || isFill) (around ∷ ls) (groupFrames following ++ fs) refl in
+    let side = rw (still-any following) at (accepted-after now around ls fs) in
+    let head = sound-head (l ∷ ls) h following in
+    rewritten filled (l ∷ ls) (group-frames h ps inside following fs) (
       λ w.
           let c = held .0 (w .2) in
           let r = side .0 (c .3) in
-          let last : h .countKind ≡ fill → direct ≡ true → behind ≡ noGroup =
+          let last : h .countKind ≡ fill → direct ≡ true → following ≡ noGroup =
           λ q t. r .1 (rw (t, eq-eqb (h .countKind) fill q, or-true filled) (still-fill inside)) in
           ((head .0 (w .1, last), has-point ps .0 (c .2), c .0, c .1, r .0), λ t. clash (sym t ∙ w .0), r .2),
       λ w.
           let s = w .0 in
-          let placed = never-none (direct && filled) h ps inside behind (w .1) in
-          let last : direct && now ≡ true → behind ≡ noGroup = λ t.
+          let placed = never-none (direct && filled) h ps inside following (w .1) in
+          let last : direct && now ≡ true → following ≡ noGroup = λ t.
           let b = both direct now t in
           let fills = rw (excludes direct filled .0 placed (b .0)) at (b .1) in
-          fills-last (topPoints (l ∷ ls)) (pointsOf (l ∷ ls)) (length ls) h ps inside behind s fills in
+          fills-last (topPoints (l ∷ ls)) (pointsOf (l ∷ ls)) (length ls) h ps inside following s fills in
           (placed, head .1 (s .0) .0, held .1 (s .2, s .3, has-point ps .1 (s .1), side .1 (s .4, last, w .2))),
     )
 
 -- Groups stand in their places just where they are sound.
-groups-stand : (g : Groups) → GroupsStand g
-groups-stand noGroup = λ filled l ls fs. (λ w. (tt, λ t. refl, w), λ w. w .2)
-groups-stand (group h ps inside behind) = group-stands h ps inside behind (groups-stand inside) (groups-stand behind)
+groups-accepted : (g : Groups) → GroupsAccepted g
+groups-accepted noGroup = λ filled l ls fs. (λ w. (tt, λ t. refl, w), λ w. w .2)
+groups-accepted (group h ps inside following) = group-accepted h ps inside following (groups-accepted inside) (groups-accepted following)
 
 -- ---- Models
 
 -- Rule 10 of a top group: it has a point or a group.
 has-content : (ps : List Point) (g : Groups) → (noPoint ps && not (anyGroup g false) ≡ false) ↔ (ps ≡ [] → g ≡ noGroup → ⊥)
 has-content [] noGroup = (λ e. clash e, λ h. absurd (h refl refl))
-has-content [] (group h ps inside behind) = (λ e p g. impossible (cc), λ h. refl)
+has-content [] (group h ps inside following) = (λ e p g. impossible (cc), λ h. refl)
 has-content (p ∷ ps) g = (λ e q h. impossible (cc), λ h. refl)
 
 -- A model stands in its place just where what it holds is sound.
-model-stands : (d : Definition) (filled : Bool) (fs : List Frame)
-    → Standing filled [] (definitionFrames d ++ fs)
+model-accepted : (d : Definition) (filled : Bool) (fs : List Frame)
+    → RunAllowed filled [] (definitionFrames d ++ fs)
     ↔ (Each (SoundPoint (d .top .points)) (d .top .points)
     × SoundGroups (d .top .points) (d .top .points) 2 (d .top .groups)
     × (d .top .points ≡ [] → d .top .groups ≡ noGroup → ⊥)
-    × Standing (anyFill (d .top .groups) false) [] fs)
-model-stands d filled fs =
+    × RunAllowed (anyFill (d .top .groups) false) [] fs)
+model-accepted d filled fs =
     let ps = d .top .points in
     let g = d .top .groups in
-    let held = rw (append-nil ps) at (content-stands ps g (groups-stand g) false [] fs refl) in
+    let held = rw (append-nil ps) at (content-accepted ps g (groups-accepted g) false [] fs refl) in
     let some = has-content ps g in
     rewritten filled [] (definition-frames d fs) (
       λ w. let c = held .0 (w .1) in (c .0, c .1, some .0 (c .2), c .3),
@@ -191,17 +191,17 @@ model-stands d filled fs =
 
 -- The frames of models, behind models with these ids, break no rule just where the models are sound and their ids are new.
 pub models-sound : (ds : List Definition) (n : ℕ) (filled : Bool) (ids used : List ℕ)
-    → (Standing filled [] (catalogFrames ds) × Numbered n ids used (catalogFrames ds))
+    → (RunAllowed filled [] (catalogFrames ds) × Numbered n ids used (catalogFrames ds))
     ↔ (Each SoundDefinition ds × New ids (idsOf ds) × (length ids + length ds ≡ n))
 models-sound [] n filled ids used =
     (λ w. (tt, tt, let e = w .1 in omega arith), λ w. (refl, let e = w .2 in omega arith))
 models-sound (d ∷ ds) n filled ids used =
     let ns = numbersOf (definitionFrames d) in
-    let stands = model-stands d filled (catalogFrames ds) in
+    let parses = model-accepted d filled (catalogFrames ds) in
     let numbers = numbered-model n ids used d (catalogFrames ds) in
     let rest = models-sound ds n (anyFill (d .top .groups) false) (d .id ∷ ids) (usedAfter ns []) in (
       λ w.
-          let s = stands .0 (w .0) in
+          let s = parses .0 (w .0) in
           let m = numbers .0 (w .1) in
           let r = rest .0 (s .3, m .3) in
           let model : SoundDefinition d = record {
@@ -218,7 +218,7 @@ models-sound (d ∷ ds) n filled ids used =
           let s = w .0 .0 in
           let count = w .2 in
           let r = rest .1 (w .0 .1, w .1 .1, omega arith) in (
-            stands .1 (s .points, s .groups, s .notEmpty, r .0),
+            parses .1 (s .points, s .groups, s .notEmpty, r .0),
             numbers .1 ((s .notZero, s .notMarker, w .1 .0), s .numbered, s .distinct, r .1),
           ),
     )

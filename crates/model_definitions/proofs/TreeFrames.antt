@@ -7,12 +7,12 @@ use Rattle.model_definitions.specs.Definitions.{Groups, noGroup, group, 
 
 -- The frames of what a group holds, to its end frame, and those behind.
 abbrev pub contentFrames : List Point → Groups → List Frame → List Frame
-contentFrames ps g behind = pointFrames ps ++ (groupFrames g ++ (endFrame ∷ behind))
+contentFrames ps g following = pointFrames ps ++ (groupFrames g ++ (endFrame ∷ following))
 
 -- A group's frames are its group frame, those of what it holds, and those of the groups behind it.
-pub group-frames : (h : Head) (ps : List Point) (inside behind : Groups) (fs : List Frame)
-    → groupFrames (group h ps inside behind) ++ fs ≡ groupFrame h ∷ contentFrames ps inside (groupFrames behind ++ fs)
-group-frames h ps inside behind fs = simp append-assoc
+pub group-frames : (h : Head) (ps : List Point) (inside following : Groups) (fs : List Frame)
+    → groupFrames (group h ps inside following) ++ fs ≡ groupFrame h ∷ contentFrames ps inside (groupFrames following ++ fs)
+group-frames h ps inside following fs = simp append-assoc
 
 -- A model's frames are its model frame and those of what its top group holds.
 pub definition-frames : (d : Definition) (fs : List Frame)
@@ -27,4 +27,4 @@ run-points (p ∷ ps) fs e = ap {B = List Point} (λ r. p ∷ r) (run-points ps 
 -- No point frame follows the points of a group.
 pub run-groups : (g : Groups) (fs : List Frame) → run (groupFrames g ++ (endFrame ∷ fs)) ≡ []
 run-groups noGroup fs = refl
-run-groups (group h ps inside behind) fs = refl
+run-groups (group h ps inside following) fs = refl

@@ -35,8 +35,8 @@ pointFrames (p ∷ ps) = pointFrame p ∷ pointFrames ps
 -- Each group from its group frame to its end frame.
 abbrev pub groupFrames : Groups → List Frame
 groupFrames noGroup = []
-groupFrames (group h ps inside behind) =
-    (groupFrame h ∷ pointFrames ps) ++ (groupFrames inside ++ (endFrame ∷ groupFrames behind))
+groupFrames (group h ps inside following) =
+    (groupFrame h ∷ pointFrames ps) ++ (groupFrames inside ++ (endFrame ∷ groupFrames following))
 
 -- A model's frames, from its model frame to the end frame of its top group.
 abbrev pub definitionFrames : Definition → List Frame
@@ -73,10 +73,10 @@ outer (c ∷ cs) = cs
 -- A frame in front of those read. Reading goes from the last frame to the first, so that a group is whole when its group frame
 -- is met: an end frame begins a group that holds nothing, a point is put in front of what its group holds, a group or model
 -- frame takes the whole group. The frames of what was read are the frames again (`proofs/ModelFrames.antt`).
-abbrev pub inFront : Frame → Parsed → Parsed
-inFront (modelFrame id) r =
+abbrev pub prepended : Frame → Parsed → Parsed
+prepended (modelFrame id) r =
     record { rest = outer (r .rest); models = record { id = id; top = inner (r .rest) } ∷ r .models }
-inFront (groupFrame h) r =
+prepended (groupFrame h) r =
     let here = inner (r .rest) in
     let around = inner (outer (r .rest)) in
     record {
@@ -84,16 +84,16 @@ inFront (groupFrame h) r =
           ∷ outer (outer (r .rest));
       models = r .models;
     }
-inFront (pointFrame p) r =
+prepended (pointFrame p) r =
     let here = inner (r .rest) in
     record { rest = record { points = p ∷ here .points; groups = here .groups } ∷ outer (r .rest); models = r .models }
-inFront endFrame r = record { rest = empty ∷ r .rest; models = r .models }
-inFront malformed r = r
+prepended endFrame r = record { rest = empty ∷ r .rest; models = r .models }
+prepended malformed r = r
 
 -- Frames as definitions, from the last frame to the first.
 unfoldable pub parsed : List Frame → Parsed
 parsed [] = record { rest = []; models = [] }
-parsed (f ∷ fs) = inFront f (parsed fs)
+parsed (f ∷ fs) = prepended f (parsed fs)
 
 -- The model definitions of a catalog. (Of one that is not accepted, frames may be passed over or change order.)
 abbrev pub definitions : List ℕ → List Definition

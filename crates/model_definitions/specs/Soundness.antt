@@ -25,8 +25,8 @@ numbersOf (pointFrame p ∷ fs) = p .number ∷ numbersOf fs
 numbersOf (endFrame ∷ fs) = numbersOf fs
 numbersOf (malformed ∷ fs) = numbersOf fs
 
--- A point (rules 7 and 8). `reach` is the points of its own group and of the enclosing ones.
-pub record SoundPoint (reach : List Point) (p : Point) : Type 0 where
+-- A point (rules 7 and 8). `inScope` is the points of its own group and of the enclosing ones.
+pub record SoundPoint (inScope : List Point) (p : Point) : Type 0 where
   pub sized : isSizeOf (p .typeCode) (p .size) ≡ true
   pub mandatoryFlag : p .mandatory ≤ 1
   pub accessFlag : p .access ≤ 1
@@ -34,28 +34,28 @@ pub record SoundPoint (reach : List Point) (p : Point) : Type 0 where
   pub unscaled : p .scaleKind ≡ noScale → p .scale ≡ 0
   pub scalable : (p .scaleKind ≡ noScale → ⊥) → mayScale (p .typeCode) ≡ true
   pub inRange : p .scaleKind ≡ fixedScale → isScaleFactor (twosComplement 16 (p .scale)) ≡ true
-  pub resolved : p .scaleKind ≡ scaleByPoint → hasScaleFactor (p .scale) reach ≡ true
+  pub resolved : p .scaleKind ≡ scaleByPoint → hasScaleFactor (p .scale) inScope ≡ true
 
 -- A group's head (rules 4, 5, 7 and 9). `top` is the points of the top group, `level` the group's own (the top group is level 1),
--- `behind` the groups behind it in its group.
-pub record SoundHead (top : List Point) (level : ℕ) (h : Head) (behind : Groups) : Type 0 where
+-- `following` the groups behind it in its group.
+pub record SoundHead (top : List Point) (level : ℕ) (h : Head) (following : Groups) : Type 0 where
   pub levelInRange : level ≤ 4
   pub typeFlag : h .groupType ≤ 1
   pub countKnown : h .countKind ≤ 2
   pub constant : h .countKind ≡ constantCount → 1 ≤ h .count
   pub counted : h .countKind ≡ countByPoint → hasCountPoint (h .count) top ≡ true
-  pub filling : h .countKind ≡ fill → (level ≡ 2) × (behind ≡ noGroup) × (h .count ≡ 0)
+  pub filling : h .countKind ≡ fill → (level ≡ 2) × (following ≡ noGroup) × (h .count ≡ 0)
 
 -- Groups side by side, with the groups in them (rule 10: each has a point of its own). `enclosing` is the points of the groups
 -- around them.
 abbrev pub SoundGroups : List Point → List Point → ℕ → Groups → Type 0
 SoundGroups top enclosing level noGroup = Unit {0}
-SoundGroups top enclosing level (group h ps inside behind) =
-    SoundHead top level h behind
+SoundGroups top enclosing level (group h ps inside following) =
+    SoundHead top level h following
     × (1 ≤ length ps)
     × Each (SoundPoint (ps ++ enclosing)) ps
     × SoundGroups top (ps ++ enclosing) (suc level) inside
-    × SoundGroups top enclosing level behind
+    × SoundGroups top enclosing level following
 
 -- A model (rules 6 and 10, and the rules of all that it holds).
 pub record SoundDefinition (d : Definition) : Type 0 where
@@ -84,8 +84,8 @@ pub record SoundCatalog (ds : List Definition) : Type 0 where
 -- own points and the groups after it.
 abbrev pub EachGroup : (List Point → ℕ → Head → List Point → Groups → Type 0) → List Point → ℕ → Groups → Type 0
 EachGroup P enclosing level noGroup = Unit {0}
-EachGroup P enclosing level (group h ps inside behind) =
-    P enclosing level h ps behind × EachGroup P (ps ++ enclosing) (suc level) inside × EachGroup P enclosing level behind
+EachGroup P enclosing level (group h ps inside following) =
+    P enclosing level h ps following × EachGroup P (ps ++ enclosing) (suc level) inside × EachGroup P enclosing level following
 
 -- Such a fact about each lower group of a model.
 abbrev pub EachLowerGroup : (List Point → ℕ → Head → List Point → Groups → Type 0) → Definition → Type 0
@@ -93,8 +93,8 @@ EachLowerGroup P d = EachGroup P (d .top .points) 2 (d .top .groups)
 
 -- If a point gives the scale factor, it is a sunssf point among these.
 abbrev pub ScaleResolves : List Point → Point → Type 0
-ScaleResolves reach p =
-    p .scaleKind ≡ scaleByPoint → (q : Point) × (In q reach) × (q .number ≡ p .scale) × (q .typeCode ≡ sunssf)
+ScaleResolves inScope p =
+    p .scaleKind ≡ scaleByPoint → (q : Point) × (In q inScope) × (q .number ≡ p .scale) × (q .typeCode ≡ sunssf)
 
 -- If a point gives the count, it is a uint16 point with access R among these.
 abbrev pub CountResolves : List Point → Head → Type 0
@@ -104,4 +104,4 @@ CountResolves top h =
 
 -- A fill group stands directly in the top group, which is level 1, and no group stands behind it.
 abbrev pub FillsLast : ℕ → Head → Groups → Type 0
-FillsLast level h behind = h .countKind ≡ fill → (level ≡ 2) × (behind ≡ noGroup)
+FillsLast level h following = h .countKind ≡ fill → (level ≡ 2) × (following ≡ noGroup)

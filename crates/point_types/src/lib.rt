@@ -4,7 +4,7 @@
 ghost use mathlib.Core.Path.{_≡_};
 ghost use mathlib.Core.Option.{some};
 ghost use Rattle.point_types.specs.Rows.{row, mayScale, registersOf, rowOf};
-ghost use Rattle.point_types.specs.Answers.{countAnswer, foundMeans, kindMeans, unimplementedMeans, rangeMeans};
+ghost use Rattle.point_types.specs.CodeTypes.{toSpecCount, toSpecFound, toSpecKind, toSpecUnimplemented, toSpecRange};
 use crate::Kind::Float;
 use crate::Kind::Signed;
 use crate::Kind::Unsigned;
@@ -63,7 +63,7 @@ pub enum RegisterCount {
 
 // The row of a type code.
 pub fn row_of(type_code: u16) -> Found
-    ensures { λ r. ⌜ foundMeans r ≡ rowOf «type_code» ⌝ }
+    ensures { λ r. ⌜ toSpecFound r ≡ rowOf «type_code» ⌝ }
 {
     match type_code {
         1 => row_found(1, 1, 1, true, Signed, At(0x8000), Whole), // int16
@@ -101,7 +101,7 @@ fn row_found(
     unimplemented: Unimplemented,
     range: Range,
 ) -> Found
-    ensures { λ r. ⌜ foundMeans r ≡ some (row code fewest most scalable (kindMeans kind) (unimplementedMeans unimplemented) (rangeMeans range)) ⌝ }
+    ensures { λ r. ⌜ toSpecFound r ≡ some (row code fewest most scalable (toSpecKind kind) (toSpecUnimplemented unimplemented) (toSpecRange range)) ⌝ }
 {
     Found::Row(TypeRow {
         code,
@@ -116,7 +116,7 @@ fn row_found(
 
 // How many registers a point of this type takes.
 pub fn register_count(type_code: u16) -> RegisterCount
-    ensures { λ r. ⌜ countAnswer r ≡ registersOf «type_code» ⌝ }
+    ensures { λ r. ⌜ toSpecCount r ≡ registersOf «type_code» ⌝ }
 {
     let found = row_of(type_code);
     match found {

@@ -1,6 +1,6 @@
 // The command `check CATALOG`: how many models a catalog has, or why it is refused.
 use crate::fields;
-use crate::fields::ROOM;
+use crate::fields::CAPACITY;
 use crate::fields::WORD_DIGITS;
 use crate::output;
 use crate::plants::CATALOG_CAPACITY;
@@ -8,7 +8,7 @@ use catalog::Checked;
 
 // Answers the fields from `at` on. False, with nothing written, where they are bad.
 pub(crate) fn run(line: &[u8], at: usize) -> bool {
-    let mut catalog = [0u16; ROOM];
+    let mut catalog = [0u16; CAPACITY];
     let stored = fields::words_field(line, at, WORD_DIGITS, CATALOG_CAPACITY, &mut catalog);
     check_if(
         fields::nothing_left(line, stored.next),
@@ -18,7 +18,7 @@ pub(crate) fn run(line: &[u8], at: usize) -> bool {
 }
 
 // Writes the answer where the line is good, and says whether it is.
-fn check_if(is_good: bool, catalog: &[u16; ROOM], count: usize) -> bool {
+fn check_if(is_good: bool, catalog: &[u16; CAPACITY], count: usize) -> bool {
     if is_good {
         write_checked(fields::first(catalog, count));
     }

@@ -13,10 +13,10 @@ const CAPACITY: usize = 64;
 // Answers the fields from `at` on. False, with nothing written, where they are bad.
 pub(crate) fn run(line: &[u8], at: usize) -> bool {
     let triple = quantity::triple_at(line, at);
-    let room = fields::decimal_field(line, triple.next, CAPACITY as u64);
-    let is_good = fields::nothing_left(line, room.next);
+    let capacity = fields::decimal_field(line, triple.next, CAPACITY as u64);
+    let is_good = fields::nothing_left(line, capacity.next);
     if is_good {
-        write_in(triple, room.value as usize);
+        write_in(triple, capacity.value as usize);
     }
     is_good
 }

@@ -1,6 +1,6 @@
 // The command `decode CODE WORDS`: one value from a type code and four registers.
 use crate::fields;
-use crate::fields::ROOM;
+use crate::fields::CAPACITY;
 use crate::fields::WORD_DIGITS;
 use crate::output;
 use values::Value;
@@ -8,14 +8,14 @@ use values::Value;
 // Answers the fields from `at` on. False, with nothing written, where they are bad.
 pub(crate) fn run(line: &[u8], at: usize) -> bool {
     let code = fields::u16_field(line, at);
-    let mut words = [0u16; ROOM];
+    let mut words = [0u16; CAPACITY];
     let stored = fields::words_field(line, code.next, WORD_DIGITS, 4, &mut words);
     let is_good = stored.count == 4 && fields::nothing_left(line, stored.next);
     decode_if(is_good, code.value, &words)
 }
 
 // Writes the answer where the line is good, and says whether it is.
-fn decode_if(is_good: bool, type_code: u16, words: &[u16; ROOM]) -> bool {
+fn decode_if(is_good: bool, type_code: u16, words: &[u16; CAPACITY]) -> bool {
     if is_good {
         write_value(type_code, [words[0], words[1], words[2], words[3]]);
     }

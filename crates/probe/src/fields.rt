@@ -41,7 +41,7 @@ pub(crate) const WORD_DIGITS: usize = 4;
 
 // The capacity for the words of a field. It is one number for all, so that one function can fill it as an array: where an
 // array is made and lent as a slice, the prover counts its elements.
-pub(crate) const ROOM: usize = 81920;
+pub(crate) const CAPACITY: usize = 81920;
 
 // Where `byte` stands first in `s` from `start` on, or the end of `s` where it doesn't.
 pub(crate) fn find(s: &[u8], start: usize, byte: u8) -> usize
@@ -151,7 +151,7 @@ pub(crate) fn words_field(
     at: usize,
     digits: usize,
     limit: usize,
-    out: &mut [u16; ROOM],
+    out: &mut [u16; CAPACITY],
 ) -> Stored
     requires { ⌜ (0 < digits) × (limit ≤ 81920) ⌝ }
 {
@@ -168,7 +168,7 @@ pub(crate) fn words_field(
 }
 
 // The first words of `s`, as far as it goes.
-pub(crate) fn first<'a>(s: &'a [u16; ROOM], count: usize) -> &'a [u16] {
+pub(crate) fn first<'a>(s: &'a [u16; CAPACITY], count: usize) -> &'a [u16] {
     part(s, count)
 }
 
@@ -197,7 +197,7 @@ fn store(
     end: usize,
     digits: usize,
     limit: usize,
-    out: &mut [u16; ROOM],
+    out: &mut [u16; CAPACITY],
 ) -> bool
     requires { ⌜ (0 < digits) × (limit ≤ 81920) × (end ≤ length (now line)) ⌝ }
 {

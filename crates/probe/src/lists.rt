@@ -1,7 +1,7 @@
 // The command `list ENTRIES CATALOG MAP`: the points of a register map by a catalog, put into a list of ENTRIES
 // numbers.
 use crate::fields;
-use crate::fields::ROOM;
+use crate::fields::CAPACITY;
 use crate::output;
 use crate::plants::CATALOG_CAPACITY;
 use crate::plants::MAP_CAPACITY;
@@ -16,22 +16,22 @@ const LIST_CAPACITY: usize = 20000;
 
 // Answers the fields from `at` on. False, with nothing written, where they are bad.
 pub(crate) fn run(line: &[u8], at: usize) -> bool {
-    let mut catalog = [0u16; ROOM];
-    let mut map = [0u16; ROOM];
-    let room = fields::decimal_field(line, at, LIST_CAPACITY as u64);
+    let mut catalog = [0u16; CAPACITY];
+    let mut map = [0u16; CAPACITY];
+    let capacity = fields::decimal_field(line, at, LIST_CAPACITY as u64);
     let plant = plant_at(
         line,
-        room.next,
+        capacity.next,
         CATALOG_CAPACITY,
         &mut catalog,
         MAP_CAPACITY,
         &mut map,
     );
-    list_if(plant, &catalog, &map, room.value as usize)
+    list_if(plant, &catalog, &map, capacity.value as usize)
 }
 
 // Writes the answer where the line is good, and says whether it is.
-fn list_if(plant: Plant, catalog: &[u16; ROOM], map: &[u16; ROOM], entries: usize) -> bool
+fn list_if(plant: Plant, catalog: &[u16; CAPACITY], map: &[u16; CAPACITY], entries: usize) -> bool
     requires { ⌜ entries ≤ 20000 ⌝ }
 {
     if plant.is_whole {

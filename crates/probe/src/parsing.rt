@@ -1,6 +1,6 @@
 // The command `parse BYTES`: the catalog and the map that the bytes of an input hold, with the room of `readplant`.
 use crate::fields;
-use crate::fields::ROOM;
+use crate::fields::CAPACITY;
 use crate::output;
 use input::FRAME_WORDS;
 use input::Parsed;
@@ -14,8 +14,8 @@ const PARSED_CAPACITY: usize = 8192;
 
 // Answers the fields from `at` on. False, with nothing written, where they are bad.
 pub(crate) fn run(line: &[u8], at: usize) -> bool {
-    let mut words = [0u16; ROOM];
-    let stored = fields::words_field(line, at, BYTE_DIGITS, ROOM, &mut words);
+    let mut words = [0u16; CAPACITY];
+    let stored = fields::words_field(line, at, BYTE_DIGITS, CAPACITY, &mut words);
     parse_if(
         fields::nothing_left(line, stored.next),
         &words,
@@ -24,9 +24,9 @@ pub(crate) fn run(line: &[u8], at: usize) -> bool {
 }
 
 // Writes the answer where the line is good, and says whether it is.
-fn parse_if(is_good: bool, words: &[u16; ROOM], count: usize) -> bool {
+fn parse_if(is_good: bool, words: &[u16; CAPACITY], count: usize) -> bool {
     if is_good {
-        let mut bytes = [0u8; ROOM];
+        let mut bytes = [0u8; CAPACITY];
         copy_bytes(words, &mut bytes);
         parse_bytes(&bytes, count);
     }
@@ -34,16 +34,16 @@ fn parse_if(is_good: bool, words: &[u16; ROOM], count: usize) -> bool {
 }
 
 // Copies the low byte of each word.
-fn copy_bytes(words: &[u16; ROOM], bytes: &mut [u8; ROOM]) {
+fn copy_bytes(words: &[u16; CAPACITY], bytes: &mut [u8; CAPACITY]) {
     let mut i = 0;
-    while i < ROOM {
+    while i < CAPACITY {
         bytes[i] = (words[i] % 256) as u8;
         i += 1;
     }
 }
 
 // Writes the answer for the first bytes. (Lent as an array, `bytes` asks no proof of its length.)
-fn parse_bytes(bytes: &[u8; ROOM], count: usize) {
+fn parse_bytes(bytes: &[u8; CAPACITY], count: usize) {
     parse_part(bytes, count);
 }
 

@@ -1,6 +1,6 @@
 // Two fields of words, with which a line must end: CATALOG MAP, or FALLBACK MAP.
 use crate::fields;
-use crate::fields::ROOM;
+use crate::fields::CAPACITY;
 use crate::fields::WORD_DIGITS;
 ghost use Prim.Native.Nat.{_≤_};
 
@@ -22,9 +22,9 @@ pub(crate) fn plant_at(
     line: &[u8],
     at: usize,
     most: usize,
-    first: &mut [u16; ROOM],
+    first: &mut [u16; CAPACITY],
     most_registers: usize,
-    map: &mut [u16; ROOM],
+    map: &mut [u16; CAPACITY],
 ) -> Plant
     requires { ⌜ (most ≤ 81920) × («most_registers» ≤ 81920) ⌝ }
 {

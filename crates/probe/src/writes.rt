@@ -1,7 +1,7 @@
 // The command `write MODEL POINT I2 I3 I4 RAW CATALOG MAP`: RAW written to a point of a register map, by the index of
 // its model, its number and its instance numbers at levels 2, 3 and 4.
 use crate::fields;
-use crate::fields::ROOM;
+use crate::fields::CAPACITY;
 use crate::output;
 use crate::plants::CATALOG_CAPACITY;
 use crate::plants::MAP_CAPACITY;
@@ -27,8 +27,8 @@ struct Path {
 
 // Answers the fields from `at` on. False, with nothing written, where they are bad.
 pub(crate) fn run(line: &[u8], at: usize) -> bool {
-    let mut catalog = [0u16; ROOM];
-    let mut map = [0u16; ROOM];
+    let mut catalog = [0u16; CAPACITY];
+    let mut map = [0u16; CAPACITY];
     let asked = write_at(line, at);
     let plant = plant_at(
         line,
@@ -72,7 +72,12 @@ fn path_at(line: &[u8], at: usize) -> Path {
 }
 
 // Writes the answer where the line is good, and says whether it is.
-fn write_if(plant: Plant, catalog: &[u16; ROOM], map: &mut [u16; ROOM], asked: Write) -> bool {
+fn write_if(
+    plant: Plant,
+    catalog: &[u16; CAPACITY],
+    map: &mut [u16; CAPACITY],
+    asked: Write,
+) -> bool {
     if plant.is_whole {
         write_part(
             fields::first(catalog, plant.words),

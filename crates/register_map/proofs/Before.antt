@@ -7,18 +7,18 @@ use borrow.Author.Tests.{le-leb, lt-leb}
 use lib.ListN.{length, take, drop, take-append-drop, length-drop}
 use lib.Seq.{length-take-le}
 use Rattle.register_map.specs.Scan.{Model, sizeOf, totalSize}
-use Rattle.register_map.specs.Insertion.{Placed, kept, inserted, insertedInFront, placed, before, gapsBefore}
+use Rattle.register_map.specs.Insertion.{Placed, kept, inserted, withInserted, placed, before, gapsBefore}
 use Rattle.register_map.proofs.PlacedModels.{size-append}
 
 -- An inserted model, by whether it lies before the address.
 module _ (at : ℕ) (m : Model) (ps : List Placed) (address : ℕ) where
-  before-passed : at + sizeOf m ≤ address → before at (inserted m ∷ ps) address ≡ m ∷ before (at + sizeOf m) ps address
+  is-before : at + sizeOf m ≤ address → before at (inserted m ∷ ps) address ≡ m ∷ before (at + sizeOf m) ps address
   unfolding before
-  before-passed h = simp (before, le-leb _ _ h)
+  is-before h = simp (before, le-leb _ _ h)
 
-  before-ahead : address < at + sizeOf m → before at (inserted m ∷ ps) address ≡ before (at + sizeOf m) ps address
+  not-before : address < at + sizeOf m → before at (inserted m ∷ ps) address ≡ before (at + sizeOf m) ps address
   unfolding before
-  before-ahead h = simp (before, lt-leb _ _ h)
+  not-before h = simp (before, lt-leb _ _ h)
 
 -- Nothing that begins at or behind an address, or at the one in front of it, lies before it.
 pub before-none : (at : ℕ) (ps : List Placed) (address : ℕ) → address < at + 2 → before at ps address ≡ []
@@ -27,15 +27,15 @@ before-none at [] address h = refl
 before-none at (kept m ∷ ps) address h = before-none (at + sizeOf m) ps address (omega arith)
 before-none at (inserted m ∷ ps) address h =
     let g : address < at + sizeOf m = omega arith in
-    before-ahead at m ps address g ∙ before-none (at + sizeOf m) ps address (omega arith)
+    not-before at m ps address g ∙ before-none (at + sizeOf m) ps address (omega arith)
 
 -- A gap that lies before the address.
 before-gap : (gap : List Model) (ps : List Placed) (at next address : ℕ) → next ≡ at + totalSize gap → next ≤ address
-    → before at (insertedInFront gap ps) address ≡ gap ++ before next ps address
+    → before at (withInserted gap ps) address ≡ gap ++ before next ps address
 before-gap [] ps at next address e h = let q : at ≡ next = omega arith in rw q
 before-gap (m ∷ gap) ps at next address e h =
     let l : at + sizeOf m ≤ address = omega arith in
-    before-passed at m (insertedInFront gap ps) address l
+    is-before at m (withInserted gap ps) address l
     ∙ ap {B = List Model} (λ ms. m ∷ ms) (before-gap gap ps (at + sizeOf m) next address (omega arith) h)
 
 -- Where there are no gaps, nothing is inserted.
@@ -49,7 +49,7 @@ module _ (m : Model) (ms : List Model) (at address : ℕ) where
   pub before-first : (gaps : List (List Model)) → address < at + sizeOf m + 2 → before at (placed (m ∷ ms) gaps) address ≡ []
   unfolding before placed
   before-first [] h = before-none (at + sizeOf m) (placed ms []) address h
-  before-first (gap ∷ gaps) h = before-none (at + sizeOf m) (insertedInFront gap (placed ms gaps)) address h
+  before-first (gap ∷ gaps) h = before-none (at + sizeOf m) (withInserted gap (placed ms gaps)) address h
 
   -- The first gap lies before an address behind it.
   pub before-next : (gap : List Model) (gaps : List (List Model)) → at + sizeOf m + totalSize gap ≤ address
@@ -59,19 +59,19 @@ module _ (m : Model) (ms : List Model) (at address : ℕ) where
   before-next gap gaps h = before-gap gap (placed ms gaps) (at + sizeOf m) (at + sizeOf m + totalSize gap) address refl h
 
 -- Before an address in a model, its header's included, or up to one register behind it, lie the gaps in front of the model.
-pub before-model : (front : List Model) (m : Model) (rest : List Model) (gaps : List (List Model)) (at header address : ℕ)
-    → header ≡ at + totalSize front + totalSize (gapsBefore (length front) gaps)
+pub before-model : (preceding : List Model) (m : Model) (rest : List Model) (gaps : List (List Model)) (at header address : ℕ)
+    → header ≡ at + totalSize preceding + totalSize (gapsBefore (length preceding) gaps)
     → header ≤ address
     → address < header + sizeOf m + 2
-    → before at (placed (front ++ m ∷ rest) gaps) address ≡ gapsBefore (length front) gaps
+    → before at (placed (preceding ++ m ∷ rest) gaps) address ≡ gapsBefore (length preceding) gaps
 unfolding gapsBefore
 before-model [] m rest gaps at header address e h g = before-first m rest at address gaps (omega arith)
-before-model (f ∷ front) m rest [] at header address e h g = before-no-gaps (f ∷ front ++ m ∷ rest) at address
-before-model (f ∷ front) m rest (gap ∷ gaps) at header address e h g =
-    let s = size-append gap (gapsBefore (length front) gaps) in
+before-model (f ∷ preceding) m rest [] at header address e h g = before-no-gaps (f ∷ preceding ++ m ∷ rest) at address
+before-model (f ∷ preceding) m rest (gap ∷ gaps) at header address e h g =
+    let s = size-append gap (gapsBefore (length preceding) gaps) in
     let next = at + sizeOf f + totalSize gap in
-    before-next f (front ++ m ∷ rest) at address gap gaps (omega arith)
-    ∙ ap (λ ms. gap ++ ms) (before-model front m rest gaps next header address (omega arith) h g)
+    before-next f (preceding ++ m ∷ rest) at address gap gaps (omega arith)
+    ∙ ap (λ ms. gap ++ ms) (before-model preceding m rest gaps next header address (omega arith) h g)
 
 -- The same of the model with an index.
 pub before-own : (ms : List Model) (gaps : List (List Model)) (i : ℕ) (m : Model) (rest : List Model) → drop i ms ≡ m ∷ rest

@@ -8,7 +8,7 @@ use native.Mathlib.Omega.{arith}
 use lib.ListN.{length, take, drop, length-append}
 use lib.Seq.{sets, length-sets, drop-append-add}
 use Rattle.lists.proofs.EachLaws.{each-replaced}
-use Rattle.registers.proofs.StoredRegisters.{part-of-first, sets-behind, sets-within}
+use Rattle.registers.proofs.StoredRegisters.{part-of-first, sets-append-right, sets-within}
 use Rattle.register_map.specs.Headers.{beginsWithSunS, opening}
 use Rattle.register_map.specs.Scan.{Model, totalSize, marked, scan, modelRegisters, WellFormed, BeginsWith1}
 use Rattle.register_map.proofs.HeaderLaws.{opening-none, opening-with-SunS}
@@ -20,61 +20,61 @@ use Rattle.register_map.proofs.Lengthened.{registers-append}
 abbrev pub storedIn : Model → ℕ → List ℕ → Model
 storedIn m offset vs = record { id = m .id; body = sets (m .body) offset vs }
 
-module _ (a b : ℕ) (front : List Model) (behind : List Model) (tail : List ℕ) where
+module _ (a b : ℕ) (preceding : List Model) (following : List Model) (tail : List ℕ) where
   -- A map up to a model's body,
   abbrev before : Model → List ℕ
-  before m = a ∷ b ∷ (modelRegisters front ++ m .id ∷ length (m .body) ∷ [])
+  before m = a ∷ b ∷ (modelRegisters preceding ++ m .id ∷ length (m .body) ∷ [])
 
   -- and behind it.
   abbrev after : List ℕ
-  after = modelRegisters behind ++ tail
+  after = modelRegisters following ++ tail
 
   -- A map is what stands before a body, the body, and what stands behind it.
   around-body : (m : Model)
-      → a ∷ b ∷ modelRegisters (front ++ m ∷ behind) ++ tail ≡ before m ++ (m .body ++ after)
+      → a ∷ b ∷ modelRegisters (preceding ++ m ∷ following) ++ tail ≡ before m ++ (m .body ++ after)
   unfolding modelRegisters
-  around-body m = rw (registers-append front (m ∷ behind)) (simp append-assoc)
+  around-body m = rw (registers-append preceding (m ∷ following)) (simp append-assoc)
 
   -- The body begins behind the models in front and the model's header.
-  before-length : (m : Model) → length (before m) ≡ 2 + totalSize front + 2
+  before-length : (m : Model) → length (before m) ≡ 2 + totalSize preceding + 2
   before-length m =
-      omega (arith, length-append (modelRegisters front) (m .id ∷ length (m .body) ∷ []), length-registers front)
+      omega (arith, length-append (modelRegisters preceding) (m .id ∷ length (m .body) ∷ []), length-registers preceding)
 
   -- Registers stored in the body.
-  registers-anew : (m : Model) (offset : ℕ) (vs : List ℕ) → offset + length vs ≤ length (m .body)
-      → (at : ℕ) → at ≡ 2 + totalSize front + 2 + offset
-      → sets (a ∷ b ∷ modelRegisters (front ++ m ∷ behind) ++ tail) at vs
-      ≡ a ∷ b ∷ modelRegisters (front ++ storedIn m offset vs ∷ behind) ++ tail
-  registers-anew m offset vs inside at e =
+  registers-replaced : (m : Model) (offset : ℕ) (vs : List ℕ) → offset + length vs ≤ length (m .body)
+      → (at : ℕ) → at ≡ 2 + totalSize preceding + 2 + offset
+      → sets (a ∷ b ∷ modelRegisters (preceding ++ m ∷ following) ++ tail) at vs
+      ≡ a ∷ b ∷ modelRegisters (preceding ++ storedIn m offset vs ∷ following) ++ tail
+  registers-replaced m offset vs inside at e =
       let place : at ≡ length (before m) + offset = omega (arith, before-length m) in
       let same : before m ≡ before (storedIn m offset vs) =
-      ap {B = List ℕ} (λ n. a ∷ b ∷ (modelRegisters front ++ m .id ∷ n ∷ [])) (sym (length-sets (m .body) offset vs)) in
-      ap (λ k. sets (a ∷ b ∷ modelRegisters (front ++ m ∷ behind) ++ tail) k vs) place
+      ap {B = List ℕ} (λ n. a ∷ b ∷ (modelRegisters preceding ++ m .id ∷ n ∷ [])) (sym (length-sets (m .body) offset vs)) in
+      ap (λ k. sets (a ∷ b ∷ modelRegisters (preceding ++ m ∷ following) ++ tail) k vs) place
       ∙ ap (λ l. sets l (length (before m) + offset) vs) (around-body m)
-      ∙ sets-behind vs (before m) (m .body ++ after) offset
+      ∙ sets-append-right vs (before m) (m .body ++ after) offset
       ∙ ap (λ l. before m ++ l) (sets-within vs (m .body) after offset inside)
       ∙ ap (λ l. l ++ (sets (m .body) offset vs ++ after)) same
       ∙ sym (around-body (storedIn m offset vs))
 
 -- The first model keeps its id.
-begins-replaced : (front behind : List Model) (m n : Model) → n .id ≡ m .id → BeginsWith1 true (front ++ m ∷ behind)
-    → BeginsWith1 true (front ++ n ∷ behind)
-begins-replaced [] behind m n e b = e ∙ b
-begins-replaced (f ∷ front) behind m n e b = b
+begins-replaced : (preceding following : List Model) (m n : Model) → n .id ≡ m .id → BeginsWith1 true (preceding ++ m ∷ following)
+    → BeginsWith1 true (preceding ++ n ∷ following)
+begins-replaced [] following m n e b = e ∙ b
+begins-replaced (f ∷ preceding) following m n e b = b
 
-module _ (map : List ℕ) (front : List Model) (m : Model) (behind : List Model) (made : MadeOf map (front ++ m ∷ behind))
+module _ (map : List ℕ) (preceding : List Model) (m : Model) (following : List Model) (made : MadeOf map (preceding ++ m ∷ following))
     (offset size : ℕ) (inside : offset + size ≤ length (m .body))
-    (at : ℕ) (place : at ≡ 2 + totalSize front + 2 + offset) where
+    (at : ℕ) (place : at ≡ 2 + totalSize preceding + 2 + offset) where
   -- Registers of a model's body lie in the map,
   pub inside-map : at + size ≤ length map
   inside-map =
       let a = made .register0 in
       let b = made .register1 in
       let tail : List ℕ = 65535 ∷ 0 ∷ made .tail in
-      let e = ap length (made .shape ∙ around-body a b front behind tail m) in
-      let l = length-append (before a b front behind tail m) (m .body ++ after a b front behind tail) in
-      let k = length-append (m .body) (after a b front behind tail) in
-      omega (arith, before-length a b front behind tail m)
+      let e = ap length (made .shape ∙ around-body a b preceding following tail m) in
+      let l = length-append (before a b preceding following tail m) (m .body ++ after a b preceding following tail) in
+      let k = length-append (m .body) (after a b preceding following tail) in
+      omega (arith, before-length a b preceding following tail m)
 
   -- and are the same there.
   pub registers-in-map : take size (drop at map) ≡ take size (drop offset (m .body))
@@ -82,55 +82,55 @@ module _ (map : List ℕ) (front : List Model) (m : Model) (behind : List Model)
       let a = made .register0 in
       let b = made .register1 in
       let tail : List ℕ = 65535 ∷ 0 ∷ made .tail in
-      let front′ = before a b front behind tail m in
-      let rest = after a b front behind tail in
-      let here : at ≡ length front′ + offset = omega (arith, before-length a b front behind tail m) in
+      let preceding′ = before a b preceding following tail m in
+      let rest = after a b preceding following tail in
+      let here : at ≡ length preceding′ + offset = omega (arith, before-length a b preceding following tail m) in
       ap (λ k. take size (drop k map)) here
-      ∙ ap (λ l. take size (drop (length front′ + offset) l)) (made .shape ∙ around-body a b front behind tail m)
-      ∙ ap (λ l. take size l) (drop-append-add front′ (m .body ++ rest) offset)
+      ∙ ap (λ l. take size (drop (length preceding′ + offset) l)) (made .shape ∙ around-body a b preceding following tail m)
+      ∙ ap (λ l. take size l) (drop-append-add preceding′ (m .body ++ rest) offset)
       ∙ part-of-first (m .body) rest offset size inside
 
-module _ (map : List ℕ) (front : List Model) (m : Model) (behind : List Model) (made : MadeOf map (front ++ m ∷ behind))
+module _ (map : List ℕ) (preceding : List Model) (m : Model) (following : List Model) (made : MadeOf map (preceding ++ m ∷ following))
     (offset : ℕ) (vs : List ℕ) (inside : offset + length vs ≤ length (m .body))
-    (at : ℕ) (place : at ≡ 2 + totalSize front + 2 + offset) where
+    (at : ℕ) (place : at ≡ 2 + totalSize preceding + 2 + offset) where
   -- The new map has the same first two registers, and the same registers behind the models.
-  shape-anew : sets map at vs
-      ≡ made .register0 ∷ made .register1 ∷ modelRegisters (front ++ storedIn m offset vs ∷ behind) ++ 65535 ∷ 0 ∷ made .tail
-  shape-anew =
+  shape-replaced : sets map at vs
+      ≡ made .register0 ∷ made .register1 ∷ modelRegisters (preceding ++ storedIn m offset vs ∷ following) ++ 65535 ∷ 0 ∷ made .tail
+  shape-replaced =
       ap (λ l. sets l at vs) (made .shape)
-      ∙ registers-anew (made .register0) (made .register1) front behind (65535 ∷ 0 ∷ made .tail) m offset vs inside at place
+      ∙ registers-replaced (made .register0) (made .register1) preceding following (65535 ∷ 0 ∷ made .tail) m offset vs inside at place
 
   -- It is made of the models, one with its new body.
-  made-anew : MadeOf (sets map at vs) (front ++ storedIn m offset vs ∷ behind)
-  made-anew =
+  made-replaced : MadeOf (sets map at vs) (preceding ++ storedIn m offset vs ∷ following)
+  made-replaced =
       let n = storedIn m offset vs in
       let same = length-sets (m .body) offset vs in
       record {
         register0 = made .register0;
         register1 = made .register1;
         tail = made .tail;
-        shape = shape-anew;
-        wellFormed = each-replaced WellFormed front behind m n (λ w. record {
+        shape = shape-replaced;
+        wellFormed = each-replaced WellFormed preceding following m n (λ w. record {
           notZero = w .notZero;
           notMarker = w .notMarker;
           notEmpty = omega (arith, w .notEmpty);
         }) (made .wellFormed);
-        begins = begins-replaced front behind m n refl (made .begins);
+        begins = begins-replaced preceding following m n refl (made .begins);
       }
 
   -- So it is scanned as these, up to the end marker.
-  pub scan-anew : scan (sets map at vs) ≡ record { models = front ++ storedIn m offset vs ∷ behind; ending = marked }
-  scan-anew =
-      let new = made-anew in
+  pub scan-replaced : scan (sets map at vs) ≡ record { models = preceding ++ storedIn m offset vs ∷ following; ending = marked }
+  scan-replaced =
+      let new = made-replaced in
       ap scan (new .shape)
-      ∙ scan-whole-back (new .register0) (new .register1) (front ++ storedIn m offset vs ∷ behind) (new .tail) (new .wellFormed)
+      ∙ scan-whole-back (new .register0) (new .register1) (preceding ++ storedIn m offset vs ∷ following) (new .tail) (new .wellFormed)
       (new .begins)
 
   -- And where neither 20 nor 21 arose, neither arises.
-  pub opens-anew : opening map ≡ none → opening (sets map at vs) ≡ none
-  opens-anew e =
+  pub opens-replaced : opening map ≡ none → opening (sets map at vs) ≡ none
+  opens-replaced e =
       let o = opening-none map e in
       let long = length-sets map at vs in
       let begins : beginsWithSunS (sets map at vs) ≡ beginsWithSunS map =
-      ap beginsWithSunS shape-anew ∙ sym (ap beginsWithSunS (made .shape)) in
+      ap beginsWithSunS shape-replaced ∙ sym (ap beginsWithSunS (made .shape)) in
       opening-with-SunS (sets map at vs) (omega (arith, o .0)) (begins ∙ o .1)

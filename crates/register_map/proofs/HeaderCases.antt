@@ -13,31 +13,31 @@ use Rattle.register_map.proofs.HeaderLaws.{first-id}
 
 -- A header with its registers: a model, the end marker, or a refusal.
 pub data HeaderCase (first : Bool) : List ℕ → Header → Type 0 where
-  modelCase : {id len : ℕ} {behind : List ℕ}
+  modelCase : {id len : ℕ} {remaining : List ℕ}
       → (first ≡ true → id ≡ 1)
       → (id ≡ 0 → ⊥)
       → (id ≡ endId → ⊥)
       → (len ≡ 0 → ⊥)
-      → len ≤ length behind
-      → HeaderCase first (id ∷ len ∷ behind) (model id len)
-  endCase : {id len : ℕ} {behind : List ℕ}
-      → (first ≡ true → id ≡ 1) → id ≡ endId → len ≡ 0 → HeaderCase first (id ∷ len ∷ behind) endMarker
+      → len ≤ length remaining
+      → HeaderCase first (id ∷ len ∷ remaining) (model id len)
+  endCase : {id len : ℕ} {remaining : List ℕ}
+      → (first ≡ true → id ≡ 1) → id ≡ endId → len ≡ 0 → HeaderCase first (id ∷ len ∷ remaining) endMarker
   refusedCase : {rest : List ℕ} {number : ℕ} → HeaderCase first rest (refused number)
 
 -- Every header is one of these cases.
 pub header-case : (first : Bool) (rest : List ℕ) → HeaderCase first rest (headerAt first rest)
 header-case first [] = refusedCase
 header-case first (id ∷ []) = refusedCase
-header-case first (id ∷ len ∷ behind) =
-    let Case : Header → Type 0 = HeaderCase first (id ∷ len ∷ behind) in
+header-case first (id ∷ len ∷ remaining) =
+    let Case : Header → Type 0 = HeaderCase first (id ∷ len ∷ remaining) in
     by-test Case (first && not (eqb id 1)) (λ t. refusedCase) (λ p.
     let one = first-id first id .0 p in
     by-test Case (eqb id 0) (λ t. refusedCase) (λ z.
     by-test Case (eqb id endId)
     (λ e. by-test Case (eqb len 0) (λ l. endCase one (eqb-true id endId e) (eqb-true len 0 l)) (λ l. refusedCase))
     (λ e. by-test Case (eqb len 0) (λ t. refusedCase) (λ l.
-    by-test Case (ltb (length behind) len) (λ t. refusedCase) (λ fits.
-    modelCase one (eqb-false id 0 z) (eqb-false id endId e) (eqb-false len 0 l) (ltb-false (length behind) len fits))))))
+    by-test Case (ltb (length remaining) len) (λ t. refusedCase) (λ fits.
+    modelCase one (eqb-false id 0 z) (eqb-false id endId e) (eqb-false len 0 l) (ltb-false (length remaining) len fits))))))
 
 -- What holds of a model's header: its id is that of a model, and its length is 1 or more and does not run past the map.
 pub record ModelHeader (id len : ℕ) (rest : List ℕ) : Type 0 where

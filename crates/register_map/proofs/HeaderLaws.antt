@@ -62,7 +62,7 @@ header-drop first map at h =
 header-none : (first : Bool) (rest : List ℕ) → length rest < 2 → headerAt first rest ≡ refused 22
 header-none first [] h = refl
 header-none first (id ∷ []) h = refl
-header-none first (id ∷ len ∷ behind) h = absurd (omega arith)
+header-none first (id ∷ len ∷ remaining) h = absurd (omega arith)
 
 -- Under two registers are left from an address on.
 pub header-late : (first : Bool) (map : List ℕ) (at : ℕ) → length map < at + 2 → headerAt first (drop at map) ≡ refused 22

@@ -95,24 +95,24 @@ module _ (map : List ℕ) (ends : scan map .ending ≡ marked) where
       ∙ sym (m .shape)
 
   -- A model that was there has its header behind the models in front of it and those of their gaps.
-  pub lengthened-header : (front : List Model) (m : Model) (rest : List Model) (gaps : List (List Model))
-      → scan map .models ≡ front ++ m ∷ rest
-      → (behind : List ℕ)
-      × (drop (2 + (totalSize front + totalSize (gapsBefore (length front) gaps))) (lengthened map gaps)
-      ≡ m .id ∷ length (m .body) ∷ m .body ++ behind)
+  pub lengthened-header : (preceding : List Model) (m : Model) (rest : List Model) (gaps : List (List Model))
+      → scan map .models ≡ preceding ++ m ∷ rest
+      → (following : List ℕ)
+      × (drop (2 + (totalSize preceding + totalSize (gapsBefore (length preceding) gaps))) (lengthened map gaps)
+      ≡ m .id ∷ length (m .body) ∷ m .body ++ following)
   unfolding modelRegisters
-  lengthened-header front m rest gaps e =
+  lengthened-header preceding m rest gaps e =
       let made = made-of-models map ends in
-      let s = placed-split front m rest gaps in
+      let s = placed-split preceding m rest gaps in
       let tail : List ℕ = 65535 ∷ 0 ∷ made .tail in
-      let at = totalSize front + totalSize (gapsBefore (length front) gaps) in
-      let behind : List ℕ = modelRegisters (s .0) ++ tail in
-      let before : List Model = allModels (placed front gaps) in
+      let at = totalSize preceding + totalSize (gapsBefore (length preceding) gaps) in
+      let following : List ℕ = modelRegisters (s .0) ++ tail in
+      let before : List Model = allModels (placed preceding gaps) in
       let models : allModels (placed (scan map .models) gaps) ≡ before ++ m ∷ s .0 =
       ap (λ ms. allModels (placed ms gaps)) e ∙ s .1 in (
-        behind,
+        following,
         sym (drop-drop at 2 (lengthened map gaps))
             ∙ ap (λ l. drop at (drop 2 l)) (lengthened-shape gaps)
             ∙ ap (λ ms. drop at (modelRegisters ms ++ tail)) models
-            ∙ model-at before m (s .0) tail at (length-registers before ∙ placed-size front gaps),
+            ∙ model-at before m (s .0) tail at (length-registers before ∙ placed-size preceding gaps),
       )

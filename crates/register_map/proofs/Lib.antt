@@ -1,7 +1,7 @@
 -- The claims
 pub mod ScanBack
 pub mod MadeOfModels
-pub mod BehindTheMarker
+pub mod PastTheMarker
 pub mod Lengthened
 pub mod BodyReplaced
 pub mod Before

@@ -36,27 +36,27 @@ record TakenApart (first : Bool) (rest : List ℕ) (s : Scan) : Type 0 where
   pub begins : s .ending ≡ marked → BeginsWith1 first (s .models)
 
 -- A model in front of the rest.
-rejoined : (id len : ℕ) (behind ms left : List ℕ) → length (take len behind) ≡ len → drop len behind ≡ ms ++ left
-    → _≡_ {A = List ℕ} (id ∷ len ∷ behind) ((id ∷ length (take len behind) ∷ take len behind ++ ms) ++ left)
-rejoined id len behind ms left l e = rw (l, append-assoc (take len behind) ms left, ← e, take-append-drop len behind)
+rejoined : (id len : ℕ) (remaining ms left : List ℕ) → length (take len remaining) ≡ len → drop len remaining ≡ ms ++ left
+    → _≡_ {A = List ℕ} (id ∷ len ∷ remaining) ((id ∷ length (take len remaining) ∷ take len remaining ++ ms) ++ left)
+rejoined id len remaining ms left l e = rw (l, append-assoc (take len remaining) ms left, ← e, take-append-drop len remaining)
 
 scan-step : (k : ℕ) (first : Bool) (rest : List ℕ) (x : Header) → HeaderCase first rest x → headerAt first rest ≡ x
     → ((r : List ℕ) → TakenApart false r (scanFrom k false r)) → TakenApart first rest (scanFrom (suc k) first rest)
 unfolding modelRegisters
-scan-step k first rest x (modelCase {id = id} {len = len} {behind = behind} one notZero notMarker long fits) e later =
-    let n : List Model = scanFrom k false (drop len behind) .models in
-    let t = later (drop len behind) in
-    let l = length-take-le len behind fits in
-    let m : Model = record { id = id; body = take len behind } in
+scan-step k first rest x (modelCase {id = id} {len = len} {remaining = remaining} one notZero notMarker long fits) e later =
+    let n : List Model = scanFrom k false (drop len remaining) .models in
+    let t = later (drop len remaining) in
+    let l = length-take-le len remaining fits in
+    let m : Model = record { id = id; body = take len remaining } in
     let w : WellFormed m = record { notZero = notZero; notMarker = notMarker; notEmpty = omega (arith, long) } in
     rw (scan-model k first rest e) (record {
       left = t .left;
-      shape = rejoined id len behind (modelRegisters n) (t .left) l (t .shape);
+      shape = rejoined id len remaining (modelRegisters n) (t .left) l (t .shape);
       wellFormed = (w, t .wellFormed);
       ends = t .ends;
       begins = λ h. begins-model first m n one;
     })
-scan-step k first rest x (endCase {id = id} {len = len} {behind = behind} one e′ l) e later =
+scan-step k first rest x (endCase {id = id} {len = len} {remaining = remaining} one e′ l) e later =
     rw (scan-end k first rest e) (record {
       left = rest;
       shape = refl;

@@ -8,7 +8,7 @@ use lib.ListN.{length, length-append}
 use Rattle.lists.specs.Each.{Each}
 use Rattle.lists.proofs.EachLaws.{each-append}
 use Rattle.register_map.specs.Scan.{Model, totalSize, BeginsWith1}
-use Rattle.register_map.specs.Insertion.{Placed, allModels, insertedInFront, placed, gapsBefore}
+use Rattle.register_map.specs.Insertion.{Placed, allModels, withInserted, placed, gapsBefore}
 
 -- Sizes add up.
 pub size-append : (ms ns : List Model) → totalSize (ms ++ ns) ≡ totalSize ms + totalSize ns
@@ -22,7 +22,7 @@ no-gaps zero = refl
 no-gaps (suc i) = refl
 
 -- The models of a gap in front of others.
-all-inserted : (gap : List Model) (ps : List Placed) → allModels (insertedInFront gap ps) ≡ gap ++ allModels ps
+all-inserted : (gap : List Model) (ps : List Placed) → allModels (withInserted gap ps) ≡ gap ++ allModels ps
 all-inserted [] ps = refl
 all-inserted (m ∷ gap) ps = ap {B = List Model} (λ ms. m ∷ ms) (all-inserted gap ps)
 
@@ -81,21 +81,21 @@ placed-begins (m ∷ ms) [] b = b
 placed-begins (m ∷ ms) (gap ∷ gaps) b = b
 
 -- A model that was there stands behind the models in front of it and those of their gaps.
-pub placed-split : (front : List Model) (m : Model) (rest : List Model) (gaps : List (List Model))
-    → (behind : List Model) × (allModels (placed (front ++ m ∷ rest) gaps) ≡ allModels (placed front gaps) ++ m ∷ behind)
+pub placed-split : (preceding : List Model) (m : Model) (rest : List Model) (gaps : List (List Model))
+    → (following : List Model) × (allModels (placed (preceding ++ m ∷ rest) gaps) ≡ allModels (placed preceding gaps) ++ m ∷ following)
 unfolding placed
 placed-split [] m rest [] = (allModels (placed rest []), refl)
 placed-split [] m rest (gap ∷ gaps) = (gap ++ allModels (placed rest gaps), all-gap m rest gap gaps)
-placed-split (f ∷ front) m rest [] =
-    let s = placed-split front m rest [] in
+placed-split (f ∷ preceding) m rest [] =
+    let s = placed-split preceding m rest [] in
     (s .0, ap {B = List Model} (λ ms. f ∷ ms) (s .1))
-placed-split (f ∷ front) m rest (gap ∷ gaps) =
-    let s = placed-split front m rest gaps in
-    let before : List Model = allModels (placed front gaps) in
-    let e : gap ++ allModels (placed (front ++ m ∷ rest) gaps) ≡ (gap ++ before) ++ m ∷ s .0 =
+placed-split (f ∷ preceding) m rest (gap ∷ gaps) =
+    let s = placed-split preceding m rest gaps in
+    let before : List Model = allModels (placed preceding gaps) in
+    let e : gap ++ allModels (placed (preceding ++ m ∷ rest) gaps) ≡ (gap ++ before) ++ m ∷ s .0 =
     rw (s .1, append-assoc gap before (m ∷ s .0)) in (
       s .0,
-      all-gap f (front ++ m ∷ rest) gap gaps
+      all-gap f (preceding ++ m ∷ rest) gap gaps
           ∙ ap {B = List Model} (λ ms. f ∷ ms) e
-          ∙ ap {B = List Model} (λ ms. ms ++ m ∷ s .0) (sym (all-gap f front gap gaps)),
+          ∙ ap {B = List Model} (λ ms. ms ++ m ∷ s .0) (sym (all-gap f preceding gap gaps)),
     )

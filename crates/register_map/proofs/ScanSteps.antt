@@ -9,13 +9,13 @@ use lib.Dec.{eqb}
 use lib.ListN.{length, take, drop, length-drop}
 use lib.Seq.{drop-drop}
 use Rattle.register_map.specs.Headers.{Header, model, endMarker, refused, headerAt}
-use Rattle.register_map.specs.Scan.{marked, broken, ahead, scanFrom}
+use Rattle.register_map.specs.Scan.{marked, broken, withModel, scanFrom}
 
 -- The scan from a header on, by what stands there.
 module _ (n : ℕ) (first : Bool) (rest : List ℕ) where
   pub scan-model : {id len : ℕ} → headerAt first rest ≡ model id len
       → scanFrom (suc n) first rest
-      ≡ ahead (record { id = id; body = take len (drop 2 rest) }) (scanFrom n false (drop len (drop 2 rest)))
+      ≡ withModel (record { id = id; body = take len (drop 2 rest) }) (scanFrom n false (drop len (drop 2 rest)))
   unfolding scanFrom
   scan-model h = rw (h, scanFrom)
 
@@ -29,20 +29,20 @@ module _ (n : ℕ) (first : Bool) (rest : List ℕ) where
   scan-refused h = rw (h, scanFrom)
 
 -- The registers behind the model at an address.
-behind-model : (map : List ℕ) (at len : ℕ) → drop len (drop 2 (drop at map)) ≡ drop (at + 2 + len) map
-behind-model map at len = rw (drop-drop 2 at map, drop-drop len (at + 2) map)
+after-model : (map : List ℕ) (at len : ℕ) → drop len (drop 2 (drop at map)) ≡ drop (at + 2 + len) map
+after-model map at len = rw (drop-drop 2 at map, drop-drop len (at + 2) map)
 
 -- The model at an address, and the scan behind it.
 scan-model-at : (n : ℕ) (first : Bool) (map : List ℕ) (at : ℕ) {id len : ℕ} → headerAt first (drop at map) ≡ model id len
     → scanFrom (suc n) first (drop at map)
-    ≡ ahead (record { id = id; body = take len (drop (at + 2) map) }) (scanFrom n false (drop (at + 2 + len) map))
+    ≡ withModel (record { id = id; body = take len (drop (at + 2) map) }) (scanFrom n false (drop (at + 2 + len) map))
 scan-model-at n first map at {id} {len} h =
-    rw (scan-model n first (drop at map) h, behind-model map at len, drop-drop 2 at map)
+    rw (scan-model n first (drop at map) h, after-model map at len, drop-drop 2 at map)
 
 -- The same where the first header is known by its address.
 pub scan-next : (n : ℕ) (map : List ℕ) (at : ℕ) {id len : ℕ} → 2 ≤ at → headerAt (eqb at 2) (drop at map) ≡ model id len
     → scanFrom (suc n) (eqb at 2) (drop at map)
-    ≡ ahead
+    ≡ withModel
     (record { id = id; body = take len (drop (at + 2) map) })
     (scanFrom n (eqb (at + 2 + len) 2) (drop (at + 2 + len) map))
 scan-next n map at {id} {len} low h =
@@ -67,11 +67,11 @@ scan-enough (suc n) (suc k) first rest h g = by-header (headerAt first rest) ref
         → ((r : List ℕ) → length r ≤ n → length r ≤ k → scanFrom n false r ≡ scanFrom k false r)
         → scanFrom (suc n) first rest ≡ scanFrom (suc k) first rest
     by-header (model id len) e later =
-        let behind = drop len (drop 2 rest) in
+        let following = drop len (drop 2 rest) in
         rw (
           scan-model n first rest e,
           scan-model k first rest e,
-          later behind (simp length-drop (omega arith)) (simp length-drop (omega arith)),
+          later following (simp length-drop (omega arith)) (simp length-drop (omega arith)),
         )
     by-header endMarker e later = scan-end n first rest e ∙ sym (scan-end k first rest e)
     by-header (refused number) e later = scan-refused n first rest e ∙ sym (scan-refused k first rest e)

@@ -31,7 +31,7 @@ pub data Header : Type 0 where
 -- A header by its id, its length and the number of registers behind them, in the order of the refusals. 23: the first id is not
 -- 1. 24: id 0. 25: the marker's length is not 0, or another's is. 26: the length runs past the map.
 abbrev pub headerOf : Bool → ℕ → ℕ → ℕ → Header
-headerOf first id len behind =
+headerOf first id len remaining =
     elim (first && not (eqb id 1)) [
       | true ↦ refused 23
       | false ↦ elim (eqb id 0) [
@@ -40,7 +40,7 @@ headerOf first id len behind =
           | true ↦ elim (eqb len 0) [ true ↦ endMarker | false ↦ refused 25 ]
           | false ↦ elim (eqb len 0) [
             | true ↦ refused 25
-            | false ↦ elim (ltb behind len) [ true ↦ refused 26 | false ↦ model id len ]
+            | false ↦ elim (ltb remaining len) [ true ↦ refused 26 | false ↦ model id len ]
           ]
         ]
       ]
@@ -50,4 +50,4 @@ headerOf first id len behind =
 abbrev pub headerAt : Bool → List ℕ → Header
 headerAt first [] = refused 22
 headerAt first (id ∷ []) = refused 22
-headerAt first (id ∷ len ∷ behind) = headerOf first id len (length behind)
+headerAt first (id ∷ len ∷ remaining) = headerOf first id len (length remaining)

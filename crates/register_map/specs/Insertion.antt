@@ -18,16 +18,16 @@ allModels (kept m ∷ ps) = m ∷ allModels ps
 allModels (inserted m ∷ ps) = m ∷ allModels ps
 
 -- The models of a gap, in front of the models behind it.
-abbrev pub insertedInFront : List Model → List Placed → List Placed
-insertedInFront [] ps = ps
-insertedInFront (m ∷ ms) ps = inserted m ∷ insertedInFront ms ps
+abbrev pub withInserted : List Model → List Placed → List Placed
+withInserted [] ps = ps
+withInserted (m ∷ ms) ps = inserted m ∷ withInserted ms ps
 
 -- Behind each model the models of its gap, in their order. Gaps beyond the last model's are none, and where gaps are fewer, the
 -- last models have nothing behind them.
 unfoldable pub placed : List Model → List (List Model) → List Placed
 placed [] gaps = []
 placed (m ∷ ms) [] = kept m ∷ placed ms []
-placed (m ∷ ms) (gap ∷ gaps) = kept m ∷ insertedInFront gap (placed ms gaps)
+placed (m ∷ ms) (gap ∷ gaps) = kept m ∷ withInserted gap (placed ms gaps)
 
 -- The map with the models of the gaps inserted: its first two registers, the models, and what stood behind its last model.
 unfoldable pub lengthened : List ℕ → List (List Model) → List ℕ

@@ -1,4 +1,4 @@
 pub mod Headers
 pub mod Scan
 pub mod Insertion
-pub mod Answers
+pub mod CodeTypes

@@ -31,15 +31,15 @@ pub record Scan : Type 0 where
   pub ending : Ending
 
 -- A model in front of those scanned.
-abbrev pub ahead : Model → Scan → Scan
-ahead m s = record { models = m ∷ s .models; ending = s .ending }
+abbrev pub withModel : Model → Scan → Scan
+withModel m s = record { models = m ∷ s .models; ending = s .ending }
 
 -- At most so many models from a header on. (A map has fewer models than registers, and where no register is left, 22 is right.)
 unfoldable pub scanFrom : ℕ → Bool → List ℕ → Scan
 scanFrom zero first rest = record { models = []; ending = broken 22 }
 scanFrom (suc n) first rest =
     elim (headerAt first rest) [
-      | model id len ↦ ahead (record { id = id; body = take len (drop 2 rest) }) (scanFrom n false (drop len (drop 2 rest)))
+      | model id len ↦ withModel (record { id = id; body = take len (drop 2 rest) }) (scanFrom n false (drop len (drop 2 rest)))
       | endMarker ↦ record { models = []; ending = marked }
       | refused number ↦ record { models = []; ending = broken number }
     ]

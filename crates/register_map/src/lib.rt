@@ -4,7 +4,7 @@ ghost use Prim.Native.Nat.{_+_};
 ghost use lib.Dec.{eqb};
 ghost use lib.ListN.{drop};
 ghost use Rattle.register_map.specs.Headers as Headers;
-ghost use Rattle.register_map.specs.Answers.{headerForm, openingForm};
+ghost use Rattle.register_map.specs.CodeTypes.{toSpecHeader, toSpecOpening};
 
 // The most registers of a map.
 const MOST_REGISTERS: usize = 65536;
@@ -35,7 +35,7 @@ pub enum Opening {
 
 // The refusals of a map as a whole.
 pub fn opened(map: &[u16]) -> Opening
-    ensures { λ r. ⌜ openingForm r ≡ Headers.opening (now (map .entry)) ⌝ }
+    ensures { λ r. ⌜ toSpecOpening r ≡ Headers.opening (now (map .entry)) ⌝ }
 {
     if MOST_REGISTERS < map.len() {
         return Opening::Refused(20);
@@ -54,7 +54,7 @@ pub fn opened(map: &[u16]) -> Opening
 
 // The header at an address: whatever stands there is taken for one.
 pub fn header_at(map: &[u16], at: usize) -> Header
-    ensures { λ r. ⌜ headerForm r ≡ Headers.headerAt (eqb at 2) (drop at (now (map .entry))) ⌝ }
+    ensures { λ r. ⌜ toSpecHeader r ≡ Headers.headerAt (eqb at 2) (drop at (now (map .entry))) ⌝ }
 {
     if map.len() <= at {
         return Header::Refused(22);
@@ -64,13 +64,13 @@ pub fn header_at(map: &[u16], at: usize) -> Header
     }
     let id = map[at];
     let length = map[at + 1];
-    let behind = map.len() - at - 2;
-    header_of(at == FIRST_HEADER, id, length, behind)
+    let remaining = map.len() - at - 2;
+    header_of(at == FIRST_HEADER, id, length, remaining)
 }
 
 // A header by its id, its length and the number of registers behind them, in the order of the refusals.
-fn header_of(first: bool, id: u16, length: u16, behind: usize) -> Header
-    ensures { λ r. ⌜ headerForm r ≡ Headers.headerOf first id length behind ⌝ }
+fn header_of(first: bool, id: u16, length: u16, remaining: usize) -> Header
+    ensures { λ r. ⌜ toSpecHeader r ≡ Headers.headerOf first id length remaining ⌝ }
 {
     if first {
         if id != 1 {
@@ -89,7 +89,7 @@ fn header_of(first: bool, id: u16, length: u16, behind: usize) -> Header
     if length == 0 {
         return Header::Refused(25);
     }
-    if behind < length as usize {
+    if remaining < length as usize {
         return Header::Refused(26);
     }
     Header::Model { id, length }

@@ -55,8 +55,8 @@ pub one-more : (k raw r : ℕ) → raw < 65536 ^ k → r < 65536 → raw * 65536
 one-more k raw r h l = rw (pow-suc 65536 k) (omega (arith, mul-le-mul-right 65536 h))
 
 -- Up to three registers leave room for a fourth in 64 bits.
-pub room : (k raw : ℕ) → k < 4 → raw < 65536 ^ k → raw < 281474976710656
-room k raw h l = omega (arith, pow-le-pow-right {n = 65536} (omega arith) {i = k} {j = 3} (omega arith))
+pub capacity : (k raw : ℕ) → k < 4 → raw < 65536 ^ k → raw < 281474976710656
+capacity k raw h l = omega (arith, pow-le-pow-right {n = 65536} (omega arith) {i = k} {j = 3} (omega arith))
 
 -- Any power of 65536 is positive, and k registers have 16 bits each.
 pub positive : (k : ℕ) → 0 < 65536 ^ k

@@ -21,8 +21,8 @@ pub later-registers : (k : ℕ) (rs : List ℕ) → AreRegisters rs → AreRegis
 later-registers = each-drop (λ r. r < 65536)
 
 -- Behind the end nothing is taken.
-pub part-behind : (rs : List ℕ) (start count : ℕ) → length rs ≤ start → [] ≡ take count (drop start rs)
-part-behind rs start count h = rw (drop-of-length-le rs {i = start} h) (sym (take-nil count))
+pub part-past-end : (rs : List ℕ) (start count : ℕ) → length rs ≤ start → [] ≡ take count (drop start rs)
+part-past-end rs start count h = rw (drop-of-length-le rs {i = start} h) (sym (take-nil count))
 
 -- Where no more is left than is asked for, all of it is taken.
 pub part-rest : (rs : List ℕ) (start count : ℕ) → length rs - start ≤ count

@@ -23,19 +23,19 @@ module _ {A : Type 0} where
       ∙ take-append-le size (drop a xs) ys (omega (arith, length-drop a xs))
 
   -- One stored behind a front,
-  set-behind : (xs ys : List A) (i : ℕ) (a : A) → set (xs ++ ys) (length xs + i) a ≡ xs ++ set ys i a
-  set-behind [] ys i a = ap (λ k. set ys k a) (zero-add i)
-  set-behind (x ∷ xs) ys i a =
-      ap (λ k. set (x ∷ (xs ++ ys)) k a) (suc-add (length xs) i) ∙ ap (λ zs. x ∷ zs) (set-behind xs ys i a)
+  set-append-right : (xs ys : List A) (i : ℕ) (a : A) → set (xs ++ ys) (length xs + i) a ≡ xs ++ set ys i a
+  set-append-right [] ys i a = ap (λ k. set ys k a) (zero-add i)
+  set-append-right (x ∷ xs) ys i a =
+      ap (λ k. set (x ∷ (xs ++ ys)) k a) (suc-add (length xs) i) ∙ ap (λ zs. x ∷ zs) (set-append-right xs ys i a)
 
   -- and a run.
-  pub sets-behind : (vs xs ys : List A) (i : ℕ) → sets (xs ++ ys) (length xs + i) vs ≡ xs ++ sets ys i vs
-  sets-behind [] xs ys i = refl
-  sets-behind (v ∷ vs) xs ys i =
+  pub sets-append-right : (vs xs ys : List A) (i : ℕ) → sets (xs ++ ys) (length xs + i) vs ≡ xs ++ sets ys i vs
+  sets-append-right [] xs ys i = refl
+  sets-append-right (v ∷ vs) xs ys i =
       let next : suc (length xs + i) ≡ length xs + suc i = omega arith in
-      ap (λ zs. sets zs (suc (length xs + i)) vs) (set-behind xs ys i v)
+      ap (λ zs. sets zs (suc (length xs + i)) vs) (set-append-right xs ys i v)
       ∙ ap (λ k. sets (xs ++ set ys i v) k vs) next
-      ∙ sets-behind vs xs (set ys i v) (suc i)
+      ∙ sets-append-right vs xs (set ys i v) (suc i)
 
   -- A run stored within a front.
   pub sets-within : (vs xs ys : List A) (i : ℕ) → i + length vs ≤ length xs → sets (xs ++ ys) i vs ≡ sets xs i vs ++ ys
@@ -69,12 +69,12 @@ module _ {A : Type 0} (l : List A) (at : ℕ) (vs : List A) where
     parts = sets-eq vs l at inside ∙ append-assoc (take at l) vs (drop (at + length vs) l)
 
     -- As many are before the run as its place says.
-    front : length (take at l) ≡ at
-    front = length-take-le at l (omega arith)
+    preceding : length (take at l) ≡ at
+    preceding = length-take-le at l (omega arith)
 
     -- From the run on.
     from-run : drop at after ≡ vs ++ drop (at + length vs) l
-    from-run = rw parts (drop-at (take at l) (vs ++ drop (at + length vs) l) at front)
+    from-run = rw parts (drop-at (take at l) (vs ++ drop (at + length vs) l) at preceding)
 
     -- The run is read back.
     pub run-stored : take (length vs) (drop at after) ≡ vs
@@ -89,27 +89,27 @@ module _ {A : Type 0} (l : List A) (at : ℕ) (vs : List A) where
         ∙ ap (λ (xs : List A). getD xs 0 d) run-stored
 
     -- From behind the run on.
-    from-behind : drop (at + length vs) after ≡ drop (at + length vs) l
-    from-behind =
+    from-after : drop (at + length vs) after ≡ drop (at + length vs) l
+    from-after =
         sym (drop-drop (length vs) at after)
         ∙ ap (drop (length vs)) from-run
         ∙ drop-at vs (drop (at + length vs) l) (length vs) refl
 
     -- A part before or behind the run stays.
     pub part-stays : (a size : ℕ) → (a + size ≤ at) ⊎ (at + length vs ≤ a) → take size (drop a after) ≡ take size (drop a l)
-    part-stays a size (inr behind) =
+    part-stays a size (inr following) =
         let e : at + length vs + (a - (at + length vs)) ≡ a = omega arith in
         let k = a - (at + length vs) in
         let same : drop a after ≡ drop a l =
-        ap (λ (i : ℕ). drop i after) (sym e) ∙ sym (drop-drop k (at + length vs) after) ∙ ap (drop k) from-behind
+        ap (λ (i : ℕ). drop i after) (sym e) ∙ sym (drop-drop k (at + length vs) after) ∙ ap (drop k) from-after
         ∙ drop-drop k (at + length vs) l ∙ ap (λ (i : ℕ). drop i l) e in
         ap (take size) same
     part-stays a size (inl before) =
         let T = take at l in
-        let room : a + size ≤ length T = omega (arith, front) in
+        let capacity : a + size ≤ length T = omega (arith, preceding) in
         ap (λ (xs : List A). take size (drop a xs)) parts
-        ∙ part-of-first T (vs ++ drop (at + length vs) l) a size room
-        ∙ sym (part-of-first T (drop at l) a size room)
+        ∙ part-of-first T (vs ++ drop (at + length vs) l) a size capacity
+        ∙ sym (part-of-first T (drop at l) a size capacity)
         ∙ ap (λ (xs : List A). take size (drop a xs)) (take-append-drop at l)
 
 -- What is stored where it was changes nothing.
@@ -118,9 +118,9 @@ stored-same l at n h =
     let part = take n (drop at l) in
     let left = length-drop at l in
     let long : length part ≡ n = length-take-le n (drop at l) (omega arith) in
-    let behind : drop (at + length part) l ≡ drop n (drop at l) = ap (λ k. drop (at + k) l) long ∙ sym (drop-drop n at l) in
+    let following : drop (at + length part) l ≡ drop n (drop at l) = ap (λ k. drop (at + k) l) long ∙ sym (drop-drop n at l) in
     parts l at part (omega arith)
-    ∙ ap (λ zs. take at l ++ (part ++ zs)) behind
+    ∙ ap (λ zs. take at l ++ (part ++ zs)) following
     ∙ ap (λ zs. take at l ++ zs) (take-append-drop n (drop at l))
     ∙ take-append-drop at l
 

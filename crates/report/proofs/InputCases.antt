@@ -7,10 +7,10 @@ use lib.ListN.{length, take, drop}
 use lib.Seq.{take-at, take-append-seam}
 use Rattle.listing.specs.Listing.{Answer, refused, listed, listing, stored}
 use Rattle.input.specs.Parsing as Parsing
-use Rattle.input.proofs.ToldInputs.{Words, whole-frames}
+use Rattle.input.proofs.ParsedResults.{Words, whole-frames}
 use Rattle.report.specs.Text.{refusedWord}
-use Rattle.report.specs.Program.{parsedInput, found, foundIn, printed, textOf, storedText, storedList, listRoom, frameRoom, registerRoom}
-use Rattle.report.specs.Answers.{reportOf, writtenBy}
+use Rattle.report.specs.Program.{parsedInput, found, foundIn, printed, textOf, storedText, storedList, listCapacity, frameCapacity, registerCapacity}
+use Rattle.report.specs.CodeTypes.{toCodeReport, writtenBy}
 use Rattle.report.specs.declared.Report.{Report}
 
 -- ---- What is cut out of the lists
@@ -20,7 +20,7 @@ module _ (input : List ℕ) (frames registers : ℕ) (w : Words (parsedInput inp
       → take (frames * 8) (drop 0 list) ≡ w .catalog
   catalog-cut old list e =
       let c = w .catalog in
-      let n : length c ≡ frames * 8 = omega (arith, w .frame-count, whole-frames input frameRoom registerRoom c (w .map) (w .is)) in
+      let n : length c ≡ frames * 8 = omega (arith, w .frame-count, whole-frames input frameCapacity registerCapacity c (w .map) (w .is)) in
       ap (take (frames * 8)) (e ∙ ap (λ (x : Parsing.Input). Parsing.storedCatalog x old) (w .is))
       ∙ take-at c (drop (length c) old) (frames * 8) n
 
@@ -30,7 +30,7 @@ module _ (input : List ℕ) (frames registers : ℕ) (w : Words (parsedInput inp
       ap (take registers) (e ∙ ap (λ (x : Parsing.Input). Parsing.storedMap x old) (w .is))
       ∙ take-at m (drop (length m) old) registers (sym (w .register-count))
 
-  pub found-words : found input ≡ listing (w .catalog) (w .map) listRoom
+  pub found-words : found input ≡ listing (w .catalog) (w .map) listCapacity
   unfolding found
   found-words = ap foundIn (w .is)
 
@@ -46,10 +46,10 @@ found-refused input number place e = ap foundIn e
 -- ---- What is written
 
 -- The bytes that the program writes of a text that was made of an answer are what is printed for it.
-pub written : (a : Answer) (old out : List ℕ) (report : Report) → report ≡ reportOf a → out ≡ storedText a old
+pub written : (a : Answer) (old out : List ℕ) (report : Report) → report ≡ toCodeReport a → out ≡ storedText a old
     → writtenBy report out ≡ printed a
-written a old out report e s = ap (λ (r : Report). writtenBy r out) e ∙ ap (writtenBy (reportOf a)) s ∙ go a
+written a old out report e s = ap (λ (r : Report). writtenBy r out) e ∙ ap (writtenBy (toCodeReport a)) s ∙ go a
   where
-    go : (b : Answer) → writtenBy (reportOf b) (storedText b old) ≡ printed b
+    go : (b : Answer) → writtenBy (toCodeReport b) (storedText b old) ≡ printed b
     go (refused n p h) = ap (λ (t : List ℕ). refusedWord ++ t) (take-append-seam (textOf (refused n p h)) _)
     go (listed rs h) = take-append-seam (textOf (listed rs h)) _

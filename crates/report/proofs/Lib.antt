@@ -1,6 +1,6 @@
 -- The claims
 pub mod EnoughInput
-pub mod BrokenOff
+pub mod TruncatedInput
 pub mod WorkedExamples
 -- Laws of the definitions, and what the proofs of the functions cite
 pub mod NumberTexts

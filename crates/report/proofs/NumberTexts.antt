@@ -12,7 +12,7 @@ use lib.Seq.{length-take-le, take-suc}
 use Rattle.display.specs.Decimals.{digitsOf}
 use Rattle.listing.specs.Listing.{recordWidth}
 use Rattle.input.specs.Lines.{lineFeed}
-use Rattle.report.specs.Promises.{behindNumber, numbersText}
+use Rattle.report.specs.InternalContracts.{separatorAfter, numbersText}
 
 -- The text of two lists of numbers is the text of the first, and that of the second from its index on.
 pub texts-append : (index : ℕ) (ms ns : List ℕ)
@@ -21,35 +21,35 @@ unfolding numbersText
 texts-append index [] ns = rw (add-zero index)
 texts-append index (m ∷ ms) ns =
     let e : index + suc (length ms) ≡ index + 1 + length ms = omega arith in
-    let first = behindNumber index ∷ numbersText (index + 1) ms in
+    let first = separatorAfter index ∷ numbersText (index + 1) ms in
     rw (e, texts-append (index + 1) ms ns, append-assoc (digitsOf m) first (numbersText (index + 1 + length ms) ns))
 
 -- What stands behind a number comes again every ten numbers.
-behind-again : (index : ℕ) → behindNumber (index + recordWidth) ≡ behindNumber index
-unfolding behindNumber
-behind-again index =
+separator-again : (index : ℕ) → separatorAfter (index + recordWidth) ≡ separatorAfter index
+unfolding separatorAfter
+separator-again index =
     let place : (index + recordWidth) % recordWidth ≡ index % recordWidth = omega arith in
-    rw (place, behindNumber)
+    rw (place, separatorAfter)
 
 pub texts-again : (index : ℕ) (ns : List ℕ) → numbersText (index + recordWidth) ns ≡ numbersText index ns
 unfolding numbersText
 texts-again index [] = refl
 texts-again index (n ∷ ns) =
     let next : index + recordWidth + 1 ≡ index + 1 + recordWidth = omega arith in
-    rw (behind-again index, next, texts-again (index + 1) ns)
+    rw (separator-again index, next, texts-again (index + 1) ns)
 
 -- What stands behind a number: behind the last of a record, and behind another.
-pub behind-last : (index : ℕ) → index % recordWidth ≡ 9 → behindNumber index ≡ lineFeed
-unfolding behindNumber
-behind-last index h = simp (behindNumber, eq-eqb _ _ h)
+pub separator-last : (index : ℕ) → index % recordWidth ≡ 9 → separatorAfter index ≡ lineFeed
+unfolding separatorAfter
+separator-last index h = simp (separatorAfter, eq-eqb _ _ h)
 
-pub behind-other : (index : ℕ) → (index % recordWidth ≡ 9 → ⊥) → behindNumber index ≡ code " "
-unfolding behindNumber
-behind-other index h = simp (behindNumber, ne-eqb _ _ h)
+pub separator-other : (index : ℕ) → (index % recordWidth ≡ 9 → ⊥) → separatorAfter index ≡ code " "
+unfolding separatorAfter
+separator-other index h = simp (separatorAfter, ne-eqb _ _ h)
 
 -- One number more.
 pub one-more : (ns : List ℕ) (i : ℕ) → i < length ns
-    → numbersText 0 (take i ns) ++ (digitsOf (getD ns i 0) ++ behindNumber i ∷ []) ≡ numbersText 0 (take (i + 1) ns)
+    → numbersText 0 (take i ns) ++ (digitsOf (getD ns i 0) ++ separatorAfter i ∷ []) ≡ numbersText 0 (take (i + 1) ns)
 unfolding numbersText
 one-more ns i h =
     let e : 0 + length (take i ns) ≡ i = omega (arith, length-take-le i ns (omega arith)) in

@@ -8,12 +8,12 @@ use lib.Seq.{take-at}
 use Rattle.listing.specs.Listing.{Record, recordNumbers, recordWidth, entries}
 use Rattle.listing.proofs.WrittenRecords.{entries-length}
 use Rattle.report.specs.Text.{numbersLine, recordLines, listingText}
-use Rattle.report.specs.Promises.{behindNumber, numbersText, listText}
+use Rattle.report.specs.InternalContracts.{separatorAfter, numbersText, listText}
 use Rattle.report.proofs.NumberTexts.{texts-append, texts-again}
 
 -- The numbers of a record are its line, and those behind them begin a line.
 record-line : (r : Record) (rest : List ℕ) → numbersText 0 (recordNumbers r ++ rest) ≡ numbersLine (recordNumbers r) ++ numbersText 0 rest
-unfolding recordNumbers numbersLine numbersText behindNumber
+unfolding recordNumbers numbersLine numbersText separatorAfter
 record-line r rest =
     texts-append 0 (recordNumbers r) rest ∙ ap (λ (text : List ℕ). numbersLine (recordNumbers r) ++ text) (texts-again 0 rest)
 

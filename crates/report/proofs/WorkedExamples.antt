@@ -14,8 +14,8 @@ use Rattle.register_map.specs.Headers.{opening}
 use Rattle.register_map.specs.Scan.{scanFrom, scan}
 use Rattle.layout.specs.Points.{pointAt}
 use Rattle.layout.specs.Layout.{within, measured, fillMeasured, countUnimplemented, fits, fillOf, pointsAt, instances, groupsBy, entered, contentAt}
-use Rattle.layout.specs.Reading.{endsWithPad, allButLast, laidOut, readBy, topOf, reading}
-use Rattle.listing.specs.Listing.{recordNumbers, walk, recordsBy, allRecords, withRoom, listing}
+use Rattle.layout.specs.Reading.{endsWithPad, allButLast, readFull, readBy, topOf, reading}
+use Rattle.listing.specs.Listing.{recordNumbers, walk, recordsBy, allRecords, withCapacity, listing}
 use Rattle.lists.specs.Ascii.{ascii}
 use Rattle.input.specs.Lines.{lines}
 use Rattle.input.specs.Digits.{digitValue, isDigit, digitOr0, wordsOf}
@@ -54,5 +54,5 @@ cases =
 
 -- Every input prints what its case says.
 pub printed-so : map (λ (c : Case). output (c .0)) cases ≡ map (λ (c : Case). c .1) cases
-unfolding cases checkFrom checked framesFrom frameOf isSizeOf rows rowAmong mayScale registersOf twosComplement join shownRaw tooWide integer inRange classOf classified Definitions.parsed opening scanFrom scan pointAt within measured fillMeasured countUnimplemented fits fillOf pointsAt instances groupsBy entered contentAt endsWithPad allButLast laidOut readBy topOf reading recordNumbers walk recordsBy allRecords withRoom listing lastDigits digitCountWithin lines digitValue isDigit digitOr0 wordsOf mapFrom catalogFrom numbersLine recordLines listingText refusalText found
+unfolding cases checkFrom checked framesFrom frameOf isSizeOf rows rowAmong mayScale registersOf twosComplement join shownRaw tooWide integer inRange classOf classified Definitions.parsed opening scanFrom scan pointAt within measured fillMeasured countUnimplemented fits fillOf pointsAt instances groupsBy entered contentAt endsWithPad allButLast readFull readBy topOf reading recordNumbers walk recordsBy allRecords withCapacity listing lastDigits digitCountWithin lines digitValue isDigit digitOr0 wordsOf mapFrom catalogFrom numbersLine recordLines listingText refusalText found
 printed-so = refl

@@ -1,4 +1,4 @@
 pub mod Text
 pub mod Program
-pub mod Promises
-pub mod Answers
+pub mod InternalContracts
+pub mod CodeTypes

@@ -6,27 +6,27 @@ use Rattle.input.specs.Parsing as Parsing
 use Rattle.report.specs.Text.{listingText, refusedWord, refusalText}
 
 -- The program holds so many frames of a catalog, registers of a map, and records.
-abbrev pub frameRoom : ℕ
-frameRoom = 1024
+abbrev pub frameCapacity : ℕ
+frameCapacity = 1024
 
-abbrev pub registerRoom : ℕ
-registerRoom = 8192
+abbrev pub registerCapacity : ℕ
+registerCapacity = 8192
 
-abbrev pub recordRoom : ℕ
-recordRoom = 400
+abbrev pub recordCapacity : ℕ
+recordCapacity = 400
 
 -- The entries of its output list.
-abbrev pub listRoom : ℕ
-listRoom = recordWidth * recordRoom
+abbrev pub listCapacity : ℕ
+listCapacity = recordWidth * recordCapacity
 
 -- The catalog and the map of an input, or its refusal (50 to 52).
 abbrev pub parsedInput : List ℕ → Parsing.Input
-parsedInput input = Parsing.parsed input frameRoom registerRoom
+parsedInput input = Parsing.parsed input frameCapacity registerCapacity
 
 -- The answer: what listing finds in them, or the input's refusal (its 0 headers are never printed).
 abbrev pub foundIn : Parsing.Input → Answer
 foundIn (Parsing.refused number place) = refused number place 0
-foundIn (Parsing.words catalog map) = listing catalog map listRoom
+foundIn (Parsing.words catalog map) = listing catalog map listCapacity
 
 -- The answer for an input.
 unfoldable pub found : List ℕ → Answer
@@ -59,4 +59,4 @@ storedText a old = Parsing.stored (textOf a) old
 -- The output list afterwards: what listing stores. Where the input is refused there is no listing, and it is as it was.
 abbrev pub storedList : Parsing.Input → List ℕ → List ℕ
 storedList (Parsing.refused number place) old = old
-storedList (Parsing.words catalog map) old = stored (listing catalog map listRoom) old
+storedList (Parsing.words catalog map) old = stored (listing catalog map listCapacity) old

@@ -15,8 +15,8 @@ ghost use Prim.Native.Nat.{_≤_};
 ghost use lib.ListN.{length};
 ghost use Rattle.listing.specs.Listing as Listings;
 ghost use Rattle.input.specs.Parsing.{storedCatalog, storedMap};
-ghost use Rattle.report.specs.Program.{parsedInput, found, output, listRoom, storedText, storedList};
-ghost use Rattle.report.specs.Answers.{reportOf, writtenBy, lengthOf};
+ghost use Rattle.report.specs.Program.{parsedInput, found, output, listCapacity, storedText, storedList};
+ghost use Rattle.report.specs.CodeTypes.{toCodeReport, writtenBy, lengthOf};
 
 // As many bytes of an input as can matter (proofs/EnoughInput.antt): 33 for each of 1,024 frames, 5 for each of 8,192
 // registers, the empty line, and 65 of the line behind these, which make it a bad one.
@@ -52,7 +52,7 @@ pub fn read_plant(
     out: &mut [u8; TEXT_BYTES],
 ) -> Report
     ensures { λ r. ⌜ writtenBy r (now (out .exit)) ≡ output (now (input .entry)) ⌝ }
-    ensures { λ r. ⌜ r ≡ reportOf (found (now (input .entry))) ⌝ }
+    ensures { λ r. ⌜ r ≡ toCodeReport (found (now (input .entry))) ⌝ }
     ensures { λ r. ⌜ lengthOf r ≤ length (now (out .exit)) ⌝ }
     ensures { λ _. ⌜ now (out .exit) ≡ storedText (found (now (input .entry))) (now (out .entry)) ⌝ }
     ensures { λ _. ⌜ now (catalog .exit) ≡ storedCatalog (parsedInput (now (input .entry))) (now (catalog .entry)) ⌝ }
@@ -76,10 +76,10 @@ fn report_listing(
     list: &mut [u64; ENTRIES],
     out: &mut [u8; TEXT_BYTES],
 ) -> Report
-    ensures { λ r. ⌜ r ≡ reportOf (Listings.listing (now (catalog .entry)) (now (map .entry)) listRoom) ⌝ }
+    ensures { λ r. ⌜ r ≡ toCodeReport (Listings.listing (now (catalog .entry)) (now (map .entry)) listCapacity) ⌝ }
     ensures { λ r. ⌜ lengthOf r ≤ length (now (out .exit)) ⌝ }
-    ensures { λ _. ⌜ now (out .exit) ≡ storedText (Listings.listing (now (catalog .entry)) (now (map .entry)) listRoom) (now (out .entry)) ⌝ }
-    ensures { λ _. ⌜ now (list .exit) ≡ Listings.stored (Listings.listing (now (catalog .entry)) (now (map .entry)) listRoom) (now (list .entry)) ⌝ }
+    ensures { λ _. ⌜ now (out .exit) ≡ storedText (Listings.listing (now (catalog .entry)) (now (map .entry)) listCapacity) (now (out .entry)) ⌝ }
+    ensures { λ _. ⌜ now (list .exit) ≡ Listings.stored (Listings.listing (now (catalog .entry)) (now (map .entry)) listCapacity) (now (list .entry)) ⌝ }
 {
     let listing = listing::list(catalog, map, list);
     match listing {

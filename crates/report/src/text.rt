@@ -5,10 +5,10 @@ ghost use mathlib.Core.List.{_++_, _∷_, []};
 ghost use Prim.Native.Nat.{_+_, _*_, _≤_};
 ghost use lib.ListN.{length, take};
 ghost use Rattle.display.specs.Decimals.{digitsOf};
-ghost use Rattle.display.specs.Parts.{Put};
+ghost use Rattle.display.specs.InternalParts.{Put};
 ghost use Rattle.listing.specs.Listing.{recordWidth};
 ghost use Rattle.report.specs.Text.{refusalText};
-ghost use Rattle.report.specs.Promises.{numbersText, behindNumber, listText};
+ghost use Rattle.report.specs.InternalContracts.{numbersText, separatorAfter, listText};
 
 // `N at P` and LF. Like each of the following it gives the position behind what it stored.
 pub(crate) fn put_refusal(out: &mut [u8], number: u16, place: usize) -> usize
@@ -16,10 +16,10 @@ pub(crate) fn put_refusal(out: &mut [u8], number: u16, place: usize) -> usize
     ensures { λ r. ⌜ Put (now (out .entry)) (now (out .exit)) 0 (refusalText number place) r ⌝ }
     ensures { λ r. ⌜ r ≤ length (now (out .exit)) ⌝ }
 {
-    let behind_number = put_number(out, 0, number as u64);
-    let behind_at = put_bytes(out, behind_number, b" at ");
-    let behind_place = put_number(out, behind_at, place as u64);
-    put_bytes(out, behind_place, b"\n")
+    let after_number = put_number(out, 0, number as u64);
+    let after_at = put_bytes(out, after_number, b" at ");
+    let after_place = put_number(out, after_at, place as u64);
+    put_bytes(out, after_place, b"\n")
 }
 
 // The first line of a listing and the records of so many points.
@@ -29,11 +29,11 @@ pub(crate) fn put_listing(out: &mut [u8], points: usize, headers: usize, list: &
     ensures { λ r. ⌜ Put (now (out .entry)) (now (out .exit)) 0 (listText points headers (now (list .entry))) r ⌝ }
     ensures { λ r. ⌜ r ≤ length (now (out .exit)) ⌝ }
 {
-    let behind_word = put_bytes(out, 0, b"points ");
-    let behind_points = put_number(out, behind_word, points as u64);
-    let behind_headers_word = put_bytes(out, behind_points, b" headers ");
-    let behind_headers = put_number(out, behind_headers_word, headers as u64);
-    let records = put_bytes(out, behind_headers, b"\n");
+    let after_word = put_bytes(out, 0, b"points ");
+    let after_points = put_number(out, after_word, points as u64);
+    let after_headers_word = put_bytes(out, after_points, b" headers ");
+    let after_headers = put_number(out, after_headers_word, headers as u64);
+    let records = put_bytes(out, after_headers, b"\n");
     put_numbers(out, records, list, points * WIDTH)
 }
 
@@ -56,7 +56,7 @@ fn put_numbers(out: &mut [u8], start: usize, list: &[u64], count: usize) -> usiz
 // A number of a record, and what stands behind it.
 fn put_entry(out: &mut [u8], at: usize, n: u64, index: usize) -> usize
     requires { ⌜ at + 21 ≤ length (now out) ⌝ }
-    ensures { λ r. ⌜ Put (now (out .entry)) (now (out .exit)) at (digitsOf n ++ behindNumber index ∷ []) r ⌝ }
+    ensures { λ r. ⌜ Put (now (out .entry)) (now (out .exit)) at (digitsOf n ++ separatorAfter index ∷ []) r ⌝ }
     ensures { λ r. ⌜ r ≤ at + 21 ⌝ }
 {
     let end = put_number(out, at, n);

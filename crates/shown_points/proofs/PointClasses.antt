@@ -24,7 +24,7 @@ use Rattle.values.proofs.ClassCases.{in-range, of-class}
 use Rattle.catalog_frames.specs.Frames.{Point}
 use Rattle.frame_rules.specs.FrameTests.{isSizeOf}
 use Rattle.layout.specs.Points.{registersAt}
-use Rattle.shown_points.specs.Answers.{registersClass, shownForm, shownBy}
+use Rattle.shown_points.specs.CodeTypes.{registersClass, toSpecShown, shownBy}
 use Rattle.shown_points.specs.declared.Shown.{Shown}
 
 -- The row of a type and its size by it.
@@ -144,8 +144,8 @@ module _ (code : ℕ) (rs : List ℕ) where
 pub shown-at : (p : Point) (body : List ℕ) (offset : ℕ) → ((k : ℕ) → getD body k 0 < 65536)
     → isSizeOf (p .typeCode) (p .size) ≡ true → offset + p .size ≤ length body
     → (rs : List ℕ) → rs ≡ registersAt body offset p → (register : ℕ) (r : Shown)
-    → shownForm r ≡ shownBy p (registersClass (p .typeCode) rs) rs register
-    → shownForm r ≡ shownBy p (classified (p .typeCode) (join (registersAt body offset p))) (registersAt body offset p) register
+    → toSpecShown r ≡ shownBy p (registersClass (p .typeCode) rs) rs register
+    → toSpecShown r ≡ shownBy p (classified (p .typeCode) (join (registersAt body offset p))) (registersAt body offset p) register
 shown-at p body offset words sized inside rs e register r shown =
     let Is16 : ℕ → Type 0 = λ n. n < 65536 in
     let rest = drop offset body in

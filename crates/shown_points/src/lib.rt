@@ -10,11 +10,11 @@ use values::Classified;
 use values::classify;
 ghost use mathlib.Core.Path.{_≡_};
 ghost use Rattle.values.specs.Classes.{ofClass, classified};
-ghost use Rattle.values.specs.Answers.{classAnswer, classifiedAnswer};
+ghost use Rattle.values.specs.CodeTypes.{toSpecClass, toSpecClassified};
 ghost use Rattle.catalog_frames.specs.Frames.{sunssf};
-ghost use Rattle.catalog_frames.specs.Forms.{pointForm};
+ghost use Rattle.catalog_frames.specs.CodeTypes.{toSpecPoint};
 ghost use Rattle.layout.specs.Points.{scaleStatus, statusOf, scaleOf};
-ghost use Rattle.shown_points.specs.Answers.{registersClass, shownForm, shownBy};
+ghost use Rattle.shown_points.specs.CodeTypes.{registersClass, toSpecShown, shownBy};
 
 // The status, raw value and scale of a point.
 pub struct Shown {
@@ -25,8 +25,8 @@ pub struct Shown {
 
 // A point by its registers and the register of its scale point.
 pub fn show(point: Point, registers: &[u16], scale_register: u16) -> Shown
-    ensures { λ r. ⌜ shownForm r
-        ≡ shownBy (pointForm point) (registersClass (pointForm point .typeCode) (now (registers .entry))) (now (registers .entry)) «scale_register» ⌝ }
+    ensures { λ r. ⌜ toSpecShown r
+        ≡ shownBy (toSpecPoint point) (registersClass (toSpecPoint point .typeCode) (now (registers .entry))) (now (registers .entry)) «scale_register» ⌝ }
 {
     let class = class_of(point.type_code, registers);
     let status = status_of(point, class, scale_register);
@@ -40,7 +40,7 @@ pub fn show(point: Point, registers: &[u16], scale_register: u16) -> Shown
 // The class of a point's registers. Types of more than four registers are unimplemented where all are 0, and
 // else have a value, so any raw value but 0 can replace theirs.
 fn class_of(type_code: u16, registers: &[u16]) -> Classified
-    ensures { λ r. ⌜ classifiedAnswer r ≡ registersClass «type_code» (now (registers .entry)) ⌝ }
+    ensures { λ r. ⌜ toSpecClassified r ≡ registersClass «type_code» (now (registers .entry)) ⌝ }
 {
     if registers.len() <= 4 {
         return classify(type_code, raw_value(registers));
@@ -53,7 +53,7 @@ fn class_of(type_code: u16, registers: &[u16]) -> Classified
 
 // The first status that applies.
 fn status_of(point: Point, class: Classified, scale_register: u16) -> u64
-    ensures { λ r. ⌜ r ≡ statusOf (pointForm point) (classifiedAnswer class) «scale_register» ⌝ }
+    ensures { λ r. ⌜ r ≡ statusOf (toSpecPoint point) (toSpecClassified class) «scale_register» ⌝ }
 {
     match class {
         Classified::Of(class) => status_of_class(point, class, scale_register),
@@ -64,7 +64,7 @@ fn status_of(point: Point, class: Classified, scale_register: u16) -> u64
 
 // The status by the class of the registers, and for a value by the scale point's.
 fn status_of_class(point: Point, class: Class, scale_register: u16) -> u64
-    ensures { λ r. ⌜ r ≡ statusOf (pointForm point) (ofClass (classAnswer class)) «scale_register» ⌝ }
+    ensures { λ r. ⌜ r ≡ statusOf (toSpecPoint point) (ofClass (toSpecClass class)) «scale_register» ⌝ }
 {
     match class {
         Class::Value => {
@@ -101,7 +101,7 @@ fn scale_status(register: u16) -> u64
 
 // The scale: 0 unless the status is 0 and the point has one.
 fn scale_of(point: Point, status: u64, scale_register: u16) -> u64
-    ensures { λ r. ⌜ r ≡ scaleOf (pointForm point) status «scale_register» ⌝ }
+    ensures { λ r. ⌜ r ≡ scaleOf (toSpecPoint point) status «scale_register» ⌝ }
 {
     if status != 0 {
         return 0;

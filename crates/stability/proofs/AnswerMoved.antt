@@ -15,7 +15,7 @@ use Rattle.register_map.specs.Scan.{Model, totalSize, marked}
 use Rattle.register_map.specs.Insertion.{placed, gapsBefore}
 use Rattle.register_map.proofs.Before.{before-model}
 use Rattle.layout.specs.Reading.{Reading}
-use Rattle.listing.specs.Listing.{Record, recordWidth, Answer, refused, listed, walk, withRoom}
+use Rattle.listing.specs.Listing.{Record, recordWidth, Answer, refused, listed, walk, withCapacity}
 use Rattle.listed_records.proofs.RefusalNumbers.{Between}
 use Rattle.listed_records.proofs.WalkHeaders.{HeadersWalked, walk-headers}
 use Rattle.stability.specs.Stability.{shifted, movedAnswer, AreLower, MovedByLower}
@@ -57,14 +57,14 @@ module _ (n : ℕ) (gaps : List (List Model)) where
       simp (movedAnswer, ne-eqb number 30 other, lt-leb 27 number below)
 
   -- There is room for the moved records just where there is for the records.
-  pub moved-with-room : (room : ℕ) (a : Answer) → By27To29 a
-      → withRoom room (movedWalk gaps n a) ≡ movedAnswer n gaps (withRoom room a)
-  unfolding withRoom movedAnswer
-  moved-with-room room (refused number place headers) h = sym (moved-model number place headers h)
-  moved-with-room room (listed rs headers) h =
+  pub moved-with-capacity : (capacity : ℕ) (a : Answer) → By27To29 a
+      → withCapacity capacity (movedWalk gaps n a) ≡ movedAnswer n gaps (withCapacity capacity a)
+  unfolding withCapacity movedAnswer
+  moved-with-capacity capacity (refused number place headers) h = sym (moved-model number place headers h)
+  moved-with-capacity capacity (listed rs headers) h =
       let answer : ℕ → Answer = λ k.
-      elim (ltb room (recordWidth * k)) [ true ↦ refused 30 k later | false ↦ listed moved later ] in
-      ap answer (length-map rs (λ r. shifted (gapsBefore (r .index) gaps) r)) ∙ by-room (ltb room (recordWidth * length rs))
+      elim (ltb capacity (recordWidth * k)) [ true ↦ refused 30 k later | false ↦ listed moved later ] in
+      ap answer (length-map rs (λ r. shifted (gapsBefore (r .index) gaps) r)) ∙ by-capacity (ltb capacity (recordWidth * length rs))
     where
       moved : List Record
       moved = map (λ r. shifted (gapsBefore (r .index) gaps) r) rs
@@ -72,10 +72,10 @@ module _ (n : ℕ) (gaps : List (List Model)) where
       later : ℕ
       later = headers + length (gapsBefore n gaps)
 
-      by-room : (b : Bool) → elim b [ true ↦ refused 30 (length rs) later | false ↦ listed moved later ]
+      by-capacity : (b : Bool) → elim b [ true ↦ refused 30 (length rs) later | false ↦ listed moved later ]
           ≡ movedAnswer n gaps (elim b [ true ↦ refused 30 (length rs) headers | false ↦ listed rs headers ])
-      by-room true = refl
-      by-room false = refl
+      by-capacity true = refl
+      by-capacity false = refl
 
 -- ---- What moves it
 
@@ -83,18 +83,18 @@ module _ (ms : List Model) (gaps : List (List Model)) where
   -- The models of the gaps in front of a model are those inserted before what lies in it.
   lower-in-model : (index address : ℕ) → InModel 2 ms index address → AreLower (placed ms gaps) gaps index address
   lower-in-model index address i =
-      let inserted = totalSize (gapsBefore (length (i .front)) gaps) in
-      let header = 2 + totalSize (i .front) + inserted in
+      let inserted = totalSize (gapsBefore (length (i .preceding)) gaps) in
+      let header = 2 + totalSize (i .preceding) + inserted in
       let l = i .low in
       let h = i .high in
       rw (i .counted, i .split)
-      (before-model (i .front) (i .own) (i .rest) gaps 2 header (address + inserted) refl (omega arith) (omega arith))
+      (before-model (i .preceding) (i .own) (i .rest) gaps 2 header (address + inserted) refl (omega arith) (omega arith))
 
-  pub lower-with-room : (room : ℕ) (a : Answer) → AllInModels 2 ms a → MovedByLower (placed ms gaps) gaps (withRoom room a)
-  unfolding withRoom MovedByLower
-  lower-with-room room (refused number place headers) i = λ t. lower-in-model headers place i
-  lower-with-room room (listed rs headers) i =
-      by-test (MovedByLower (placed ms gaps) gaps) (ltb room (recordWidth * length rs)) (λ t e. clash (sym e)) (λ t.
+  pub lower-with-capacity : (capacity : ℕ) (a : Answer) → AllInModels 2 ms a → MovedByLower (placed ms gaps) gaps (withCapacity capacity a)
+  unfolding withCapacity MovedByLower
+  lower-with-capacity capacity (refused number place headers) i = λ t. lower-in-model headers place i
+  lower-with-capacity capacity (listed rs headers) i =
+      by-test (MovedByLower (placed ms gaps) gaps) (ltb capacity (recordWidth * length rs)) (λ t e. clash (sym e)) (λ t.
       each-implied (λ r. InModel 2 ms (r .index) (r .address)) (λ r. AreLower (placed ms gaps) gaps (r .index) (r .address))
       (λ r. lower-in-model (r .index) (r .address)) rs i)
 

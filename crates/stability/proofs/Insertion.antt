@@ -20,35 +20,35 @@ use Rattle.register_map.specs.Scan.{Model, totalSize, scan, WellFormed}
 use Rattle.register_map.specs.Insertion.{placed, lengthened, gapsBefore}
 use Rattle.register_map.proofs.PlacedModels.{placed-length}
 use Rattle.register_map.proofs.Lengthened.{lengthened-scan, lengthened-length, lengthened-none}
-use Rattle.listing.specs.Listing.{Record, recordNumbers, Answer, refused, listed, listing, pointCount, stored, told}
+use Rattle.listing.specs.Listing.{Record, recordNumbers, Answer, refused, listed, listing, pointCount, stored, result}
 use Rattle.stability.specs.Stability.{MadeOfWholeModels, UnknownModel, shifted, movedAnswer, MovedByLower, refusalNumber}
 use Rattle.stability.proofs.WholeMaps.{whole-ends, whole-models, lengthened-models}
 use Rattle.stability.proofs.ListingMoved.{listing-moved}
 
-pub insertion : (catalog map : List ℕ) (gaps : List (List Model)) (room : ℕ)
+pub insertion : (catalog map : List ℕ) (gaps : List (List Model)) (capacity : ℕ)
     → MadeOfWholeModels map
     → Each (Each (UnknownModel catalog)) gaps
     → length (lengthened map gaps) ≤ 65536
-    → (listing catalog (lengthened map gaps) room ≡ movedAnswer (length (scan map .models)) gaps (listing catalog map room))
-    × MovedByLower (placed (scan map .models) gaps) gaps (listing catalog map room)
-insertion catalog map gaps room whole unknown short =
+    → (listing catalog (lengthened map gaps) capacity ≡ movedAnswer (length (scan map .models)) gaps (listing catalog map capacity))
+    × MovedByLower (placed (scan map .models) gaps) gaps (listing catalog map capacity)
+insertion catalog map gaps capacity whole unknown short =
     let each = each-implied (UnknownModel catalog) WellFormed (λ m u. u .wellFormed) in
     let wellFormed = each-implied (Each (UnknownModel catalog)) (Each WellFormed) each gaps unknown in
-    listing-moved catalog room map (lengthened map gaps) (scan map .models) gaps (whole-models map whole)
+    listing-moved catalog capacity map (lengthened map gaps) (scan map .models) gaps (whole-models map whole)
     (lengthened-models map whole gaps wellFormed short) unknown
 
 -- So it is of what `list` answers, and of the output list behind it.
-pub insertion-told : (catalog map : List ℕ) (gaps : List (List Model)) (out : List ℕ)
+pub insertion-result : (catalog map : List ℕ) (gaps : List (List Model)) (out : List ℕ)
     → MadeOfWholeModels map
     → Each (Each (UnknownModel catalog)) gaps
     → length (lengthened map gaps) ≤ 65536
-    → (told (listing catalog (lengthened map gaps) (length out))
-    ≡ told (movedAnswer (length (scan map .models)) gaps (listing catalog map (length out))))
+    → (result (listing catalog (lengthened map gaps) (length out))
+    ≡ result (movedAnswer (length (scan map .models)) gaps (listing catalog map (length out))))
     × (stored (listing catalog (lengthened map gaps) (length out)) out
     ≡ stored (movedAnswer (length (scan map .models)) gaps (listing catalog map (length out))) out)
-insertion-told catalog map gaps out whole unknown short =
+insertion-result catalog map gaps out whole unknown short =
     let moved = insertion catalog map gaps (length out) whole unknown short .0 in
-    (ap told moved, ap (λ a. stored a out) moved)
+    (ap result moved, ap (λ a. stored a out) moved)
 
 -- ---- What it says, in part
 
@@ -84,18 +84,18 @@ moved-count n gaps (refused number place headers) =
     let P : Answer → Type 0 = λ a. pointCount a ≡ 0 in
     by-test P (eqb number 30) (λ t. refl) (λ t. by-test P (leb 27 number && leb number 29) (λ u. refl) (λ u. refl))
 
-module _ (catalog map : List ℕ) (gaps : List (List Model)) (room : ℕ) (whole : MadeOfWholeModels map)
+module _ (catalog map : List ℕ) (gaps : List (List Model)) (capacity : ℕ) (whole : MadeOfWholeModels map)
     (unknown : Each (Each (UnknownModel catalog)) gaps) (short : length (lengthened map gaps) ≤ 65536) where
   -- The lengthened map is accepted just where the map is, and otherwise both are refused by the same number.
-  pub same-number : refusalNumber (listing catalog (lengthened map gaps) room) ≡ refusalNumber (listing catalog map room)
+  pub same-number : refusalNumber (listing catalog (lengthened map gaps) capacity) ≡ refusalNumber (listing catalog map capacity)
   same-number =
-      ap refusalNumber (insertion catalog map gaps room whole unknown short .0)
-      ∙ moved-number (length (scan map .models)) gaps (listing catalog map room)
+      ap refusalNumber (insertion catalog map gaps capacity whole unknown short .0)
+      ∙ moved-number (length (scan map .models)) gaps (listing catalog map capacity)
 
-  pub same-count : pointCount (listing catalog (lengthened map gaps) room) ≡ pointCount (listing catalog map room)
+  pub same-count : pointCount (listing catalog (lengthened map gaps) capacity) ≡ pointCount (listing catalog map capacity)
   same-count =
-      ap pointCount (insertion catalog map gaps room whole unknown short .0)
-      ∙ moved-count (length (scan map .models)) gaps (listing catalog map room)
+      ap pointCount (insertion catalog map gaps capacity whole unknown short .0)
+      ∙ moved-count (length (scan map .models)) gaps (listing catalog map capacity)
 
 -- ---- The lengthened map
 

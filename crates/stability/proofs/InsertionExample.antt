@@ -18,8 +18,8 @@ use Rattle.register_map.specs.Scan.{Model, WellFormed, scanFrom, scan}
 use Rattle.register_map.specs.Insertion.{placed, lengthened, gapsBefore}
 use Rattle.layout.specs.Points.{ModelPoint, pointAt}
 use Rattle.layout.specs.Layout.{within, measured, fillMeasured, countUnimplemented, fits, fillOf, pointsAt, groupsBy, entered, contentAt}
-use Rattle.layout.specs.Reading.{endsWithPad, laidOut, readBy, topOf, reading}
-use Rattle.listing.specs.Listing.{Record, listed, walk, recordsBy, allRecords, withRoom, listing}
+use Rattle.layout.specs.Reading.{endsWithPad, readFull, readBy, topOf, reading}
+use Rattle.listing.specs.Listing.{Record, listed, walk, recordsBy, allRecords, withCapacity, listing}
 use Rattle.stability.specs.Stability.{MadeOfWholeModels, UnknownModel, movedAnswer, MovedByLower}
 use Rattle.stability.proofs.Insertion.{insertion}
 
@@ -71,11 +71,11 @@ pub old : listing catalog plant 20
 unfolding rows rowAmong registersOf join shownRaw tooWide inRange classOf classified
     frameOf framesFrom isSizeOf checkFrom checked parsed opening scanFrom scan
     pointAt within measured fillMeasured countUnimplemented fits fillOf pointsAt groupsBy entered contentAt
-    endsWithPad laidOut readBy topOf reading walk recordsBy allRecords withRoom listing
+    endsWithPad readFull readBy topOf reading walk recordsBy allRecords withCapacity listing
 old = refl
 
 whole : MadeOfWholeModels plant
-unfolding MadeOfWholeModels frameOf framesFrom checkFrom checked parsed opening scanFrom scan topOf reading walk recordsBy allRecords withRoom listing
+unfolding MadeOfWholeModels frameOf framesFrom checkFrom checked parsed opening scanFrom scan topOf reading walk recordsBy allRecords withCapacity listing
 whole = (3, refl)
 
 well : (id : ℕ) (x : ℕ) (xs : List ℕ) → (id ≡ 0 → ⊥) → (id ≡ 65535 → ⊥) → WellFormed (record { id = id; body = x ∷ xs })

@@ -14,7 +14,7 @@ use Rattle.layout.specs.Points.{ModelPoint}
 use Rattle.layout.specs.Reading.{points, reading}
 use Rattle.layout.proofs.ReadingSteps.{unknown-left}
 use Rattle.listing.specs.Listing.{Record, listed, listing}
-use Rattle.listed_records.proofs.WalksBehind.{listed-walks}
+use Rattle.listed_records.proofs.ListingInversion.{listed-walks}
 use Rattle.listed_records.proofs.WalkedModels.{record-of-model}
 
 -- A model of which points are read has the id of a definition.
@@ -24,11 +24,11 @@ known-model ds m ps e true a = refl
 known-model ds m ps e false a = let u = unknown-left [] ds m a in impossible (cc)
 
 -- Every record listed has the id of a definition of the catalog.
-pub known-records : (catalog map : List ℕ) (room : ℕ) (rs : List Record) (headers : ℕ)
-    → listing catalog map room ≡ listed rs headers → Each (λ r. among (r .id) (idsOf (definitions catalog)) ≡ true) rs
-known-records catalog map room rs headers e =
+pub known-records : (catalog map : List ℕ) (capacity : ℕ) (rs : List Record) (headers : ℕ)
+    → listing catalog map capacity ≡ listed rs headers → Each (λ r. among (r .id) (idsOf (definitions catalog)) ≡ true) rs
+known-records catalog map capacity rs headers e =
     let ds = definitions catalog in
-    let w = listed-walks catalog map room rs headers e .0 in
+    let w = listed-walks catalog map capacity rs headers e .0 in
     each-any (λ r. among (r .id) (idsOf ds) ≡ true) rs (λ r i.
     let m = record-of-model (reading ds) (scan map .ending) (scan map .models) 0 2 rs headers (w .walks) r i in
     ap (λ (s : Record). among (s .id) (idsOf ds)) (m .place)

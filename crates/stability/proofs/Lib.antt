@@ -2,7 +2,7 @@
 pub mod Insertion
 pub mod Removal
 pub mod RefusalsAfterRemoval
-pub mod LeftById
+pub mod RemovalById
 pub mod InsertionExample
 pub mod RemovalExample
 -- With models inserted

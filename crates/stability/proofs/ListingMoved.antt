@@ -15,33 +15,33 @@ use Rattle.register_map.specs.Insertion.{allModels, placed}
 use Rattle.layout.specs.Reading.{unknown, reading}
 use Rattle.layout.proofs.ReadingSteps.{unknown-left}
 use Rattle.layout.proofs.PointsInside.{accepted-inside}
-use Rattle.listing.specs.Listing.{Answer, walk, withRoom, listing}
+use Rattle.listing.specs.Listing.{Answer, walk, withCapacity, listing}
 use Rattle.listed_records.proofs.RefusalNumbers.{catalog-number}
 use Rattle.listing.proofs.ListingCases.{catalog-refused, listing-walks}
 use Rattle.stability.specs.Stability.{UnknownModel, movedAnswer, MovedByLower}
 use Rattle.stability.proofs.WalkMoved.{walk-moved}
 use Rattle.stability.proofs.RecordPlaces.{walk-in-models}
-use Rattle.stability.proofs.AnswerMoved.{walk-refusals, moved-catalog, moved-with-room, lower-with-room, lower-catalog}
+use Rattle.stability.proofs.AnswerMoved.{walk-refusals, moved-catalog, moved-with-capacity, lower-with-capacity, lower-catalog}
 use Rattle.stability.proofs.WholeMaps.{HasModels}
 
 -- The answer for a map with these models becomes the answer for another map, by the models of the gaps in between.
 abbrev pub Moved : List ℕ → ℕ → List ℕ → List ℕ → List Model → List (List Model) → Type 0
-Moved catalog room map new ms gaps =
-    (listing catalog new room ≡ movedAnswer (length ms) gaps (listing catalog map room))
-    × MovedByLower (placed ms gaps) gaps (listing catalog map room)
+Moved catalog capacity map new ms gaps =
+    (listing catalog new capacity ≡ movedAnswer (length ms) gaps (listing catalog map capacity))
+    × MovedByLower (placed ms gaps) gaps (listing catalog map capacity)
 
 -- A model is unknown to the definitions of a catalog where no model frame has its id.
 model-unknown : (catalog : List ℕ) (m : Model) → UnknownModel catalog m → reading (definitions catalog) m ≡ unknown
 model-unknown catalog m u =
     unknown-left [] (definitions catalog) m (ap (among (m .id)) (ids-of-model-frames catalog) ∙ u .notKnown)
 
-module _ (catalog : List ℕ) (room : ℕ) where
+module _ (catalog : List ℕ) (capacity : ℕ) where
   -- By an accepted catalog a map is listed by the walk over its models.
   listing-models : (map : List ℕ) (ms : List Model) (n : ℕ) → HasModels map ms → checked catalog ≡ accepted n
-      → listing catalog map room ≡ withRoom room (walk (reading (definitions catalog)) marked 0 2 ms)
+      → listing catalog map capacity ≡ withCapacity capacity (walk (reading (definitions catalog)) marked 0 2 ms)
   listing-models map ms n h e =
       let read = reading (definitions catalog) in
-      listing-walks catalog map room (record {
+      listing-walks catalog map capacity (record {
         models = n;
         accepted = e;
         opens = h .opens;
@@ -49,13 +49,13 @@ module _ (catalog : List ℕ) (room : ℕ) where
       })
 
   module _ (map new : List ℕ) (ms : List Model) (gaps : List (List Model)) where
-    by-refused : (number place : ℕ) → checked catalog ≡ Checking.refused number place → Moved catalog room map new ms gaps
+    by-refused : (number place : ℕ) → checked catalog ≡ Checking.refused number place → Moved catalog capacity map new ms gaps
     by-refused number place e =
         let few = catalog-number number place catalog e .1 in
-        rw (catalog-refused catalog map room e, catalog-refused catalog new room e) (sym (moved-catalog (length ms) gaps number place 0 few), lower-catalog ms gaps number place 0 few)
+        rw (catalog-refused catalog map capacity e, catalog-refused catalog new capacity e) (sym (moved-catalog (length ms) gaps number place 0 few), lower-catalog ms gaps number place 0 few)
 
     by-accepted : (n : ℕ) → checked catalog ≡ accepted n → HasModels map ms → HasModels new (allModels (placed ms gaps))
-        → Each (Each (λ m. reading (definitions catalog) m ≡ unknown)) gaps → Moved catalog room map new ms gaps
+        → Each (Each (λ m. reading (definitions catalog) m ≡ unknown)) gaps → Moved catalog capacity map new ms gaps
     by-accepted n e old longer unread =
         let read = reading (definitions catalog) in
         let answer = walk read marked 0 2 ms in
@@ -64,15 +64,15 @@ module _ (catalog : List ℕ) (room : ℕ) where
           listing-models new (allModels (placed ms gaps)) n longer e,
           walk-moved read 2 ms gaps unread,
         ) (
-          moved-with-room (length ms) gaps room answer (walk-refusals read 0 2 ms),
-          lower-with-room ms gaps room answer (walk-in-models read (accepted-inside catalog n e) 2 ms),
+          moved-with-capacity (length ms) gaps capacity answer (walk-refusals read 0 2 ms),
+          lower-with-capacity ms gaps capacity answer (walk-in-models read (accepted-inside catalog n e) 2 ms),
         )
 
     pub listing-moved : HasModels map ms → HasModels new (allModels (placed ms gaps)) → Each (Each (UnknownModel catalog)) gaps
-        → Moved catalog room map new ms gaps
+        → Moved catalog capacity map new ms gaps
     listing-moved old longer unknowns = by-verdict (checked catalog) refl
       where
-        by-verdict : (v : Verdict) → checked catalog ≡ v → Moved catalog room map new ms gaps
+        by-verdict : (v : Verdict) → checked catalog ≡ v → Moved catalog capacity map new ms gaps
         by-verdict (Checking.refused number place) e = by-refused number place e
         by-verdict (accepted n) e =
             let Unread : Model → Type 0 = λ m. reading (definitions catalog) m ≡ unknown in

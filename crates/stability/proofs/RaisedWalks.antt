@@ -20,10 +20,10 @@ raisedAnswer n d (listed rs headers) = listed (map (raised n d) rs) (headers + n
 
 module _ (n d : ℕ) where
   -- Records in front of an answer are raised with it.
-  raised-in-front : (rs : List Record) (a : Answer)
+  raised-prepended : (rs : List Record) (a : Answer)
       → raisedAnswer n d (withRecords rs a) ≡ withRecords (map (raised n d) rs) (raisedAnswer n d a)
-  raised-in-front rs (refused number place headers) = refl
-  raised-in-front rs (listed ss headers) = ap (λ ts. listed ts (headers + n)) (map-append (raised n d) rs ss)
+  raised-prepended rs (refused number place headers) = refl
+  raised-prepended rs (listed ss headers) = ap (λ ts. listed ts (headers + n)) (map-append (raised n d) rs ss)
 
   -- The records of a model whose index and address are higher.
   raised-records : (index at : ℕ) (m : Model) (ps : List ModelPoint)
@@ -40,7 +40,7 @@ module _ (n d : ℕ) where
   raised-model (faulty fault) index at m a = refl
   raised-model (points ps) index at m a =
       ap (λ rs. withRecords rs (raisedAnswer n d a)) (raised-records index at m ps)
-      ∙ sym (raised-in-front (map (recordOf index at (m .id)) ps) a)
+      ∙ sym (raised-prepended (map (recordOf index at (m .id)) ps) a)
 
   pub walk-raised : (read : Model → Reading) (ending : Ending) (index at : ℕ) (ms : List Model)
       → walk read ending (index + n) (at + d) ms ≡ raisedAnswer n d (walk read ending index at ms)
@@ -53,6 +53,6 @@ module _ (n d : ℕ) where
       let old = walk read ending (index + 1) (at + sizeOf m) ms in
       let e : index + n + 1 ≡ index + 1 + n = omega arith in
       let e′ : at + d + sizeOf m ≡ at + sizeOf m + d = omega arith in
-      let behind : walk read ending (index + n + 1) (at + d + sizeOf m) ms ≡ raisedAnswer n d old =
+      let following : walk read ending (index + n + 1) (at + d + sizeOf m) ms ≡ raisedAnswer n d old =
       rw (e, e′) (walk-raised read ending (index + 1) (at + sizeOf m) ms) in
-      ap (withModel (read m) (index + n) (at + d) m) behind ∙ raised-model (read m) index at m old
+      ap (withModel (read m) (index + n) (at + d) m) following ∙ raised-model (read m) index at m old

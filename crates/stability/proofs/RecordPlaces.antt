@@ -11,7 +11,7 @@ use Rattle.lists.proofs.TestOutcomes.{impossible}
 use Rattle.lists.proofs.EachLaws.{each-one, each-any}
 use Rattle.register_map.specs.Scan.{Model, sizeOf, totalSize, marked}
 use Rattle.layout.specs.Reading.{Reading}
-use Rattle.layout.specs.Walks.{pointsOf}
+use Rattle.layout.specs.InternalWalks.{pointsOf}
 use Rattle.layout.proofs.PointsInside.{Inside}
 use Rattle.listing.specs.Listing.{Record, Answer, refused, listed, walk}
 use Rattle.listed_records.proofs.WalkHeaders.{HeadersWalked, walk-headers}
@@ -19,13 +19,13 @@ use Rattle.listed_records.proofs.WalkedModels.{record-of-model}
 
 -- An address lies in the model with an index, of models from address `at` on, or right behind it.
 pub record InModel (at : ℕ) (ms : List Model) (index address : ℕ) : Type 0 where
-  pub front : List Model
+  pub preceding : List Model
   pub own : Model
   pub rest : List Model
-  pub split : ms ≡ front ++ own ∷ rest
-  pub counted : index ≡ length front
-  pub low : at + totalSize front ≤ address
-  pub high : address ≤ at + totalSize front + sizeOf own
+  pub split : ms ≡ preceding ++ own ∷ rest
+  pub counted : index ≡ length preceding
+  pub low : at + totalSize preceding ≤ address
+  pub high : address ≤ at + totalSize preceding + sizeOf own
 
 abbrev pub AllInModels : ℕ → List Model → Answer → Type 0
 AllInModels at ms (listed rs headers) = Each (λ r. InModel at ms (r .index) (r .address)) rs
@@ -54,10 +54,10 @@ walk-in-models read inside at ms = go (walk read marked 0 at ms) refl (walk-head
         let index = ap (λ (s : Record). s .index) (o .place) in
         let address = ap (λ (s : Record). s .address) (o .place) in
         record {
-          front = o .front;
+          preceding = o .preceding;
           own = o .own;
-          rest = o .behind;
-          split = o .stands;
+          rest = o .following;
+          split = o .splits;
           counted = omega (arith, index);
           low = omega (arith, address);
           high = omega (arith, address, low);
@@ -66,7 +66,7 @@ walk-in-models read inside at ms = go (walk read marked 0 at ms) refl (walk-head
         let s = split-at (w .before) ms
         (⊎-elim (λ q. impossible (cc (w .atEnd q))) (λ l. l) (eq-or-lt-of-le (w .within))) in
         record {
-          front = take (w .before) ms;
+          preceding = take (w .before) ms;
           own = s .0;
           rest = s .1;
           split = s .2;

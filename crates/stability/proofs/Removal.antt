@@ -12,56 +12,56 @@ use Rattle.catalog.specs.Checking.{checked, accepted}
 use Rattle.model_definitions.specs.Definitions.{definitions}
 use Rattle.model_definitions.specs.Removal.{keeping}
 use Rattle.model_definitions.proofs.Removal as catalogs
-use Rattle.listing.specs.Listing.{Record, recordWidth, listed, withRoom, listing, entries, stored, listedTold, told}
-use Rattle.listing.proofs.ListingCases.{with-room, listing-walks}
-use Rattle.listed_records.proofs.WalksBehind.{listed-walks}
+use Rattle.listing.specs.Listing.{Record, recordWidth, listed, withCapacity, listing, entries, stored, listedResult, result}
+use Rattle.listing.proofs.ListingCases.{with-capacity, listing-walks}
+use Rattle.listed_records.proofs.ListingInversion.{listed-walks}
 use Rattle.stability.specs.Removed.{keepsId, recordsLeft}
 use Rattle.stability.proofs.WalksLeft.{listed-left}
 
 -- For every map that the catalog accepts, every choice of its models and every list that has room for the records left: these
 -- records, with all their numbers and in their order, and the same headers.
-pub removal : (choice : List Bool) (catalog map : List ℕ) (room room′ : ℕ) (rs : List Record) (headers : ℕ)
-    → listing catalog map room ≡ listed rs headers
-    → recordWidth * length (recordsLeft choice (definitions catalog) rs) ≤ room′
-    → listing (keeping choice catalog) map room′ ≡ listed (recordsLeft choice (definitions catalog) rs) headers
-removal choice catalog map room room′ rs headers e fits =
-    let w = listed-walks catalog map room rs headers e .0 in
-    listing-walks (keeping choice catalog) map room′ (listed-left choice catalog map w)
-    ∙ with-room room′ (recordsLeft choice (definitions catalog) rs) headers fits
+pub removal : (choice : List Bool) (catalog map : List ℕ) (capacity capacity′ : ℕ) (rs : List Record) (headers : ℕ)
+    → listing catalog map capacity ≡ listed rs headers
+    → recordWidth * length (recordsLeft choice (definitions catalog) rs) ≤ capacity′
+    → listing (keeping choice catalog) map capacity′ ≡ listed (recordsLeft choice (definitions catalog) rs) headers
+removal choice catalog map capacity capacity′ rs headers e fits =
+    let w = listed-walks catalog map capacity rs headers e .0 in
+    listing-walks (keeping choice catalog) map capacity′ (listed-left choice catalog map w)
+    ∙ with-capacity capacity′ (recordsLeft choice (definitions catalog) rs) headers fits
 
 -- With any list: the records left and the same headers, or 30 where there is no room for these.
-pub removal-any-room : (choice : List Bool) (catalog map : List ℕ) (room room′ : ℕ) (rs : List Record) (headers : ℕ)
-    → listing catalog map room ≡ listed rs headers
-    → listing (keeping choice catalog) map room′ ≡ withRoom room′ (listed (recordsLeft choice (definitions catalog) rs) headers)
-removal-any-room choice catalog map room room′ rs headers e =
-    let w = listed-walks catalog map room rs headers e .0 in
-    listing-walks (keeping choice catalog) map room′ (listed-left choice catalog map w)
+pub removal-any-capacity : (choice : List Bool) (catalog map : List ℕ) (capacity capacity′ : ℕ) (rs : List Record) (headers : ℕ)
+    → listing catalog map capacity ≡ listed rs headers
+    → listing (keeping choice catalog) map capacity′ ≡ withCapacity capacity′ (listed (recordsLeft choice (definitions catalog) rs) headers)
+removal-any-capacity choice catalog map capacity capacity′ rs headers e =
+    let w = listed-walks catalog map capacity rs headers e .0 in
+    listing-walks (keeping choice catalog) map capacity′ (listed-left choice catalog map w)
 
 -- With the same list: there is always room.
-pub removal-same-list : (choice : List Bool) (catalog map : List ℕ) (room : ℕ) (rs : List Record) (headers : ℕ)
-    → listing catalog map room ≡ listed rs headers
-    → listing (keeping choice catalog) map room ≡ listed (recordsLeft choice (definitions catalog) rs) headers
-removal-same-list choice catalog map room rs headers e =
+pub removal-same-list : (choice : List Bool) (catalog map : List ℕ) (capacity : ℕ) (rs : List Record) (headers : ℕ)
+    → listing catalog map capacity ≡ listed rs headers
+    → listing (keeping choice catalog) map capacity ≡ listed (recordsLeft choice (definitions catalog) rs) headers
+removal-same-list choice catalog map capacity rs headers e =
     let fewer = selected-fewer (λ r. keepsId choice (definitions catalog) (r .id)) rs in
-    let fits = listed-walks catalog map room rs headers e .1 in
-    removal choice catalog map room room rs headers e (omega arith)
+    let fits = listed-walks catalog map capacity rs headers e .1 in
+    removal choice catalog map capacity capacity rs headers e (omega arith)
 
 -- The answer and the list behind it: the count is the number of the records left, and the rest of the list is as it was.
-pub removal-told : (choice : List Bool) (catalog map : List ℕ) (room : ℕ) (rs : List Record) (headers : ℕ) (out : List ℕ)
-    → listing catalog map room ≡ listed rs headers
+pub removal-result : (choice : List Bool) (catalog map : List ℕ) (capacity : ℕ) (rs : List Record) (headers : ℕ) (out : List ℕ)
+    → listing catalog map capacity ≡ listed rs headers
     → recordWidth * length (recordsLeft choice (definitions catalog) rs) ≤ length out
-    → (told (listing (keeping choice catalog) map (length out))
-    ≡ listedTold (length (recordsLeft choice (definitions catalog) rs)) headers)
+    → (result (listing (keeping choice catalog) map (length out))
+    ≡ listedResult (length (recordsLeft choice (definitions catalog) rs)) headers)
     × (stored (listing (keeping choice catalog) map (length out)) out
     ≡ entries (recordsLeft choice (definitions catalog) rs)
     ++ drop (recordWidth * length (recordsLeft choice (definitions catalog) rs)) out)
 unfolding stored
-removal-told choice catalog map room rs headers out e fits =
-    let answer = removal choice catalog map room (length out) rs headers e fits in
-    (ap told answer, ap (λ a. stored a out) answer)
+removal-result choice catalog map capacity rs headers out e fits =
+    let answer = removal choice catalog map capacity (length out) rs headers e fits in
+    (ap result answer, ap (λ a. stored a out) answer)
 
 -- A catalog of which no model is removed lists the same.
-pub nothing-removed : (choice : List Bool) (catalog map : List ℕ) (room models : ℕ) → Each (λ c. c ≡ true) choice
-    → checked catalog ≡ accepted models → listing (keeping choice catalog) map room ≡ listing catalog map room
-nothing-removed choice catalog map room models all e =
-    ap (λ ws. listing ws map room) (catalogs.nothing-removed choice catalog models all e)
+pub nothing-removed : (choice : List Bool) (catalog map : List ℕ) (capacity models : ℕ) → Each (λ c. c ≡ true) choice
+    → checked catalog ≡ accepted models → listing (keeping choice catalog) map capacity ≡ listing catalog map capacity
+nothing-removed choice catalog map capacity models all e =
+    ap (λ ws. listing ws map capacity) (catalogs.nothing-removed choice catalog models all e)

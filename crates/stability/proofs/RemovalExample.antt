@@ -17,8 +17,8 @@ use Rattle.register_map.specs.Headers.{opening}
 use Rattle.register_map.specs.Scan.{scanFrom, scan}
 use Rattle.layout.specs.Points.{ModelPoint, pointAt}
 use Rattle.layout.specs.Layout.{within, measured, fillMeasured, countUnimplemented, fits, fillOf, pointsAt, groupsBy, entered, contentAt}
-use Rattle.layout.specs.Reading.{endsWithPad, laidOut, readBy, topOf, reading}
-use Rattle.listing.specs.Listing.{Record, recordWidth, listed, walk, recordsBy, allRecords, withRoom, listing}
+use Rattle.layout.specs.Reading.{endsWithPad, readFull, readBy, topOf, reading}
+use Rattle.listing.specs.Listing.{Record, recordWidth, listed, walk, recordsBy, allRecords, withCapacity, listing}
 use Rattle.stability.specs.Removed.{keepsId, recordsLeft}
 use Rattle.stability.proofs.Removal.{removal}
 
@@ -62,7 +62,7 @@ pub both-listed : listing catalog plant 20 ≡ listed (model1 ∷ model7 ∷ [])
 unfolding rows rowAmong registersOf join shownRaw tooWide inRange classOf classified
     frameOf framesFrom isSizeOf checkFrom checked parsed opening scanFrom scan
     pointAt within measured fillMeasured countUnimplemented fits fillOf pointsAt groupsBy entered contentAt
-    endsWithPad laidOut readBy topOf reading walk recordsBy allRecords withRoom listing
+    endsWithPad readFull readBy topOf reading walk recordsBy allRecords withCapacity listing
 both-listed = refl
 
 -- What is left of it without model 1.
@@ -75,5 +75,5 @@ pub model7-listed : listing (keeping (allButOne 0) catalog) plant 10 ≡ listed 
 model7-listed =
     let rs : List Record = model1 ∷ model7 ∷ [] in
     let Fits = recordWidth * length (recordsLeft (allButOne 0) (definitions catalog) rs) ≤ 10 in
-    let room : Fits = rw model7-left (omega arith) in
-    removal (allButOne 0) catalog plant 20 10 rs 4 both-listed room ∙ ap (λ ss. listed ss 4) model7-left
+    let capacity : Fits = rw model7-left (omega arith) in
+    removal (allButOne 0) catalog plant 20 10 rs 4 both-listed capacity ∙ ap (λ ss. listed ss 4) model7-left

@@ -36,12 +36,12 @@ module _ (choice : List Bool) (ds : List Definition) where
   leaves-end read less (broken number) index at = (0, omega arith, λ k. refl)
 
   -- Records in front, and what is left of them.
-  leaves-in-front : (index : ℕ) (m : Model) (ms : List Model) (rs : List Record) (all left : Answer)
+  leaves-prepended : (index : ℕ) (m : Model) (ms : List Model) (rs : List Record) (all left : Answer)
       → Leaves (index + 1) ms all left → Leaves index (m ∷ ms) (withRecords rs all) (withRecords (recordsLeft choice ds rs) left)
   unfolding keepsAt
-  leaves-in-front index m ms rs (refused number place headers) left l =
+  leaves-prepended index m ms rs (refused number place headers) left l =
       let same = l .1 in (suc (l .0), omega arith, λ k. ap (withRecords (recordsLeft choice ds rs)) (l .2 k))
-  leaves-in-front index m ms rs (listed ts headers) left l = rw (l, selected-append (λ r. keepsId choice ds (r .id)) rs ts)
+  leaves-prepended index m ms rs (listed ts headers) left l = rw (l, selected-append (λ r. keepsId choice ds (r .id)) rs ts)
 
   module _ (read less : Model → Reading) (by-choice : (m : Model) → less m ≡ readingIf (keepsId choice ds (m .id)) (read m))
       (ending : Ending) where
@@ -71,11 +71,11 @@ module _ (choice : List Bool) (ds : List Definition) where
           (each-map T (recordOf index at (m .id)) ps (each-all (λ p. T (recordOf index at (m .id) p)) (λ p. e) ps))
 
       -- What is before them.
-      in-front : (rs ss : List Record) → recordsLeft choice ds rs ≡ ss → Leaves (index + 1) ms all left
+      in-append-left : (rs ss : List Record) → recordsLeft choice ds rs ≡ ss → Leaves (index + 1) ms all left
           → walk read ending index at (m ∷ ms) ≡ withRecords rs all → walk less ending index at (m ∷ ms) ≡ withRecords ss left
           → Leaves index (m ∷ ms) (walk read ending index at (m ∷ ms)) (walk less ending index at (m ∷ ms))
       unfolding all left
-      in-front rs ss e l f g = rw (f, g, ← e) (leaves-in-front index m ms rs all left l)
+      in-append-left rs ss e l f g = rw (f, g, ← e) (leaves-prepended index m ms rs all left l)
 
       -- A faulty model stays faulty, if it is kept.
       fault-stays : (fault : Fault) → read m ≡ faulty fault → keepsId choice ds (m .id) ≡ true
@@ -87,14 +87,14 @@ module _ (choice : List Bool) (ds : List Definition) where
       unfolding all left keepsAt selected
       leaves-model l unknown e b k =
           let same : less m ≡ unknown = by-choice m ∙ rw (e, k) (unknown-if b) in
-          in-front [] [] refl l (walk-no-records read ending index at m ms e) (walk-no-records less ending index at m ms same)
+          in-append-left [] [] refl l (walk-no-records read ending index at m ms e) (walk-no-records less ending index at m ms same)
       leaves-model l (faulty fault) e b k =
           rw (walk-faulty read ending index at m ms e) (0, omega arith, λ t. fault-stays fault e t)
       leaves-model l (points ps) e true k =
-          in-front (own ps) (own ps) (model-kept k ps) l
+          in-append-left (own ps) (own ps) (model-kept k ps) l
           (walk-points read ending index at m ms e) (walk-points less ending index at m ms {ps = ps} (by-choice m ∙ rw (k, e)))
       leaves-model l (points ps) e false k =
-          in-front (own ps) [] (model-removed k ps) l
+          in-append-left (own ps) [] (model-removed k ps) l
           (walk-points read ending index at m ms e) (walk-no-records less ending index at m ms (by-choice m ∙ rw k))
 
     -- All models from one on.

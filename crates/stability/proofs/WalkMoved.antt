@@ -62,31 +62,31 @@ nothing-moved n (refused number place headers) = rw (no-gaps headers) (simp add-
 -- A first model and the gap behind it, in front of other models and their gaps.
 module _ (gap : List Model) (gaps : List (List Model)) where
   -- In front of a later model stands this gap, too.
-  behind-gap : (n : ℕ) → gapsBefore (n + 1) (gap ∷ gaps) ≡ gap ++ gapsBefore n gaps
+  after-gap : (n : ℕ) → gapsBefore (n + 1) (gap ∷ gaps) ≡ gap ++ gapsBefore n gaps
   unfolding gapsBefore
-  behind-gap n = rw (add-one n)
+  after-gap n = rw (add-one n)
 
-  index-behind : (n i : ℕ)
+  index-after : (n i : ℕ)
       → i + 1 + length (gapsBefore (n + 1) (gap ∷ gaps)) ≡ i + length (gapsBefore n gaps) + (1 + length gap)
-  index-behind n i = let e = ap length (behind-gap n) ∙ length-append gap (gapsBefore n gaps) in omega arith
+  index-after n i = let e = ap length (after-gap n) ∙ length-append gap (gapsBefore n gaps) in omega arith
 
-  address-behind : (n a d : ℕ)
+  address-after : (n a d : ℕ)
       → a + d + totalSize (gapsBefore (n + 1) (gap ∷ gaps)) ≡ a + totalSize (gapsBefore n gaps) + (d + totalSize gap)
-  address-behind n a d = let e = ap totalSize (behind-gap n) ∙ size-append gap (gapsBefore n gaps) in omega arith
+  address-after n a d = let e = ap totalSize (after-gap n) ∙ size-append gap (gapsBefore n gaps) in omega arith
 
   -- So what is found behind the first model is moved by this gap, too.
-  shifted-behind : (d : ℕ) (rs : List Record)
+  shifted-after : (d : ℕ) (rs : List Record)
       → map (λ r. shifted (gapsBefore (r .index) (gap ∷ gaps)) r) (map (raised 1 d) rs)
       ≡ map (raised (1 + length gap) (d + totalSize gap)) (map (λ r. shifted (gapsBefore (r .index) gaps) r) rs)
-  shifted-behind d [] = refl
-  shifted-behind d (r ∷ rs) =
-      rw (index-behind (r .index) (r .index), address-behind (r .index) (r .address) d, shifted-behind d rs)
+  shifted-after d [] = refl
+  shifted-after d (r ∷ rs) =
+      rw (index-after (r .index) (r .index), address-after (r .index) (r .address) d, shifted-after d rs)
 
-  moved-behind : (n d : ℕ) (a : Answer)
+  moved-after : (n d : ℕ) (a : Answer)
       → movedWalk (gap ∷ gaps) (n + 1) (raisedAnswer 1 d a)
       ≡ raisedAnswer (1 + length gap) (d + totalSize gap) (movedWalk gaps n a)
-  moved-behind n d (listed rs headers) = rw (index-behind n headers, shifted-behind d rs)
-  moved-behind n d (refused number place headers) = rw (index-behind headers headers, address-behind headers place d)
+  moved-after n d (listed rs headers) = rw (index-after n headers, shifted-after d rs)
+  moved-after n d (refused number place headers) = rw (index-after headers headers, address-after headers place d)
 
   -- The first model itself does not move.
   first-stays : (a : ℕ) (m : Model) (ps : List ModelPoint)
@@ -117,13 +117,13 @@ walk-moved read a (m ∷ ms) [] u =
 walk-moved read a (m ∷ ms) (gap ∷ gaps) u =
     let old = walk read marked 0 a ms in
     let first = withModel (read m) 0 a m in
-    let behind = raisedAnswer (1 + length gap) (sizeOf m + totalSize gap) in
+    let following = raisedAnswer (1 + length gap) (sizeOf m + totalSize gap) in
     let n = length ms + 1 in
     let whole : walk read marked 0 a (m ∷ ms) ≡ first (raisedAnswer 1 (sizeOf m) old) =
     simp add-zero at (walk-first read marked a m [] ms tt) in
     ap (walk read marked 0 a) (all-gap m ms gap gaps)
     ∙ walk-first read marked a m gap (allModels (placed ms gaps)) (u .0)
-    ∙ ap (λ b. first (behind b)) (walk-moved read a ms gaps (u .1))
-    ∙ ap first (sym (moved-behind gap gaps (length ms) (sizeOf m) old))
+    ∙ ap (λ b. first (following b)) (walk-moved read a ms gaps (u .1))
+    ∙ ap first (sym (moved-after gap gaps (length ms) (sizeOf m) old))
     ∙ sym (moved-first gap gaps a n (read m) m (raisedAnswer 1 (sizeOf m) old))
     ∙ rw (add-one (length ms)) (ap (movedWalk (gap ∷ gaps) (suc (length ms))) (sym whole))

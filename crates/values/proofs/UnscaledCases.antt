@@ -13,7 +13,7 @@ use Rattle.registers.specs.Registers.{tooWide}
 use Rattle.point_types.specs.Rows.{TypeRow, rowOf}
 use Rattle.values.specs.Classes.{width, twosComplement, isValue, classified}
 use Rattle.values.specs.Unscaled.{Unscaled, number, noValue, notScalable}
-use Rattle.values.specs.Answers.{bySign, unscaledForm}
+use Rattle.values.specs.CodeTypes.{toCodeInteger, toCodeUnscaled}
 use Rattle.values.specs.declared.UnscaledValue.{UnscaledValue}
 use Rattle.values.proofs.ClassCases.{too-wide}
 use Rattle.values.proofs.TwosComplement.{lower-half, upper-half}
@@ -32,21 +32,21 @@ value-fits code raw row e v = go (tooWide (row .most) raw) refl
 
 -- Two's complement by sign and magnitude, from the largest pattern of the width.
 module _ (bits raw ones : ℕ) (wide : 1 ≤ bits) (is : ones ≡ 2 ^ bits - 1) where
-  pub from-zero : raw ≤ ones / 2 → UnscaledValue.Of false raw ≡ bySign (twosComplement bits raw)
-  from-zero h = ap bySign (sym (lower-half bits raw (omega (arith, halves bits wide, pow-pos (bits - 1)))))
+  pub from-zero : raw ≤ ones / 2 → UnscaledValue.Of false raw ≡ toCodeInteger (twosComplement bits raw)
+  from-zero h = ap toCodeInteger (sym (lower-half bits raw (omega (arith, halves bits wide, pow-pos (bits - 1)))))
 
-  pub below-zero : ones / 2 < raw → raw < 2 ^ bits → UnscaledValue.Of true (ones - raw + 1) ≡ bySign (twosComplement bits raw)
+  pub below-zero : ones / 2 < raw → raw < 2 ^ bits → UnscaledValue.Of true (ones - raw + 1) ≡ toCodeInteger (twosComplement bits raw)
   below-zero h k =
       let m : ones - raw + 1 ≡ suc (2 ^ bits - suc raw) = omega arith in
-      ap (UnscaledValue.Of true) m ∙ ap bySign (sym (upper-half bits raw (omega (arith, halves bits wide)) k))
+      ap (UnscaledValue.Of true) m ∙ ap toCodeInteger (sym (upper-half bits raw (omega (arith, halves bits wide)) k))
 
 -- What an answer of `unscaled_value` tells of the definition.
-pub was-not-scalable : (u : Unscaled) → unscaledForm u ≡ UnscaledValue.NotScalable → u ≡ notScalable
+pub was-not-scalable : (u : Unscaled) → toCodeUnscaled u ≡ UnscaledValue.NotScalable → u ≡ notScalable
 was-not-scalable (number z) e = cc
 was-not-scalable noValue e = cc
 was-not-scalable notScalable e = refl
 
-pub was-no-value : (u : Unscaled) → unscaledForm u ≡ UnscaledValue.NoValue → u ≡ noValue
+pub was-no-value : (u : Unscaled) → toCodeUnscaled u ≡ UnscaledValue.NoValue → u ≡ noValue
 was-no-value (number z) e = cc
 was-no-value noValue e = refl
 was-no-value notScalable e = cc
@@ -58,7 +58,7 @@ pub record NumberOf (u : Unscaled) (negative : Bool) (magnitude : ℕ) : Type 0 
   pub sign : negative ≡ not (nonNeg value)
   pub size : magnitude ≡ natAbs value
 
-pub was-number : (u : Unscaled) (negative : Bool) (magnitude : ℕ) → unscaledForm u ≡ UnscaledValue.Of negative magnitude
+pub was-number : (u : Unscaled) (negative : Bool) (magnitude : ℕ) → toCodeUnscaled u ≡ UnscaledValue.Of negative magnitude
     → NumberOf u negative magnitude
 was-number (number z) negative magnitude e = record { value = z; is = refl; sign = cc; size = cc }
 was-number noValue negative magnitude e = impossible (cc)

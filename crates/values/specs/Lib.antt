@@ -2,5 +2,5 @@ pub mod Classes
 pub mod Decoding
 pub mod Unscaled
 pub mod Encoding
-pub mod Answers
+pub mod CodeTypes
 pub mod Printed

@@ -3,9 +3,9 @@ ghost use mathlib.Core.Path.{_≡_};
 ghost use mathlib.Core.Bool.{not};
 ghost use lib.Ieee.{binary32, nanBits};
 ghost use Rattle.point_types.specs.Rows.{Listed};
-ghost use Rattle.point_types.specs.Answers.{unimplementedMeans, rowMeans};
+ghost use Rattle.point_types.specs.CodeTypes.{toSpecUnimplemented, toSpecRow};
 ghost use Rattle.values.specs.Classes.{PatternOf, ofClass, twosComplement, isUnimplemented, inRange, isScaleFactor, isValue, classOf, classified};
-ghost use Rattle.values.specs.Answers.{classAnswer, classifiedAnswer};
+ghost use Rattle.values.specs.CodeTypes.{toSpecClass, toSpecClassified};
 use crate::Class;
 use crate::Classified;
 use point_types::Found;
@@ -17,7 +17,7 @@ use registers::too_wide;
 
 // The class of a raw number under a type code.
 pub fn classify(type_code: u16, raw: u64) -> Classified
-    ensures { λ r. ⌜ classifiedAnswer r ≡ classified «type_code» raw ⌝ }
+    ensures { λ r. ⌜ toSpecClassified r ≡ classified «type_code» raw ⌝ }
 {
     let found = row_of(type_code);
     match found {
@@ -28,8 +28,8 @@ pub fn classify(type_code: u16, raw: u64) -> Classified
 
 // The class of a raw number under the row's type.
 pub(crate) fn classified_in(row: TypeRow, raw: u64) -> Classified
-    requires { ⌜ Listed (rowMeans row) ⌝ }
-    ensures { λ r. ⌜ classifiedAnswer r ≡ classified (row .code) raw ⌝ }
+    requires { ⌜ Listed (toSpecRow row) ⌝ }
+    ensures { λ r. ⌜ toSpecClassified r ≡ classified (row .code) raw ⌝ }
 {
     if too_wide(row.most, raw) {
         return Classified::TooWide;
@@ -46,7 +46,7 @@ pub fn is_value(type_code: u16, raw: u64) -> bool
 
 // Was a raw number found to be a value?
 pub(crate) fn is_value_in(classified: Classified) -> bool
-    ensures { λ r. ⌜ r ≡ isValue (classifiedAnswer classified) ⌝ }
+    ensures { λ r. ⌜ r ≡ isValue (toSpecClassified classified) ⌝ }
 {
     match classified {
         Classified::Of(class) => is_value_class(class),
@@ -57,7 +57,7 @@ pub(crate) fn is_value_in(classified: Classified) -> bool
 
 // Is it the class of values?
 fn is_value_class(class: Class) -> bool
-    ensures { λ r. ⌜ r ≡ isValue (ofClass (classAnswer class)) ⌝ }
+    ensures { λ r. ⌜ r ≡ isValue (ofClass (toSpecClass class)) ⌝ }
 {
     match class {
         Class::Value => true,
@@ -68,8 +68,8 @@ fn is_value_class(class: Class) -> bool
 
 // The class of a pattern of the row's type: unimplemented wins over out of range.
 pub(crate) fn class_in(row: TypeRow, raw: u64) -> Class
-    requires { ⌜ PatternOf (rowMeans row) raw ⌝ }
-    ensures { λ r. ⌜ classAnswer r ≡ classOf (rowMeans row) raw ⌝ }
+    requires { ⌜ PatternOf (toSpecRow row) raw ⌝ }
+    ensures { λ r. ⌜ toSpecClass r ≡ classOf (toSpecRow row) raw ⌝ }
 {
     let unimplemented = row.unimplemented;
     if is_unimplemented(unimplemented, raw) {
@@ -83,7 +83,7 @@ pub(crate) fn class_in(row: TypeRow, raw: u64) -> Class
 
 // Is it the type's unimplemented pattern?
 fn is_unimplemented(unimplemented: Unimplemented, raw: u64) -> bool
-    ensures { λ r. ⌜ r ≡ isUnimplemented (unimplementedMeans unimplemented) raw ⌝ }
+    ensures { λ r. ⌜ r ≡ isUnimplemented (toSpecUnimplemented unimplemented) raw ⌝ }
 {
     match unimplemented {
         Unimplemented::Never => false,
@@ -93,8 +93,8 @@ fn is_unimplemented(unimplemented: Unimplemented, raw: u64) -> bool
 
 // Is the pattern in its type's range?
 fn in_range(row: TypeRow, raw: u64) -> bool
-    requires { ⌜ PatternOf (rowMeans row) raw ⌝ }
-    ensures { λ r. ⌜ r ≡ inRange (rowMeans row) raw ⌝ }
+    requires { ⌜ PatternOf (toSpecRow row) raw ⌝ }
+    ensures { λ r. ⌜ r ≡ inRange (toSpecRow row) raw ⌝ }
 {
     let range = row.range;
     match range {

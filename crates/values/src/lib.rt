@@ -17,10 +17,10 @@ use registers::raw_value;
 pub use unscaled::unscaled_value;
 ghost use mathlib.Core.Path.{_≡_};
 ghost use Prim.Native.Nat.{_*_, _-_, _^_, _≤_, _<_};
-ghost use Rattle.point_types.specs.Answers.{rowMeans};
+ghost use Rattle.point_types.specs.CodeTypes.{toSpecRow};
 ghost use Rattle.values.specs.Classes.{PatternOf, twosComplement, classOf, value};
 ghost use Rattle.values.specs.Decoding.{numberOf, valueOf, decoded};
-ghost use Rattle.values.specs.Answers.{answer};
+ghost use Rattle.values.specs.CodeTypes.{toSpecValue};
 
 // A pattern of a type is a value, marks the point as unimplemented, or is out of the type's range.
 pub enum Class {
@@ -58,7 +58,7 @@ pub enum UnscaledValue {
 
 // The value in the first registers, as many as the type takes.
 pub fn decode(type_code: u16, registers: [u16; 4]) -> Value
-    ensures { λ r. ⌜ answer r ≡ decoded «type_code» registers ⌝ }
+    ensures { λ r. ⌜ toSpecValue r ≡ decoded «type_code» registers ⌝ }
 {
     if 18 < type_code {
         return Value::NotDecodable;
@@ -76,8 +76,8 @@ pub fn decode(type_code: u16, registers: [u16; 4]) -> Value
 
 // The answer for a pattern of the row's type.
 fn value_of(row: TypeRow, raw: u64) -> Value
-    requires { ⌜ PatternOf (rowMeans row) raw ⌝ }
-    ensures { λ r. ⌜ answer r ≡ valueOf (rowMeans row) raw ⌝ }
+    requires { ⌜ PatternOf (toSpecRow row) raw ⌝ }
+    ensures { λ r. ⌜ toSpecValue r ≡ valueOf (toSpecRow row) raw ⌝ }
 {
     let class = class_in(row, raw);
     match class {
@@ -89,9 +89,9 @@ fn value_of(row: TypeRow, raw: u64) -> Value
 
 // The number of a pattern that is a value.
 fn number_of(row: TypeRow, raw: u64) -> Value
-    requires { ⌜ PatternOf (rowMeans row) raw ⌝ }
-    requires { ⌜ classOf (rowMeans row) raw ≡ value ⌝ }
-    ensures { λ r. ⌜ answer r ≡ numberOf (rowMeans row) raw ⌝ }
+    requires { ⌜ PatternOf (toSpecRow row) raw ⌝ }
+    requires { ⌜ classOf (toSpecRow row) raw ≡ value ⌝ }
+    ensures { λ r. ⌜ toSpecValue r ≡ numberOf (toSpecRow row) raw ⌝ }
 {
     let kind = row.kind;
     match kind {

@@ -1,10 +1,10 @@
 // The integer of a raw number before it is scaled.
 ghost use mathlib.Core.Path.{_≡_};
 ghost use Prim.Native.Nat.{_*_, _^_, _≤_, _<_};
-ghost use Rattle.point_types.specs.Answers.{rowMeans};
+ghost use Rattle.point_types.specs.CodeTypes.{toSpecRow};
 ghost use Rattle.values.specs.Classes.{PatternOf, integer, twosComplement};
 ghost use Rattle.values.specs.Unscaled.{unscaled};
-ghost use Rattle.values.specs.Answers.{unscaledForm, bySign};
+ghost use Rattle.values.specs.CodeTypes.{toCodeUnscaled, toCodeInteger};
 use crate::UnscaledValue;
 use crate::classes::classified_in;
 use crate::classes::is_value_in;
@@ -16,7 +16,7 @@ use registers::all_ones;
 
 // The integer that a scale factor multiplies, of a raw number under a type code.
 pub fn unscaled_value(type_code: u16, raw: u64) -> UnscaledValue
-    ensures { λ r. ⌜ r ≡ unscaledForm (unscaled «type_code» raw) ⌝ }
+    ensures { λ r. ⌜ r ≡ toCodeUnscaled (unscaled «type_code» raw) ⌝ }
 {
     let found = row_of(type_code);
     match found {
@@ -35,8 +35,8 @@ pub fn unscaled_value(type_code: u16, raw: u64) -> UnscaledValue
 
 // A pattern as an integer: only a signed type has negative ones.
 fn integer_by_sign(row: TypeRow, raw: u64) -> UnscaledValue
-    requires { ⌜ PatternOf (rowMeans row) raw ⌝ }
-    ensures { λ r. ⌜ r ≡ bySign (integer (rowMeans row) raw) ⌝ }
+    requires { ⌜ PatternOf (toSpecRow row) raw ⌝ }
+    ensures { λ r. ⌜ r ≡ toCodeInteger (integer (toSpecRow row) raw) ⌝ }
 {
     let kind = row.kind;
     match kind {
@@ -56,7 +56,7 @@ fn integer_by_sign(row: TypeRow, raw: u64) -> UnscaledValue
 fn twos_complement_by_sign(count: u16, raw: u64) -> UnscaledValue
     requires { ⌜ (1 ≤ count) × (count ≤ 4) ⌝ }
     requires { ⌜ raw < 2 ^ (16 * count) ⌝ }
-    ensures { λ r. ⌜ r ≡ bySign (twosComplement (16 * count) raw) ⌝ }
+    ensures { λ r. ⌜ r ≡ toCodeInteger (twosComplement (16 * count) raw) ⌝ }
 {
     let ones = all_ones(count);
     if raw <= ones / 2 {

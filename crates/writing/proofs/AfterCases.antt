@@ -74,8 +74,8 @@ same-parts r s i d a p = λ k. record { index = i k; id = d k; address = a k; po
 
 module _ (ds : List Definition) (w : Record) (raw : ℕ) (r s : Record) (a : RecordAfter ds w raw r s) where
   -- A record of another model stays.
-  pub after-elsewhere : (r .index ≡ w .index → ⊥) → s ≡ r
-  after-elsewhere n =
+  pub after-unchanged : (r .index ≡ w .index → ⊥) → s ≡ r
+  after-unchanged n =
       let P : Bool → Type 0 = λ b. PointBecomes b (topOf (w .id) ds) (w .point) raw (r .point) (s .point) in
       same-parts r s (a .index) (a .id) (a .address) (subst P (ne-eqb (r .index) (w .index) n) (a .point))
 

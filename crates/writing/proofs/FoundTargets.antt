@@ -14,48 +14,48 @@ use Rattle.listing.specs.Listing as Listing
 use Rattle.listing.specs.Finding.{isRecord, finding, Target, targetOf}
 use Rattle.listing.specs.Finding as Finding
 use Rattle.listed_records.proofs.RawValues.{record-inside}
-use Rattle.writing.specs.Writing.{refusal, rewritten, Answer, refused, written, writingTo, writing, refusedTold, writtenTold, told, mapBehind}
+use Rattle.writing.specs.Writing.{refusal, rewritten, Answer, refused, written, writingTo, writing, refusedResult, writtenResult, result, mapAfter}
 
 -- ---- Writing to a point
 
 module _ (t : Target) (raw : ℕ) (map : List ℕ) where
   -- It is refused.
   pub refuses : {n : ℕ} → some n ≡ refusal t raw
-      → (refusedTold n 0 ≡ told (writingTo t raw map)) × (map ≡ mapBehind (writingTo t raw map) map)
+      → (refusedResult n 0 ≡ result (writingTo t raw map)) × (map ≡ mapAfter (writingTo t raw map) map)
   refuses {n} e =
       let a : writingTo t raw map ≡ refused n 0 =
       sym (ap {B = Answer} (λ o. elim o [ some n ↦ refused n 0 | none ↦ written (rewritten t raw map) ]) e) in
-      (sym (ap told a), sym (ap (λ x. mapBehind x map) a))
+      (sym (ap result a), sym (ap (λ x. mapAfter x map) a))
 
   -- It takes the value.
   pub takes : {new : List ℕ} → none ≡ refusal t raw
       → new ≡ sets map (t .address) (split (t .definition .size) raw)
-      → (writtenTold ≡ told (writingTo t raw map)) × (new ≡ mapBehind (writingTo t raw map) map)
+      → (writtenResult ≡ result (writingTo t raw map)) × (new ≡ mapAfter (writingTo t raw map) map)
   unfolding rewritten
   takes e w =
       let a : writingTo t raw map ≡ written (rewritten t raw map) =
       sym (ap {B = Answer} (λ o. elim o [ some n ↦ refused n 0 | none ↦ written (rewritten t raw map) ]) e) in
-      (sym (ap told a), w ∙ sym (ap (λ x. mapBehind x map) a))
+      (sym (ap result a), w ∙ sym (ap (λ x. mapAfter x map) a))
 
 -- ---- What is told
 
 -- A target that is told is that of a record.
-told-record : (f : Finding.Finding) (t : Target) → Finding.foundTold t ≡ Finding.told f
+result-record : (f : Finding.Finding) (t : Target) → Finding.foundResult t ≡ Finding.result f
     → (w : Record) × (f ≡ Finding.found w) × (t ≡ targetOf w)
-told-record (Finding.refused n place) t e = impossible (cc)
-told-record Finding.nothing t e = impossible (cc)
-told-record (Finding.found w) t e = (w, refl, cc)
+result-record (Finding.refused n place) t e = impossible (cc)
+result-record Finding.nothing t e = impossible (cc)
+result-record (Finding.found w) t e = (w, refl, cc)
 
 -- The other answers.
-told-nothing : (f : Finding.Finding) → Finding.nothingTold ≡ Finding.told f → f ≡ Finding.nothing
-told-nothing (Finding.refused n place) e = impossible (cc)
-told-nothing Finding.nothing e = refl
-told-nothing (Finding.found w) e = impossible (cc)
+result-nothing : (f : Finding.Finding) → Finding.nothingResult ≡ Finding.result f → f ≡ Finding.nothing
+result-nothing (Finding.refused n place) e = impossible (cc)
+result-nothing Finding.nothing e = refl
+result-nothing (Finding.found w) e = impossible (cc)
 
-told-refused : (f : Finding.Finding) (n place : ℕ) → Finding.refusedTold n place ≡ Finding.told f → f ≡ Finding.refused n place
-told-refused (Finding.refused m at) n place e = cc
-told-refused Finding.nothing n place e = impossible (cc)
-told-refused (Finding.found w) n place e = impossible (cc)
+result-refused : (f : Finding.Finding) (n place : ℕ) → Finding.refusedResult n place ≡ Finding.result f → f ≡ Finding.refused n place
+result-refused (Finding.refused m at) n place e = cc
+result-refused Finding.nothing n place e = impossible (cc)
+result-refused (Finding.found w) n place e = impossible (cc)
 
 -- ---- Writing by what was found
 
@@ -67,34 +67,34 @@ module _ (catalog map : List ℕ) (index number : ℕ) (path : List ℕ) (raw : 
   all = writing catalog map index number path raw
 
   -- A refusal of listing is that of writing; nothing found is 31.
-  pub writing-refused : (n place : ℕ) → Finding.refusedTold n place ≡ Finding.told found
-      → (refusedTold n place ≡ told all) × (map ≡ mapBehind all map)
+  pub writing-refused : (n place : ℕ) → Finding.refusedResult n place ≡ Finding.result found
+      → (refusedResult n place ≡ result all) × (map ≡ mapAfter all map)
   unfolding writing
   writing-refused n place e =
-      let a : all ≡ refused n place = rw (told-refused found n place e, writing) in
-      (sym (ap told a), sym (ap (λ x. mapBehind x map) a))
+      let a : all ≡ refused n place = rw (result-refused found n place e, writing) in
+      (sym (ap result a), sym (ap (λ x. mapAfter x map) a))
 
-  pub writing-nothing : Finding.nothingTold ≡ Finding.told found → (refusedTold 31 0 ≡ told all) × (map ≡ mapBehind all map)
+  pub writing-nothing : Finding.nothingResult ≡ Finding.result found → (refusedResult 31 0 ≡ result all) × (map ≡ mapAfter all map)
   unfolding writing
   writing-nothing e =
-      let a : all ≡ refused 31 0 = rw (told-nothing found e, writing) in
-      (sym (ap told a), sym (ap (λ x. mapBehind x map) a))
+      let a : all ≡ refused 31 0 = rw (result-nothing found e, writing) in
+      (sym (ap result a), sym (ap (λ x. mapAfter x map) a))
 
   by-found : (w : Record) → found ≡ Finding.found w → all ≡ writingTo (targetOf w) raw map
   unfolding writing
   by-found w f = rw (f, writing)
 
-  module _ (t : Target) (e : Finding.foundTold t ≡ Finding.told found) where
+  module _ (t : Target) (e : Finding.foundResult t ≡ Finding.result found) where
     -- What writing to the target comes to is what writing comes to.
     pub writing-found : writingTo t raw map ≡ all
     writing-found =
-        let r = told-record found t e in ap (λ x. writingTo x raw map) (r .2) ∙ sym (by-found (r .0) (r .1))
+        let r = result-record found t e in ap (λ x. writingTo x raw map) (r .2) ∙ sym (by-found (r .0) (r .1))
 
     -- Its registers lie in the map.
     pub target-inside : t .address + t .definition .size ≤ length map
     unfolding finding
     target-inside =
-        let r = told-record found t e in
+        let r = result-record found t e in
         subst (λ (x : Target). x .address + x .definition .size ≤ length map) (sym (r .2)) (inside (r .0) (r .1))
       where
         by-record : (w : Record) (rs : List Record) (headers : ℕ) → allRecords catalog map ≡ Listing.listed rs headers

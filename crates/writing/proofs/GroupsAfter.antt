@@ -10,7 +10,7 @@ use lib.ListN.{getD, set}
 use Rattle.lists.specs.Each.{Each, Pairwise}
 use Rattle.lists.specs.Members.{among, In}
 use Rattle.lists.proofs.TestOutcomes.{clash}
-use Rattle.lists.proofs.InLaws.{in-front, in-behind, in-either}
+use Rattle.lists.proofs.InLaws.{in-append-left, in-append-right, in-either}
 use Rattle.lists.proofs.EachLaws.{each-parts}
 use Rattle.lists.proofs.PairwiseLaws.{pairwise-append}
 use Rattle.catalog_frames.specs.Frames.{Point, Head}
@@ -24,9 +24,9 @@ use Rattle.layout.specs.Layout.{withPoint, within, groupsSize, pointsAt, instan
 use Rattle.layout.specs.Tiling.{lowerPoints}
 use Rattle.layout.specs.Paths.{agreeTo, pathOf}
 use Rattle.layout.proofs.InstanceLaws.{pairwise-instances}
-use Rattle.layout.proofs.IntoGroups.{SoundBelow, below, beside}
+use Rattle.layout.proofs.GroupDescent.{SoundBelow, below, beside}
 use Rattle.layout.proofs.Places.{Place}
-use Rattle.layout.proofs.Depths.{levels, agree-behind, Deep, own-depth, inside-deep, behind-deep}
+use Rattle.layout.proofs.Depths.{levels, agree-beyond, Deep, own-depth, inside-deep, following-deep}
 use Rattle.writing.specs.AfterWriting.{PointAfter}
 use Rattle.writing.proofs.OnePointAfter as one
 use Rattle.writing.proofs.OnePointAfter.{Write, inScope}
@@ -78,10 +78,10 @@ module _ (top : Content) (w : ModelPoint) (raw : ℕ) (body : List ℕ) (defined
       within-becomes path u a around ps sound places s t (p .number) (λ e. clash (sym (point-among p ps i) ∙ e))
 
   -- and for those around it.
-  reach-becomes : (path : List ℕ) (u : Scope) (a : ℕ) (around ps enclosing : List Point) → Each (SoundPoint around) ps
+  scope-becomes : (path : List ℕ) (u : Scope) (a : ℕ) (around ps enclosing : List Point) → Each (SoundPoint around) ps
       → Each (Place top w) (pointsAt body (inScope u path) a ps) → (s t : Scope) → Scopes enclosing path s t
       → Scopes (ps ++ enclosing) path (within body a ps s) (within new a ps t)
-  reach-becomes path u a around ps enclosing sound places s t h p i =
+  scope-becomes path u a around ps enclosing sound places s t h p i =
       within-becomes path u a around ps sound places s t (p .number) (λ e.
       in-either p ps enclosing i (λ j. clash (sym (point-among p ps j) ∙ e)) (h p))
 
@@ -95,21 +95,21 @@ module _ (top : Content) (w : ModelPoint) (raw : ℕ) (body : List ℕ) (defined
     where
       go : (b : Bool) → eqb (p .number) (w .definition .number) ≡ b
           → b && agreeTo depth (pathOf w) (levels path) ≡ (b && agreeTo depth (pathOf w) (levels (set path at j)))
-      go true e = sym (agree-behind depth (pathOf w) path at j (shallow p i (eqb-true (p .number) (w .definition .number) e)))
+      go true e = sym (agree-beyond depth (pathOf w) path at j (shallow p i (eqb-true (p .number) (w .definition .number) e)))
       go false e = refl
 
   -- ---- Points
 
   -- The points of an instance.
-  pub points-after : (path : List ℕ) (a : ℕ) (around reach ps : List Point) → Each (SoundPoint around) ps
-      → Each (ScaleResolves reach) ps → ((f : Point) → In f reach → In f defined) → (s t : Scope) → Scopes reach path s t
+  pub points-after : (path : List ℕ) (a : ℕ) (around visible ps : List Point) → Each (SoundPoint around) ps
+      → Each (ScaleResolves visible) ps → ((f : Point) → In f visible → In f defined) → (s t : Scope) → Scopes visible path s t
       → Each (Place top w) (pointsAt body (inScope s path) a ps)
       → Pairwise (PointAfter top w raw) (pointsAt body (inScope s path) a ps) (pointsAt new (inScope t path) a ps)
   unfolding pointsAt
-  points-after path a around reach [] sound resolve known s t h places = tt
-  points-after path a around reach (p ∷ ps) sound resolve known s t h places = (
-    one.point-after top w raw body defined x s t path a around reach p (sound .0) (resolve .0) known h (places .0),
-    points-after path (a + p .size) around reach ps (sound .1) (resolve .1) known s t h (places .1),
+  points-after path a around visible [] sound resolve known s t h places = tt
+  points-after path a around visible (p ∷ ps) sound resolve known s t h places = (
+    one.point-after top w raw body defined x s t path a around visible p (sound .0) (resolve .0) known h (places .0),
+    points-after path (a + p .size) around visible ps (sound .1) (resolve .1) known s t h (places .1),
   )
 
   -- ---- Groups
@@ -122,21 +122,21 @@ module _ (top : Content) (w : ModelPoint) (raw : ℕ) (body : List ℕ) (defined
       → (s t : Scope) → Scopes enclosing path s t → Each (Place top w) (groupsAt body count level (inScope s path) offset g)
       → Pairwise (PointAfter top w raw) (groupsAt body count level (inScope s path) offset g) (groupsAt new count level (inScope t path) offset g)
   unfolding groupsBy entered
-  groups-after count tops enclosing level path offset noGroup sound low deep shallow around ahead s t h places = tt
-  groups-after count tops enclosing level path offset (group hd ps inside behind) sound low deep shallow around ahead s t h
+  groups-after count tops enclosing level path offset noGroup sound low deep shallow around withModel s t h places = tt
+  groups-after count tops enclosing level path offset (group hd ps inside following) sound low deep shallow around withModel s t h
       places =
       let n = w .definition .number in
       let size = pointsSize ps + groupsSize count inside in
-      let reach = ps ++ enclosing in
+      let visible = ps ++ enclosing in
       let L = lowerPoints inside in
-      let B = lowerPoints behind in
+      let B = lowerPoints following in
       let distinct = sound .distinct in
-      let reachKnown : (p : Point) → In p reach → In p defined = λ p i.
-      in-either p ps enclosing i (λ j. ahead p (in-front p ps (L ++ B) j)) (around p) in
-      let lower : (p : Point) → In p reach → p .number ≡ n → depth ≤ suc level - 2 = λ p i e.
+      let scopeKnown : (p : Point) → In p visible → In p defined = λ p i.
+      in-either p ps enclosing i (λ j. withModel p (in-append-left p ps (L ++ B) j)) (around p) in
+      let lower : (p : Point) → In p visible → p .number ≡ n → depth ≤ suc level - 2 = λ p i e.
       in-either p ps enclosing i (λ j.
       let a : among n (numbersOf (pointFrames ps)) ≡ true = rw (← e) (point-among p ps j) in
-      omega (arith, own-depth n depth level hd ps inside behind distinct low deep a))
+      omega (arith, own-depth n depth level hd ps inside following distinct low deep a))
       (λ j. omega (arith, shallow p j e)) in
       let old : (ℕ → ℕ → List ModelPoint) = λ j at.
       pointsAt body (entered body level j at ps (inScope s path)) at ps
@@ -151,23 +151,23 @@ module _ (top : Content) (w : ModelPoint) (raw : ℕ) (body : List ℕ) (defined
       let own = pointsAt body (inScope s′ path′) at ps in
       let rest = groupsAt body count (suc level) (inScope s′ path′) (at + pointsSize ps) inside in
       let parts = each-parts (Place top w) own rest e in
-      let scopes = reach-becomes path′ s′ at reach ps enclosing (sound .sound .2) (parts .0) s t
+      let scopes = scope-becomes path′ s′ at visible ps enclosing (sound .sound .2) (parts .0) s t
       (deeper enclosing path (level - 2) j s t shallow h) in
       pairwise-append (PointAfter top w raw) own (pointsAt new (inScope t′ path′) at ps) rest
       (groupsAt new count (suc level) (inScope t′ path′) (at + pointsSize ps) inside)
-      (points-after path′ at reach reach ps (sound .sound .2) (points-resolve reach ps (sound .sound .2)) reachKnown s′ t′ scopes
+      (points-after path′ at visible visible ps (sound .sound .2) (points-resolve visible ps (sound .sound .2)) scopeKnown s′ t′ scopes
       (parts .0))
-      (groups-after count tops reach (suc level) path′ (at + pointsSize ps) inside
-      (below tops enclosing level hd ps inside behind sound) (omega arith)
-      (inside-deep n depth level hd ps inside behind distinct low deep) lower reachKnown
-      (λ p i. ahead p (in-behind p ps (L ++ B) (in-front p L B i))) s′ t′ scopes (parts .1)) in
+      (groups-after count tops visible (suc level) path′ (at + pointsSize ps) inside
+      (below tops enclosing level hd ps inside following sound) (omega arith)
+      (inside-deep n depth level hd ps inside following distinct low deep) lower scopeKnown
+      (λ p i. withModel p (in-append-right p ps (L ++ B) (in-append-left p L B i))) s′ t′ scopes (parts .1)) in
       let mid = offset + count hd * size in
       let first = instances (count hd) 0 offset size old in
-      let rest = groupsAt body count level (inScope s path) mid behind in
+      let rest = groupsAt body count level (inScope s path) mid following in
       let parts = each-parts (Place top w) first rest places in
       pairwise-append (PointAfter top w raw) first (instances (count hd) 0 offset size after) rest
-      (groupsAt new count level (inScope t path) mid behind)
+      (groupsAt new count level (inScope t path) mid following)
       (pairwise-instances (Place top w) (PointAfter top w raw) old after each (count hd) 0 offset size (parts .0))
-      (groups-after count tops enclosing level path mid behind (beside tops enclosing level hd ps inside behind sound) low
-      (behind-deep n depth level hd ps inside behind distinct low deep) shallow around
-      (λ p i. ahead p (in-behind p ps (L ++ B) (in-behind p L B i))) s t h (parts .1))
+      (groups-after count tops enclosing level path mid following (beside tops enclosing level hd ps inside following sound) low
+      (following-deep n depth level hd ps inside following distinct low deep) shallow around
+      (λ p i. withModel p (in-append-right p ps (L ++ B) (in-append-right p L B i))) s t h (parts .1))

@@ -16,14 +16,14 @@ use Rattle.registers.specs.Registers.{split}
 use Rattle.registers.proofs.Splitting.{split-length}
 use Rattle.model_definitions.specs.Definitions.{Content, Definition, definitions}
 use Rattle.register_map.specs.Scan.{sizeOf, marked, scan}
-use Rattle.register_map.proofs.BodyReplaced.{storedIn, scan-anew, opens-anew}
+use Rattle.register_map.proofs.BodyReplaced.{storedIn, scan-replaced, opens-replaced}
 use Rattle.layout.specs.Points.{ModelPoint}
 use Rattle.layout.specs.Reading.{points, topOf, reading}
 use Rattle.layout.proofs.PointPlaces.{point-inside}
 use Rattle.listing.specs.Listing.{Record, recordOf, listed, walk, allRecords}
 use Rattle.listing.specs.Finding.{isRecord, targetOf}
 use Rattle.listing.proofs.ListingCases.{records-walk, walk-records}
-use Rattle.listed_records.proofs.WalksBehind.{headers-walked}
+use Rattle.listed_records.proofs.ListingInversion.{headers-walked}
 use Rattle.listed_records.proofs.WalkedModels.{records-replaced}
 use Rattle.listed_records.proofs.RecordSources.{record-source, read-with}
 use Rattle.writing.specs.Writing.{refusal, rewritten}
@@ -88,20 +88,20 @@ module _ (catalog map : List ℕ) (rs : List Record) (headers : ℕ)
         point-inside d (o .by .sound) (m .body) (o .all) (o .by .reads) p (o .holds),
         split-length (p .definition .size) raw,
       ) in
-      let index : w .index ≡ 0 + length (o .front) = omega (arith, o .index) in
+      let index : w .index ≡ 0 + length (o .preceding) = omega (arith, o .index) in
       let top : topOf (w .id) ds ≡ some (d .top) = ap (λ id. topOf id ds) (o .id) ∙ o .by .known in
-      let old : walk read marked 0 2 (o .front ++ m ∷ o .behind) ≡ listed rs headers =
-      ap (λ ms. walk read marked 0 2 ms) (sym (o .stands))
+      let old : walk read marked 0 2 (o .preceding ++ m ∷ o .following) ≡ listed rs headers =
+      ap (λ ms. walk read marked 0 2 ms) (sym (o .splits))
       ∙ ap (λ x. walk read x 0 2 (scan map .models)) (sym ends)
       ∙ walks .walks in
       let r = records-replaced read marked R Q m n size (o .all) qs (o .reads) new (a .2) (w .index) (other-model ds w raw)
-      (λ x. own-model ds w raw (d .top) top x (m .id)) (o .front) (o .behind) 0 2 rs headers index old in
-      let scanned = scan-anew map (o .front) m (o .behind) (o .made) (p .offset) vs inside (w .address) (o .address) in (
+      (λ x. own-model ds w raw (d .top) top x (m .id)) (o .preceding) (o .following) 0 2 rs headers index old in
+      let scanned = scan-replaced map (o .preceding) m (o .following) (o .made) (p .offset) vs inside (w .address) (o .address) in (
         r .0,
         walk-records catalog (sets map (w .address) vs) {answer = listed (r .0) headers} (record {
           models = walks .models;
           accepted = walks .accepted;
-          opens = opens-anew map (o .front) m (o .behind) (o .made) (p .offset) vs inside (w .address) (o .address)
+          opens = opens-replaced map (o .preceding) m (o .following) (o .made) (p .offset) vs inside (w .address) (o .address)
               (walks .opens);
           walks = subst (λ s. walk read (s .ending) 0 2 (s .models) ≡ listed (r .0) headers) (sym scanned) (r .1);
         }),

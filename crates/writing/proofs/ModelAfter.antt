@@ -12,7 +12,7 @@ use Rattle.lists.specs.Each.{Each, Pairwise}
 use Rattle.lists.specs.Members.{In}
 use Rattle.lists.proofs.TestOutcomes.{both}
 use Rattle.lists.proofs.EachLaws.{each-one, each-parts}
-use Rattle.lists.proofs.InLaws.{in-front, in-behind}
+use Rattle.lists.proofs.InLaws.{in-append-left, in-append-right}
 use Rattle.lists.proofs.PairwiseLaws.{pairwise-append}
 use Rattle.registers.specs.Registers.{split}
 use Rattle.values.specs.Classes.{classified, isUnimplementedClass}
@@ -28,7 +28,7 @@ use Rattle.layout.specs.Tiling.{lowerPoints, definedPoints}
 use Rattle.layout.specs.Paths.{depthIn, agreeTo, pathOf}
 use Rattle.layout.proofs.OnePoint.{one-point}
 use Rattle.layout.proofs.LeftOutPad.{each-but-last, left-out}
-use Rattle.layout.proofs.IntoGroups.{definition-below}
+use Rattle.layout.proofs.GroupDescent.{definition-below}
 use Rattle.layout.proofs.Readings.{Full, resolves-left, pointsLeft, read-left, read-full, by-reading}
 use Rattle.layout.proofs.ListedPoints.{all-sized}
 use Rattle.layout.proofs.Places.{Place}
@@ -73,7 +73,7 @@ module _ (d : Definition) (sound : SoundDefinition d) (body : List ℕ) (ps : Li
 
   -- A top point is one of the definition.
   topKnown : (p : Point) → In p (d .top .points) → In p (definedPoints d)
-  topKnown p i = in-front p (d .top .points) (lowerPoints (d .top .groups)) i
+  topKnown p i = in-append-left p (d .top .points) (lowerPoints (d .top .groups)) i
 
   -- The body stays as long as it was.
   same-length : length new ≡ length body
@@ -135,7 +135,7 @@ module _ (d : Definition) (sound : SoundDefinition d) (body : List ℕ) (ps : Li
     full-again : Full (d .top) body → Full (d .top) new
     full-again f =
         record {
-          room = omega (arith, same-length, f .room);
+          capacity = omega (arith, same-length, f .capacity);
           counted = counts.same-unimplemented (d .top) (sound .groups) body new same-length read-only-stay ∙ f .counted;
           fitting = counts.same-fit (d .top) (sound .groups) body new same-length read-only-stay ∙ f .fitting;
         }
@@ -165,7 +165,7 @@ module _ (d : Definition) (sound : SoundDefinition d) (body : List ℕ) (ps : Li
         (subst (λ qs. Pairwise R lower qs) (sym again)
         (after.groups-after (d .top) w raw body (definedPoints d) write (countsOf (d .top) body) tops tops 2 noInstance
         (pointsSize tops) g below (omega arith) (λ _. omega arith) shallow topKnown
-        (λ p i. in-behind p tops (lowerPoints g) i) old now scopes lowerPlaces))
+        (λ p i. in-append-right p tops (lowerPoints g) i) old now scopes lowerPlaces))
 
   -- Those of a model that is read in full.
   full-after : padLeftOut (d .id) (d .top) (length body) ≡ false → Full (d .top) body → After (contentAt (d .top) body)

@@ -13,7 +13,7 @@ use Rattle.listing.specs.Listing.{Record, listed, allRecords, listing}
 use Rattle.listing.specs.Finding.{isRecord, finding, targetOf}
 use Rattle.listing.specs.Finding as Finding
 use Rattle.listing.proofs.WalkSteps.{not-listed}
-use Rattle.listed_records.proofs.WalksBehind.{listed-walks}
+use Rattle.listed_records.proofs.ListingInversion.{listed-walks}
 use Rattle.listing.proofs.ListingCases.{walk-records}
 use Rattle.listed_records.proofs.OneRecord.{own-found}
 use Rattle.writing.specs.Writing.{Answer, refused, writing}
@@ -25,16 +25,16 @@ pub record Missing (catalog map : List ℕ) (index number : ℕ) (path : List �
   pub headers : ℕ
   pub all : allRecords catalog map ≡ listed records headers
   pub none : Each (λ r. isRecord index number path r ≡ false) records
-  pub unlisted : (room : ℕ) (rs : List Record) (n : ℕ) → listing catalog map room ≡ listed rs n
+  pub unlisted : (capacity : ℕ) (rs : List Record) (n : ℕ) → listing catalog map capacity ≡ listed rs n
       → Each (λ r. isRecord index number path r ≡ false) rs
 
 -- What is claimed of 31. A point that listing shows, with any room, is found by its index, number and path, and none else; so it
 -- is never refused so, whatever the raw value. And where a write is refused so, the place is 0 and there is no such point.
-pub record Honest (catalog map : List ℕ) : Type 0 where
-  pub shownIsIt : (room : ℕ) (rs : List Record) (headers : ℕ) → listing catalog map room ≡ listed rs headers
+pub record NoSuchPointExact (catalog map : List ℕ) : Type 0 where
+  pub shownIsIt : (capacity : ℕ) (rs : List Record) (headers : ℕ) → listing catalog map capacity ≡ listed rs headers
       → (r : Record) → In r rs
       → finding catalog map (r .index) (r .point .definition .number) (pathOf (r .point)) ≡ Finding.found r
-  pub shownIsFound : (room : ℕ) (rs : List Record) (headers : ℕ) → listing catalog map room ≡ listed rs headers
+  pub shownIsFound : (capacity : ℕ) (rs : List Record) (headers : ℕ) → listing catalog map capacity ≡ listed rs headers
       → (r : Record) → In r rs → (raw place : ℕ)
       → writing catalog map (r .index) (r .point .definition .number) (pathOf (r .point)) raw ≡ refused 31 place → ⊥
   pub refusedIsMissing : (index number : ℕ) (path : List ℕ) (raw place : ℕ)
@@ -72,9 +72,9 @@ module _ (catalog map : List ℕ) where
           headers = headers;
           all = q;
           none = none;
-          unlisted = λ room ss n e.
+          unlisted = λ capacity ss n e.
               let same : listed rs headers ≡ listed ss n =
-              sym q ∙ walk-records catalog map (listed-walks catalog map room ss n e .0) in
+              sym q ∙ walk-records catalog map (listed-walks catalog map capacity ss n e .0) in
               let records : rs ≡ ss = cc in
               subst (Each (λ r. isRecord index number path r ≡ false)) records none;
         },
@@ -87,15 +87,15 @@ module _ (catalog map : List ℕ) where
       impossible (cc)
 
   -- 31 is honest with every catalog and every map.
-  pub honest : Honest catalog map
-  honest =
+  pub no-such-point-exact : NoSuchPointExact catalog map
+  no-such-point-exact =
       record {
-        shownIsIt = λ room rs headers e r i.
-            let all = walk-records catalog map (listed-walks catalog map room rs headers e .0) in
+        shownIsIt = λ capacity rs headers e r i.
+            let all = walk-records catalog map (listed-walks catalog map capacity rs headers e .0) in
             finding-found catalog map (r .index) (r .point .definition .number) (pathOf (r .point)) all
             (own-found catalog map rs headers all r i);
-        shownIsFound = λ room rs headers e r i raw place.
-            let w = listed-walks catalog map room rs headers e .0 in
+        shownIsFound = λ capacity rs headers e r i raw place.
+            let w = listed-walks catalog map capacity rs headers e .0 in
             let number = r .point .definition .number in
             let path = pathOf (r .point) in
             found-case r raw place (walk-records catalog map w) i (writing catalog map (r .index) number path raw)

@@ -23,7 +23,7 @@ use Rattle.model_definitions.specs.Definitions.{Content}
 use Rattle.model_definitions.specs.Soundness.{SoundPoint, ScaleResolves}
 use Rattle.layout.specs.Points.{ModelPoint, Scope, Instance, statusOf, scaleOf, registersAt, pointAt}
 use Rattle.layout.specs.Paths.{depthIn, agreeTo, pathOf}
-use Rattle.layout.proofs.ReachOnly.{same-status, same-scale, shownAs, shown-same}
+use Rattle.layout.proofs.ScopeOnly.{same-status, same-scale, shownAs, shown-same}
 use Rattle.layout.proofs.Places.{Place}
 use Rattle.layout.proofs.Depths.{levels, agree-itself}
 use Rattle.writing.specs.Writing.{canHold}
@@ -82,7 +82,7 @@ module _ (top : Content) (w : ModelPoint) (raw : ℕ) (body : List ℕ) where
 
   -- The two scopes at a place of the walk, for these points in reach there.
   abbrev pub Scopes : List Point → List ℕ → Scope → Scope → Type 0
-  Scopes reach path s t = (p : Point) → In p reach → t (p .number) ≡ becomes path (p .number) (s (p .number))
+  Scopes visible path s t = (p : Point) → In p visible → t (p .number) ≡ becomes path (p .number) (s (p .number))
 
   module _ (defined : List Point) (x : Write defined w raw body) where
     -- As many registers are written as the point has,
@@ -121,12 +121,12 @@ module _ (top : Content) (w : ModelPoint) (raw : ℕ) (body : List ℕ) where
               stored-outside body (w .offset) values a 0 (⊎-elim (λ b. inl (omega arith)) (λ b. inr b) (away other))
               ∙ sym (becomes-other path (p .number) (getD body a 0) t)
 
-    module _ (s t : Scope) (path : List ℕ) (a : ℕ) (around reach : List Point) (p : Point) (sound : SoundPoint around p)
-        (resolves : ScaleResolves reach p) (reachKnown : (f : Point) → In f reach → In f defined)
-        (scopes : Scopes reach path s t) where
+    module _ (s t : Scope) (path : List ℕ) (a : ℕ) (around visible : List Point) (p : Point) (sound : SoundPoint around p)
+        (resolves : ScaleResolves visible p) (scopeKnown : (f : Point) → In f visible → In f defined)
+        (scopes : Scopes visible path s t) where
       -- The point that gives the scale factor is a sunssf point of the definition.
       factor : p .scaleKind ≡ scaleByPoint → (f : Point) × (In f defined) × (f .number ≡ p .scale) × (f .typeCode ≡ sunssf)
-      factor k = let f = resolves k in (f .0, reachKnown (f .0) (f .1), f .2, f .3)
+      factor k = let f = resolves k in (f .0, scopeKnown (f .0) (f .1), f .2, f .3)
 
       -- Its register after the write.
       scale-register : p .scaleKind ≡ scaleByPoint → t (p .scale) ≡ becomes path (p .scale) (s (p .scale))
@@ -170,10 +170,10 @@ module _ (top : Content) (w : ModelPoint) (raw : ℕ) (body : List ℕ) where
         after = pointAt new (inScope t path) a p
 
         -- A point elsewhere keeps its registers.
-        elsewhere : (a ≡ w .offset → ⊥) → (register : ℕ) → (p .scaleKind ≡ scaleByPoint → t (p .scale) ≡ register)
+        unchanged : (a ≡ w .offset → ⊥) → (register : ℕ) → (p .scaleKind ≡ scaleByPoint → t (p .scale) ≡ register)
             → after ≡ shownAs path a p (join (registersAt body a p)) (shownRaw (registersAt body a p)) register
         unfolding pointAt
-        elsewhere other register same =
+        unchanged other register same =
             ap (λ (rs : List ℕ). shownAs path a p (join rs) (shownRaw rs) (t (p .scale)))
             (part-stays body (w .offset) values fitting a (p .size) (away s path a p place other))
             ∙ shown-same path a p (join (registersAt body a p)) (shownRaw (registersAt body a p)) (t (p .scale)) register same
@@ -186,13 +186,13 @@ module _ (top : Content) (w : ModelPoint) (raw : ℕ) (body : List ℕ) where
             let may = sound .scalable (λ z. let c : _≡_ {A = ℕ} 0 2 = sym z ∙ k in absurd (omega arith)) in
             let four = status.scaled-small (p .typeCode) (p .size) (sound .sized) may in
             let few : length rs ≤ 4 = omega (arith, length-take (p .size) (drop a body)) in
-            elsewhere other raw (λ _. factor-written k e)
+            unchanged other raw (λ _. factor-written k e)
             ∙ ap (λ (x : ℕ). shownAs path a p x (shownRaw rs) raw) (sym (shown rs few))
 
         -- Another point.
         stays : (a ≡ w .offset → ⊥) → (p .scaleKind ≡ scaleByPoint → isWritten path (p .scale) ≡ false) → after ≡ old
         unfolding pointAt
-        stays other unscaled = elsewhere other (s (p .scale)) (λ k. factor-stays k (unscaled k))
+        stays other unscaled = unchanged other (s (p .scale)) (λ k. factor-stays k (unscaled k))
 
         -- The point written is p.
         same-point : a ≡ w .offset → p ≡ w .definition

@@ -23,7 +23,7 @@ use Rattle.listing.specs.Finding.{isRecord}
 use Rattle.listed_records.proofs.RecordSources.{record-source}
 use Rattle.writing.specs.Writing.{written, writing}
 use Rattle.writing.specs.AfterWriting.{isScaleFactorOf, Holds, rescaled, RecordAfter}
-use Rattle.writing.proofs.AfterCases.{after-elsewhere, after-here, after-scaled, after-unscaled}
+use Rattle.writing.proofs.AfterCases.{after-unchanged, after-here, after-scaled, after-unscaled}
 use Rattle.writing.proofs.ReadBack.{read-back, shown-after}
 
 -- A record r has become s by writing a raw value to the point of the record w, in a model with this top group. It keeps its
@@ -33,7 +33,7 @@ pub record Change (top : Content) (w : Record) (raw : ℕ) (r s : Record) : Type
   pub index : s .index ≡ r .index
   pub id : s .id ≡ r .id
   pub address : s .address ≡ r .address
-  pub elsewhere : (r .index ≡ w .index → ⊥) → s ≡ r
+  pub unchanged : (r .index ≡ w .index → ⊥) → s ≡ r
   pub unscaled : (r .address ≡ w .address → ⊥) → isScaleFactorOf top (w .point) (r .point) ≡ false → s ≡ r
   pub scaled : r .index ≡ w .index → (r .address ≡ w .address → ⊥) → isScaleFactorOf top (w .point) (r .point) ≡ true
       → s ≡ record { index = r .index; id = r .id; address = r .address; point = rescaled raw (r .point) }
@@ -52,17 +52,17 @@ pub record OtherRecords (catalog map : List ℕ) (index number : ℕ) (path : Li
   pub top : Content
   pub known : topOf (point .id) (definitions catalog) ≡ some top
   pub changes : Pairwise (Change top point raw) before after
-  pub shown : (room : ℕ) (rs : List Record) (n : ℕ) → listing catalog map room ≡ listed rs n
-      → (rs ≡ before) × (listing catalog new room ≡ listed after n)
+  pub shown : (capacity : ℕ) (rs : List Record) (n : ℕ) → listing catalog map capacity ≡ listed rs n
+      → (rs ≡ before) × (listing catalog new capacity ≡ listed after n)
 
 module _ (catalog map : List ℕ) (rs : List Record) (headers : ℕ) (all : allRecords catalog map ≡ listed rs headers) where
   -- A record's address, by its index and its offset.
   address-of : (r : Record) → In r rs → r .address ≡ 2 + totalSize (take (r .index) (scan map .models)) + 2 + r .point .offset
   address-of r i =
       let o = record-source catalog map rs headers all r i in
-      let front : take (r .index) (scan map .models) ≡ o .front =
-      ap (take (r .index)) (o .stands) ∙ take-at (o .front) (o .own ∷ o .behind) (r .index) (sym (o .index)) in
-      o .address ∙ ap (λ ms. 2 + totalSize ms + 2 + r .point .offset) (sym front)
+      let preceding : take (r .index) (scan map .models) ≡ o .preceding =
+      ap (take (r .index)) (o .splits) ∙ take-at (o .preceding) (o .own ∷ o .following) (r .index) (sym (o .index)) in
+      o .address ∙ ap (λ ms. 2 + totalSize ms + 2 + r .point .offset) (sym preceding)
 
   -- A record's model has a definition.
   top-of : (r : Record) → In r rs → (top : Content) × (topOf (r .id) (definitions catalog) ≡ some top)
@@ -78,7 +78,7 @@ module _ (catalog map : List ℕ) (rs : List Record) (headers : ℕ) (all : allR
           index = a .index;
           id = a .id;
           address = a .address;
-          elsewhere = apart;
+          unchanged = apart;
           unscaled = λ n f. stays (eqb (r .index) (w .index)) refl n f;
           scaled = λ same n t.
               let p = after-scaled ds w raw r s a same top known (λ e. n (same-address same e)) t in
@@ -103,7 +103,7 @@ module _ (catalog map : List ℕ) (rs : List Record) (headers : ℕ) (all : allR
 
         -- A record of another model.
         apart : (r .index ≡ w .index → ⊥) → s ≡ r
-        apart n = after-elsewhere ds w raw r s a n
+        apart n = after-unchanged ds w raw r s a n
 
         -- One whose scale factor is not written, by whether it is of the same model.
         stays : (b : Bool) → eqb (r .index) (w .index) ≡ b → (r .address ≡ w .address → ⊥)
@@ -138,16 +138,16 @@ module _ (catalog map : List ℕ) (index number : ℕ) (path : List ℕ) (raw : 
         known = t .1;
         changes = changes-of catalog map (b .before) (b .headers) (b .allBefore) (b .point) there raw (t .0) (t .1) (b .after)
             (b .pairs);
-        shown = λ room rs n l.
-            let s = shown-after catalog map index number path raw new b room rs n l in (s .0, s .2);
+        shown = λ capacity rs n l.
+            let s = shown-after catalog map index number path raw new b capacity rs n l in (s .0, s .2);
       }
 
   -- So with the records at any one position of the old and the new ones.
   pub change-at : (o : OtherRecords catalog map index number path raw new)
-      → (front : List Record) (r : Record) (behind : List Record) → o .before ≡ front ++ r ∷ behind
-      → (front′ : List Record) (s : Record) (behind′ : List Record) → o .after ≡ front′ ++ s ∷ behind′
-      → length front ≡ length front′ → Change (o .top) (o .point) raw r s
-  change-at o front r behind old front′ s behind′ now level =
+      → (preceding : List Record) (r : Record) (following : List Record) → o .before ≡ preceding ++ r ∷ following
+      → (preceding′ : List Record) (s : Record) (following′ : List Record) → o .after ≡ preceding′ ++ s ∷ following′
+      → length preceding ≡ length preceding′ → Change (o .top) (o .point) raw r s
+  change-at o preceding r following old preceding′ s following′ now level =
       let R = Change (o .top) (o .point) raw in
-      pairwise-at R front front′ r s behind behind′ level
-      (subst (λ xs. Pairwise R xs (front′ ++ s ∷ behind′)) old (subst (Pairwise R (o .before)) now (o .changes)))
+      pairwise-at R preceding preceding′ r s following following′ level
+      (subst (λ xs. Pairwise R xs (preceding′ ++ s ∷ following′)) old (subst (Pairwise R (o .before)) now (o .changes)))

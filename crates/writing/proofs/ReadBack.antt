@@ -14,10 +14,10 @@ use Rattle.registers.specs.Registers.{split}
 use Rattle.registers.proofs.Splitting.{split-length}
 use Rattle.registers.proofs.StoredRegisters.{stored-outside}
 use Rattle.model_definitions.specs.Definitions.{definitions}
-use Rattle.listing.specs.Listing.{Record, listed, allRecords, withRoom, listing}
+use Rattle.listing.specs.Listing.{Record, listed, allRecords, withCapacity, listing}
 use Rattle.listing.specs.Finding.{isRecord, targetOf}
-use Rattle.listing.proofs.ListingCases.{with-room, listing-records, walk-records}
-use Rattle.listed_records.proofs.WalksBehind.{listed-walks}
+use Rattle.listing.proofs.ListingCases.{with-capacity, listing-records, walk-records}
+use Rattle.listed_records.proofs.ListingInversion.{listed-walks}
 use Rattle.writing.specs.Writing.{refusal, rewritten, written, writing}
 use Rattle.writing.specs.AfterWriting.{RecordAfter}
 use Rattle.writing.proofs.WritingCases.{accepted-write}
@@ -101,11 +101,11 @@ module _ (catalog map : List ℕ) (index number : ℕ) (path : List ℕ) (raw : 
 
 -- So with what listing shows, whatever the room: where the old records were shown, the new ones are.
 pub shown-after : (catalog map : List ℕ) (index number : ℕ) (path : List ℕ) (raw : ℕ) (new : List ℕ)
-    → (b : ReadBack catalog map index number path raw new) → (room : ℕ) (rs : List Record) (headers : ℕ)
-    → listing catalog map room ≡ listed rs headers
-    → (rs ≡ b .before) × (headers ≡ b .headers) × (listing catalog new room ≡ listed (b .after) headers)
-shown-after catalog map index number path raw new b room rs headers e =
-    let l = listed-walks catalog map room rs headers e in
+    → (b : ReadBack catalog map index number path raw new) → (capacity : ℕ) (rs : List Record) (headers : ℕ)
+    → listing catalog map capacity ≡ listed rs headers
+    → (rs ≡ b .before) × (headers ≡ b .headers) × (listing catalog new capacity ≡ listed (b .after) headers)
+shown-after catalog map index number path raw new b capacity rs headers e =
+    let l = listed-walks catalog map capacity rs headers e in
     let all = walk-records catalog map (l .0) in
     let before = b .allBefore in
     let same : rs ≡ b .before = cc in
@@ -115,8 +115,8 @@ shown-after catalog map index number path raw new b room rs headers e =
     pairwise-length R (b .before) (b .after) (b .pairs) ∙ ap length (sym same) in (
       same,
       also,
-      listing-records catalog new room
-          ∙ ap (withRoom room) (b .allAfter)
-          ∙ with-room room (b .after) (b .headers) (omega (arith, l .1, count))
+      listing-records catalog new capacity
+          ∙ ap (withCapacity capacity) (b .allAfter)
+          ∙ with-capacity capacity (b .after) (b .headers) (omega (arith, l .1, count))
           ∙ ap (listed (b .after)) (sym also),
     )

@@ -14,10 +14,10 @@ pub next-register : (map : List ℕ) (at size k raw : ℕ) → k + 1 ≤ size
 unfolding split
 next-register map at size k raw h =
     let n = size - (k + 1) in
-    let behind : size - 1 - k ≡ n = omega arith in
+    let following : size - 1 - k ≡ n = omega arith in
     let left : size - k ≡ suc n = omega arith in
     let next : at + (k + 1) ≡ suc (at + k) = omega arith in
-    rw (behind, left, next)
+    rw (following, left, next)
 
 -- None is left.
 pub no-register : (map : List ℕ) (at size k raw : ℕ) → size ≤ k → map ≡ sets map (at + k) (split (size - k) raw)

@@ -12,7 +12,7 @@ use Rattle.layout.specs.Paths.{pathOf}
 use Rattle.listing.specs.Listing.{Record, listed, allRecords, listing}
 use Rattle.listing.specs.Finding.{isRecord, targetOf}
 use Rattle.listing.proofs.ListingCases.{walk-records}
-use Rattle.listed_records.proofs.WalksBehind.{listed-walks}
+use Rattle.listed_records.proofs.ListingInversion.{listed-walks}
 use Rattle.listed_records.proofs.OneRecord.{own-found}
 use Rattle.listed_records.proofs.RawValues.{record-inside, record-raw}
 use Rattle.writing.specs.Writing.{rewritten, written, writing}
@@ -37,12 +37,12 @@ same-value catalog map index number path raw new registers e rs headers all w fo
     (can .small) (sym holds ∙ record-raw catalog map rs headers all w there)
 
 -- So it is with a point that a listing shows, and the raw value that it shows.
-pub same-value-shown : (catalog map : List ℕ) (room : ℕ) (rs : List Record) (headers : ℕ) (new : List ℕ) → AreRegisters map
-    → listing catalog map room ≡ listed rs headers
+pub same-value-shown : (catalog map : List ℕ) (capacity : ℕ) (rs : List Record) (headers : ℕ) (new : List ℕ) → AreRegisters map
+    → listing catalog map capacity ≡ listed rs headers
     → (r : Record) → In r rs
     → writing catalog map (r .index) (r .point .definition .number) (pathOf (r .point)) (r .point .raw) ≡ written new
     → new ≡ map
-same-value-shown catalog map room rs headers new registers e r there q =
-    let all = walk-records catalog map (listed-walks catalog map room rs headers e .0) in
+same-value-shown catalog map capacity rs headers new registers e r there q =
+    let all = walk-records catalog map (listed-walks catalog map capacity rs headers e .0) in
     same-value catalog map (r .index) (r .point .definition .number) (pathOf (r .point)) (r .point .raw) new registers q rs
     headers all r (own-found catalog map rs headers all r there) refl

@@ -17,10 +17,10 @@ use Rattle.register_map.specs.Headers.{opening}
 use Rattle.register_map.specs.Scan.{scanFrom, scan}
 use Rattle.layout.specs.Points.{pointAt}
 use Rattle.layout.specs.Layout.{within, measured, fillMeasured, countUnimplemented, fits, fillOf, pointsAt, instances, groupsBy, entered, contentAt}
-use Rattle.layout.specs.Reading.{endsWithPad, allButLast, laidOut, readBy, topOf, reading}
+use Rattle.layout.specs.Reading.{endsWithPad, allButLast, readFull, readBy, topOf, reading}
 use Rattle.layout.specs.Paths.{depthIn}
 use Rattle.listing.specs.Listing as Listing
-use Rattle.listing.specs.Listing.{Record, recordNumbers, walk, recordsBy, allRecords, withRoom, listing}
+use Rattle.listing.specs.Listing.{Record, recordNumbers, walk, recordsBy, allRecords, withCapacity, listing}
 use Rattle.listing.specs.Finding.{isRecord, finding}
 use Rattle.listed_records.proofs.WorkedCases.{Shown, listed, shown, model, times, point, uint16, scaled, sunssf, end, joined, body, row}
 use Rattle.writing.specs.Writing.{refusal, rewritten, Answer, refused, written, writing}
@@ -69,7 +69,7 @@ rescaledPlant =
 pub factor-written : writing catalog plant 1 7 (instance 1) 0xFFFE ≡ written rescaledPlant
 unfolding checkFrom checked framesFrom frameOf isSizeOf rows rowAmong mayScale registersOf twosComplement join shownRaw tooWide
     integer inRange classOf classified parsed opening scanFrom scan pointAt within measured fillMeasured countUnimplemented
-    fits fillOf pointsAt instances groupsBy entered contentAt endsWithPad allButLast laidOut readBy topOf reading walk recordsBy
+    fits fillOf pointsAt instances groupsBy entered contentAt endsWithPad allButLast readFull readBy topOf reading walk recordsBy
     allRecords firstWith finding split refusal rewritten writing
 factor-written = refl
 
@@ -93,8 +93,8 @@ pub records-changed : map (λ m. shown (listing catalog m 90)) (plant ∷ rescal
     ≡ recordsWith 4 0 5 11 ∷ recordsWith 0 65534 0 65534 ∷ []
 unfolding checkFrom checked framesFrom frameOf isSizeOf rows rowAmong mayScale registersOf twosComplement join shownRaw tooWide
     integer inRange classOf classified parsed opening scanFrom scan pointAt within measured fillMeasured countUnimplemented
-    fits fillOf pointsAt instances groupsBy entered contentAt endsWithPad allButLast laidOut readBy topOf reading recordNumbers
-    walk recordsBy allRecords withRoom listing
+    fits fillOf pointsAt instances groupsBy entered contentAt endsWithPad allButLast readFull readBy topOf reading recordNumbers
+    walk recordsBy allRecords withCapacity listing
 records-changed = refl
 
 -- So says the theorem on all records, for this write.
@@ -116,7 +116,7 @@ pub scaled-by-instance-1 : scaledBy 7 (instance 1) (allRecords catalog plant) (t
     ≡ false ∷ false ∷ false ∷ false ∷ false ∷ false ∷ false ∷ true ∷ false ∷ []
 unfolding checkFrom checked framesFrom frameOf isSizeOf rows rowAmong mayScale registersOf twosComplement join shownRaw tooWide
     integer inRange classOf classified parsed opening scanFrom scan pointAt within measured fillMeasured countUnimplemented
-    fits fillOf pointsAt instances groupsBy entered contentAt endsWithPad allButLast laidOut readBy topOf reading walk recordsBy
+    fits fillOf pointsAt instances groupsBy entered contentAt endsWithPad allButLast readFull readBy topOf reading walk recordsBy
     allRecords firstWith depthIn
 scaled-by-instance-1 = refl
 
@@ -162,6 +162,6 @@ pub worked-writes : map (λ (w : Write). writing catalog plant 1 (w .number) (w 
     ≡ map (λ (w : Write). w .answer) writes
 unfolding writes checkFrom checked framesFrom frameOf isSizeOf rows rowAmong mayScale registersOf twosComplement join shownRaw
     tooWide integer inRange classOf classified parsed opening scanFrom scan pointAt within measured fillMeasured
-    countUnimplemented fits fillOf pointsAt instances groupsBy entered contentAt endsWithPad allButLast laidOut readBy topOf
+    countUnimplemented fits fillOf pointsAt instances groupsBy entered contentAt endsWithPad allButLast readFull readBy topOf
     reading walk recordsBy allRecords firstWith finding split refusal rewritten writing
 worked-writes = refl

@@ -11,15 +11,15 @@ use Rattle.lists.specs.Tests.{firstWith}
 use Rattle.lists.proofs.TestOutcomes.{impossible, by-test}
 use Rattle.values.specs.Classes.{classified, isUnimplementedClass}
 use Rattle.catalog_frames.specs.Frames.{readOnly}
-use Rattle.listing.specs.Listing.{Record, allRecords, withRoom, listing}
+use Rattle.listing.specs.Listing.{Record, allRecords, withCapacity, listing}
 use Rattle.listing.specs.Listing as Listing
 use Rattle.listing.specs.Finding.{isRecord, finding, Target, targetOf}
 use Rattle.listing.specs.Finding as Finding
 use Rattle.listed_records.proofs.RefusalNumbers.{Between, catalog-number, opening-number}
 use Rattle.listing.proofs.WalkSteps.{not-listed}
-use Rattle.listed_records.proofs.WalksBehind.{walk-number}
+use Rattle.listed_records.proofs.ListingInversion.{walk-number}
 use Rattle.listing.proofs.ListingCases as listings
-use Rattle.listing.proofs.ListingCases.{catalogRefused, openingRefused, walkRefused, noRoom, allListed, listing-case, listing-records, walk-records}
+use Rattle.listing.proofs.ListingCases.{catalogRefused, openingRefused, walkRefused, tooShort, allListed, listing-case, listing-records, walk-records}
 use Rattle.writing.specs.Writing.{canHold, refusal, rewritten, Answer, refused, written, writing}
 
 -- An answer by what decides it.
@@ -114,15 +114,15 @@ module _ (catalog map : List ℕ) where
       let b = opening-number map k c in let same : k ≡ n = cc in (omega arith, omega arith)
   number-case {n} answer (walkRefused {n = k} w) q e =
       let b = walk-number catalog map w in let same : k ≡ n = cc in (omega arith, omega arith)
-  number-case {n} answer (noRoom w l) q e = not-listed (sym q ∙ walk-records catalog map w)
+  number-case {n} answer (tooShort w l) q e = not-listed (sym q ∙ walk-records catalog map w)
   number-case {n} answer (allListed w l) q e = not-listed (sym e)
 
   -- has one of the numbers 1 to 29.
   pub records-number : {n place headers : ℕ} → allRecords catalog map ≡ Listing.refused n place headers → Between 1 29 n
-  unfolding withRoom
+  unfolding withCapacity
   records-number e =
       number-case (listing catalog map 0) (listing-case catalog map 0) e
-      (listing-records catalog map 0 ∙ ap (withRoom 0) e)
+      (listing-records catalog map 0 ∙ ap (withCapacity 0) e)
 
 -- A point that is not refused: it may be written, takes up to four registers, is implemented and can hold the raw value.
 pub record Writable (t : Target) (raw : ℕ) : Type 0 where

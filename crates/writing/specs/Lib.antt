@@ -1,4 +1,4 @@
 pub mod Writing
 pub mod AfterWriting
-pub mod Answers
-pub mod Promises
+pub mod CodeTypes
+pub mod InternalContracts

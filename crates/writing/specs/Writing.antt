@@ -55,16 +55,16 @@ writing catalog map index number path raw =
     ]
 
 -- The map behind an answer: a refusal changes nothing.
-abbrev pub mapBehind : Answer → List ℕ → List ℕ
-mapBehind (refused n place) map = map
-mapBehind (written new) map = new
+abbrev pub mapAfter : Answer → List ℕ → List ℕ
+mapAfter (refused n place) map = map
+mapAfter (written new) map = new
 
 -- What is told of an answer: the refusal, or that the point is written.
-pub data Told : Type 0 where
-  refusedTold : ℕ → ℕ → Told
-  writtenTold : Told
+pub data Result : Type 0 where
+  refusedResult : ℕ → ℕ → Result
+  writtenResult : Result
 
 -- The refusal with its place, or that the point is written.
-abbrev pub told : Answer → Told
-told (refused n place) = refusedTold n place
-told (written new) = writtenTold
+abbrev pub result : Answer → Result
+result (refused n place) = refusedResult n place
+result (written new) = writtenResult

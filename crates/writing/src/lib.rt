@@ -16,11 +16,11 @@ ghost use lib.ListN.{length};
 ghost use lib.Seq.{sets};
 ghost use Rattle.registers.specs.Registers.{split};
 ghost use Rattle.values.specs.Classes.{classified, isUnimplementedClass};
-ghost use Rattle.catalog_frames.specs.Forms.{pointForm};
-ghost use Rattle.listing.specs.Answers.{targetForm};
+ghost use Rattle.catalog_frames.specs.CodeTypes.{toSpecPoint};
+ghost use Rattle.listing.specs.CodeTypes.{toSpecTarget};
 ghost use Rattle.writing.specs.Writing as Writings;
-ghost use Rattle.writing.specs.Answers.{answer};
-ghost use Rattle.writing.specs.Promises.{refusalForm};
+ghost use Rattle.writing.specs.CodeTypes.{toSpecWritten};
+ghost use Rattle.writing.specs.InternalContracts.{toSpecVerdict};
 
 // What `write` answers: that the point is written, or the number of a refusal and its place.
 pub enum Written {
@@ -45,8 +45,8 @@ pub fn write(
     path: InstancePath,
     raw: u64,
 ) -> Written
-    ensures { λ r. ⌜ answer r ≡ Writings.told (Writings.writing (now (catalog .entry)) (now (map .entry)) model point (path .instances) raw) ⌝ }
-    ensures { λ _. ⌜ now (map .exit) ≡ Writings.mapBehind (Writings.writing (now (catalog .entry)) (now (map .entry)) model point (path .instances) raw) (now (map .entry)) ⌝ }
+    ensures { λ r. ⌜ toSpecWritten r ≡ Writings.result (Writings.writing (now (catalog .entry)) (now (map .entry)) model point (path .instances) raw) ⌝ }
+    ensures { λ _. ⌜ now (map .exit) ≡ Writings.mapAfter (Writings.writing (now (catalog .entry)) (now (map .entry)) model point (path .instances) raw) (now (map .entry)) ⌝ }
 {
     let finding = find(catalog, map, model, point, path);
     match finding {
@@ -62,8 +62,8 @@ pub fn write(
 // Writes a raw value to a point that was found.
 fn write_to(map: &mut [u16], target: Target, raw: u64) -> Written
     requires { ⌜ target .address + target .point .size ≤ length (now map) ⌝ }
-    ensures { λ r. ⌜ answer r ≡ Writings.told (Writings.writingTo (targetForm target) raw (now (map .entry))) ⌝ }
-    ensures { λ _. ⌜ now (map .exit) ≡ Writings.mapBehind (Writings.writingTo (targetForm target) raw (now (map .entry))) (now (map .entry)) ⌝ }
+    ensures { λ r. ⌜ toSpecWritten r ≡ Writings.result (Writings.writingTo (toSpecTarget target) raw (now (map .entry))) ⌝ }
+    ensures { λ _. ⌜ now (map .exit) ≡ Writings.mapAfter (Writings.writingTo (toSpecTarget target) raw (now (map .entry))) (now (map .entry)) ⌝ }
 {
     let verdict = judge(target, raw);
     match verdict {
@@ -77,7 +77,7 @@ fn write_to(map: &mut [u16], target: Target, raw: u64) -> Written
 
 // 32 to 35, in order. What 32 and 34 ask is at hand before the first test, so that the order is that of the tests alone.
 fn judge(target: Target, raw: u64) -> Verdict
-    ensures { λ r. ⌜ refusalForm r ≡ Writings.refusal (targetForm target) raw ⌝ }
+    ensures { λ r. ⌜ toSpecVerdict r ≡ Writings.refusal (toSpecTarget target) raw ⌝ }
 {
     let point = target.point;
     let read_only = point.access == READ_ONLY;
@@ -115,7 +115,7 @@ fn is_unimplemented(type_code: u16, raw: u64) -> bool
 
 // Can a point hold a raw value? A string is as wide as its registers, and not as its type at its longest.
 fn can_hold(point: Point, raw: u64) -> bool
-    ensures { λ r. ⌜ r ≡ Writings.canHold (pointForm point) raw ⌝ }
+    ensures { λ r. ⌜ r ≡ Writings.canHold (toSpecPoint point) raw ⌝ }
 {
     is_value(point.type_code, raw) && !too_wide(point.size, raw)
 }
@@ -133,20 +133,20 @@ fn put_registers(map: &mut [u16], address: usize, size: usize, raw: u64)
 }
 
 // The register of a raw value that has so many behind it.
-fn register_of(raw: u64, behind: usize) -> u16
-    requires { ⌜ behind ≤ 3 ⌝ }
-    ensures { λ r. ⌜ r ≡ raw / 65536 ^ behind % 65536 ⌝ }
+fn register_of(raw: u64, lower: usize) -> u16
+    requires { ⌜ lower ≤ 3 ⌝ }
+    ensures { λ r. ⌜ r ≡ raw / 65536 ^ lower % 65536 ⌝ }
 {
-    (raw / power(behind) % 0x10000) as u16
+    (raw / power(lower) % 0x10000) as u16
 }
 
 // The weight of a register that has so many behind it: 65536 to that power.
-fn power(behind: usize) -> u64
-    requires { ⌜ behind ≤ 3 ⌝ }
-    ensures { λ r. ⌜ r ≡ 65536 ^ behind ⌝ }
+fn power(lower: usize) -> u64
+    requires { ⌜ lower ≤ 3 ⌝ }
+    ensures { λ r. ⌜ r ≡ 65536 ^ lower ⌝ }
     ensures { λ r. ⌜ 1 ≤ r ⌝ }
 {
-    match behind {
+    match lower {
         0 => 1,
         1 => 0x10000,
         2 => 0x100000000,

@@ -4,7 +4,7 @@ use Prim.Native.Nat.{_-_, _≤_}
 use native.Mathlib.Omega.{arith}
 use borrow.Author.Tests.{ne-eqb}
 use Rattle.catalog.specs.State.{start}
-use Rattle.frame_rules.specs.FrameTests.{faultForm}
+use Rattle.frame_rules.specs.FrameTests.{toSpecFault}
 use Rattle.catalog.proofs.CheckSteps.{from-first}
 use Rattle.catalog.proofs.CheckedFrame as frame
 use Rattle.catalog.proofs.FreshNumbers.{fresh-start}
@@ -36,7 +36,7 @@ returns : tie.Need-returns Inv-loop μ-loop
 returns c =
     let l = c .before .before .before .before .before .before .loop in
     let fault = c .before .fault-at in
-    let broken = rw (ne-eqb (fault .result) 0 (c .if1 .taken), faultForm) at (fault .ensures .0) in
+    let broken = rw (ne-eqb (fault .result) 0 (c .if1 .taken), toSpecFault) at (fault .ensures .0) in
     frame.refused-here _ _ _ _ _ (l .i) (l .state) (l .inv .1) (fault .ensures .1) (omega arith) _ broken
 
 innermost-requires : tie.Need-innermost-requires Inv-loop μ-loop
@@ -46,7 +46,7 @@ begin-model-requires : tie.Need-begin-model-requires Inv-loop μ-loop
 begin-model-requires c κs =
     let l = c .before .before .before .before .before .before .before .before .before .before .loop in
     let fault = c .before .before .before .before .before .fault-at .ensures in
-    let unbroken = sym (ap faultForm (c .before .before .before .before .if1 .left)) ∙ fault .0 in
+    let unbroken = sym (ap toSpecFault (c .before .before .before .before .if1 .left)) ∙ fault .0 in
     let within = l .inv .1 .decides .tracks .within in
     let inside = within .passed (l .state .depth - 1) in
     let blank = frame.blank-here _ _ _ _ _ (l .i) (l .state) (l .inv .1) (fault .1) (omega arith) unbroken in
@@ -59,9 +59,9 @@ after-requires c κs =
     let c15 = c10 .before .before .before .before .before in
     let l = c15 .loop in
     let fault = c10 .fault-at .ensures in
-    let unbroken = sym (ap faultForm (c5 .before .before .before .before .if1 .left)) ∙ fault .0 in
-    let room = frame.room-here _ _ _ _ _ (l .i) (l .state) (l .inv .1) (fault .1) (omega arith) unbroken in
-    ((search needs, search needs, l .inv .1 .decides .tracks .within .few), room)
+    let unbroken = sym (ap toSpecFault (c5 .before .before .before .before .if1 .left)) ∙ fault .0 in
+    let capacity = frame.capacity-here _ _ _ _ _ (l .i) (l .state) (l .inv .1) (fault .1) (omega arith) unbroken in
+    ((search needs, search needs, l .inv .1 .decides .tracks .within .few), capacity)
 
 add-i : tie.Need-add-i Inv-loop μ-loop
 add-i c =
@@ -78,11 +78,11 @@ loop-again c =
     let l = c15 .before .loop in
     let before-end = c15 .loop-test .taken in
     let fault = c10 .before .fault-at .ensures in
-    let unbroken = sym (ap faultForm (c10 .if1 .left)) ∙ fault .0 in
+    let unbroken = sym (ap toSpecFault (c10 .if1 .left)) ∙ fault .0 in
     let numbers = c .before .before .before .mark-number .ensures in
-    let begun = c5 .begin-model .ensures in
+    let presentWithin = c5 .begin-model .ensures in
     let on = frame.holds-on _ _ _ _ _ (l .i) (l .state) (l .inv .1) (fault .1) (omega arith) unbroken _ _ _ _ _ _ _
-    (c5 .before .before .before .before .innermost .ensures) begun numbers (c .before .mark-scales .ensures) in
+    (c5 .before .before .before .before .innermost .ensures) presentWithin numbers (c .before .mark-scales .ensures) in
     (omega arith, rw (c .after .ensures) on)
 
 returns-2 : tie.Need-returns-2 Inv-loop μ-loop

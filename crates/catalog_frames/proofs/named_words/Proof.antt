@@ -2,7 +2,7 @@
 use mathlib.Core.Path.{refl}
 use native.Mathlib.Omega.{arith}
 use borrow.Author.Tests.{ne-eqb}
-use Rattle.catalog_frames.specs.Words.{namedWords}
+use Rattle.catalog_frames.specs.InternalWords.{namedWords}
 use Rattle.catalog_frames.proofs.named_words.Statement.{statement}
 use Rattle.catalog_frames.proofs.named_words.Tie as tie
 

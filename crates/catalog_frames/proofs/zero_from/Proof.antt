@@ -2,7 +2,7 @@
 use mathlib.Core.Path.{_≡_, refl, sym, _∙_}
 use Prim.Native.Nat.{_-_, _+_, _≤_}
 use native.Mathlib.Omega.{arith}
-use Rattle.catalog_frames.specs.Words.{zeroWords}
+use Rattle.catalog_frames.specs.InternalWords.{zeroWords}
 use Rattle.catalog_frames.proofs.ZeroWords as laws
 use borrow.Author.Needs.{needs}
 use Rattle.catalog_frames.proofs.zero_from.Statement.{statement}

@@ -1,7 +1,7 @@
 -- `frame_rules::is_size_of` meets its contract: the registers of the type are the table's.
 use mathlib.Core.Path.{sym, ap, _∙_}
 use borrow.Author.Tests.{lt-leb, le-leb}
-use Rattle.point_types.specs.Answers.{countAnswer}
+use Rattle.point_types.specs.CodeTypes.{toSpecCount}
 use Rattle.frame_rules.specs.FrameTests.{isSizeOf}
 use borrow.Author.Needs.{needs}
 use Rattle.frame_rules.proofs.is_size_of.Statement.{statement}
@@ -12,7 +12,7 @@ unfolding isSizeOf
 returns c =
     simp (
       isSizeOf,
-      sym (c .before .before .before .before .register-count .ensures) ∙ ap countAnswer (c .before .before .count .given .1),
+      sym (c .before .before .before .before .register-count .ensures) ∙ ap toSpecCount (c .before .before .count .given .1),
       lt-leb _ _ (c .if1 .taken),
     )
 
@@ -24,13 +24,13 @@ unfolding isSizeOf
 returns-2 c =
     simp (
       isSizeOf,
-      sym (c .before .before .before .before .register-count .ensures) ∙ ap countAnswer (c .before .before .count .given .1),
+      sym (c .before .before .before .before .register-count .ensures) ∙ ap toSpecCount (c .before .before .count .given .1),
       le-leb _ _ (c .if1 .left),
     )
 
 returns-3 : tie.Need-returns-3
 unfolding isSizeOf
-returns-3 c = simp (isSizeOf, sym (c .before .before .register-count .ensures) ∙ ap countAnswer (c .enum-told .given .1))
+returns-3 c = simp (isSizeOf, sym (c .before .before .register-count .ensures) ∙ ap toSpecCount (c .enum-told .given .1))
 
 pub is-size-of-spec : {M : Type 1} → statement M
 is-size-of-spec =

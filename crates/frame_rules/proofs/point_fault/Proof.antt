@@ -7,7 +7,7 @@ use borrow.Author.Needs.{needs}
 use Rattle.lists.specs.Tests.{oneHolds}
 use Rattle.lists.proofs.TestLaws.{none-broken}
 use Rattle.number_sets.specs.NumberSets.{inSet}
-use Rattle.catalog_frames.specs.Forms.{pointForm}
+use Rattle.catalog_frames.specs.CodeTypes.{toSpecPoint}
 use Rattle.frame_rules.specs.FrameTests.{pointTests, scaleTests}
 use Rattle.lists.proofs.FirstBroken.{first-at}
 use Rattle.frame_rules.proofs.point_fault.Statement.{statement}
@@ -16,65 +16,65 @@ use Rattle.frame_rules.proofs.point_fault.Tie as tie
 returns : tie.Need-returns
 returns c =
     let a = c .before .args in
-    let p = pointForm (a .point) in
-    let misscaled = oneHolds (scaleTests (inSet (a .scales .now) (p .scale)) p) in
-    let tests = pointTests (a .depth) (a .has-group) (inSet (a .numbers .now) (p .number)) misscaled p in
-    let misplaced : eqb (a .depth) 0 || a .has-group ≡ true = rw (eq-eqb (a .depth) 0 (c .if1 .taken)) in
-    first-at tests 0 4 (misplaced, refl)
+    let p = toSpecPoint (a .point) in
+    let badScale = oneHolds (scaleTests (inSet (a .scales .now) (p .scale)) p) in
+    let tests = pointTests (a .depth) (a .has-group) (inSet (a .numbers .now) (p .number)) badScale p in
+    let badPlace : eqb (a .depth) 0 || a .has-group ≡ true = rw (eq-eqb (a .depth) 0 (c .if1 .taken)) in
+    first-at tests 0 4 (badPlace, refl)
 
 returns-2 : tie.Need-returns-2
 returns-2 c =
     let a = c .before .before .args in
-    let p = pointForm (a .point) in
-    let misscaled = oneHolds (scaleTests (inSet (a .scales .now) (p .scale)) p) in
-    let tests = pointTests (a .depth) (a .has-group) (inSet (a .numbers .now) (p .number)) misscaled p in
-    let misplaced : eqb (a .depth) 0 || a .has-group ≡ true = rw (ne-eqb (a .depth) 0 (c .before .if1 .left), c .if2 .taken) in
-    first-at tests 0 4 (misplaced, refl)
+    let p = toSpecPoint (a .point) in
+    let badScale = oneHolds (scaleTests (inSet (a .scales .now) (p .scale)) p) in
+    let tests = pointTests (a .depth) (a .has-group) (inSet (a .numbers .now) (p .number)) badScale p in
+    let badPlace : eqb (a .depth) 0 || a .has-group ≡ true = rw (ne-eqb (a .depth) 0 (c .before .if1 .left), c .if2 .taken) in
+    first-at tests 0 4 (badPlace, refl)
 
 returns-3 : tie.Need-returns-3
 returns-3 c =
     let a = c .before .before .before .before .args in
-    let p = pointForm (a .point) in
-    let misscaled = oneHolds (scaleTests (inSet (a .scales .now) (p .scale)) p) in
-    let tests = pointTests (a .depth) (a .has-group) (inSet (a .numbers .now) (p .number)) misscaled p in
-    let misplaced : eqb (a .depth) 0 || a .has-group ≡ false = rw (ne-eqb (a .depth) 0 (c .before .before .before .if1 .left), c .before .before .if2 .left) in
-    let numbered = sym (c .before .is-misnumbered .ensures) ∙ c .if3 .taken in
-    first-at tests 1 6 (misplaced, (numbered, refl))
+    let p = toSpecPoint (a .point) in
+    let badScale = oneHolds (scaleTests (inSet (a .scales .now) (p .scale)) p) in
+    let tests = pointTests (a .depth) (a .has-group) (inSet (a .numbers .now) (p .number)) badScale p in
+    let badPlace : eqb (a .depth) 0 || a .has-group ≡ false = rw (ne-eqb (a .depth) 0 (c .before .before .before .if1 .left), c .before .before .if2 .left) in
+    let numbered = sym (c .before .has-bad-number .ensures) ∙ c .if3 .taken in
+    first-at tests 1 6 (badPlace, (numbered, refl))
 
 returns-4 : tie.Need-returns-4
 returns-4 c =
     let a = c .before .before .before .before .before .before .args in
-    let p = pointForm (a .point) in
-    let misscaled = oneHolds (scaleTests (inSet (a .scales .now) (p .scale)) p) in
-    let tests = pointTests (a .depth) (a .has-group) (inSet (a .numbers .now) (p .number)) misscaled p in
-    let misplaced : eqb (a .depth) 0 || a .has-group ≡ false = rw (ne-eqb (a .depth) 0 (c .before .before .before .before .before .if1 .left), c .before .before .before .before .if2 .left) in
-    let numbered = sym (c .before .before .before .is-misnumbered .ensures) ∙ c .before .before .if3 .left in
-    let typed = sym (c .before .is-mistyped .ensures) ∙ c .if4 .taken in
-    first-at tests 2 7 (misplaced, (numbered, (typed, refl)))
+    let p = toSpecPoint (a .point) in
+    let badScale = oneHolds (scaleTests (inSet (a .scales .now) (p .scale)) p) in
+    let tests = pointTests (a .depth) (a .has-group) (inSet (a .numbers .now) (p .number)) badScale p in
+    let badPlace : eqb (a .depth) 0 || a .has-group ≡ false = rw (ne-eqb (a .depth) 0 (c .before .before .before .before .before .if1 .left), c .before .before .before .before .if2 .left) in
+    let numbered = sym (c .before .before .before .has-bad-number .ensures) ∙ c .before .before .if3 .left in
+    let typed = sym (c .before .has-bad-type .ensures) ∙ c .if4 .taken in
+    first-at tests 2 7 (badPlace, (numbered, (typed, refl)))
 
 returns-5 : tie.Need-returns-5
 returns-5 c =
     let a = c .before .before .before .before .before .before .before .before .args in
-    let p = pointForm (a .point) in
-    let misscaled = oneHolds (scaleTests (inSet (a .scales .now) (p .scale)) p) in
-    let tests = pointTests (a .depth) (a .has-group) (inSet (a .numbers .now) (p .number)) misscaled p in
-    let misplaced : eqb (a .depth) 0 || a .has-group ≡ false = rw (ne-eqb (a .depth) 0 (c .before .before .before .before .before .before .before .if1 .left), c .before .before .before .before .before .before .if2 .left) in
-    let numbered = sym (c .before .before .before .before .before .is-misnumbered .ensures) ∙ c .before .before .before .before .if3 .left in
-    let typed = sym (c .before .before .before .is-mistyped .ensures) ∙ c .before .before .if4 .left in
-    let scaled = sym (c .before .is-misscaled .ensures) ∙ c .if5 .taken in
-    first-at tests 3 8 (misplaced, (numbered, (typed, (scaled, refl))))
+    let p = toSpecPoint (a .point) in
+    let badScale = oneHolds (scaleTests (inSet (a .scales .now) (p .scale)) p) in
+    let tests = pointTests (a .depth) (a .has-group) (inSet (a .numbers .now) (p .number)) badScale p in
+    let badPlace : eqb (a .depth) 0 || a .has-group ≡ false = rw (ne-eqb (a .depth) 0 (c .before .before .before .before .before .before .before .if1 .left), c .before .before .before .before .before .before .if2 .left) in
+    let numbered = sym (c .before .before .before .before .before .has-bad-number .ensures) ∙ c .before .before .before .before .if3 .left in
+    let typed = sym (c .before .before .before .has-bad-type .ensures) ∙ c .before .before .if4 .left in
+    let scaled = sym (c .before .has-bad-scale .ensures) ∙ c .if5 .taken in
+    first-at tests 3 8 (badPlace, (numbered, (typed, (scaled, refl))))
 
 returns-6 : tie.Need-returns-6
 returns-6 c =
     let a = c .before .before .before .before .before .before .before .before .args in
-    let p = pointForm (a .point) in
-    let misscaled = oneHolds (scaleTests (inSet (a .scales .now) (p .scale)) p) in
-    let tests = pointTests (a .depth) (a .has-group) (inSet (a .numbers .now) (p .number)) misscaled p in
-    let misplaced : eqb (a .depth) 0 || a .has-group ≡ false = rw (ne-eqb (a .depth) 0 (c .before .before .before .before .before .before .before .if1 .left), c .before .before .before .before .before .before .if2 .left) in
-    let numbered = sym (c .before .before .before .before .before .is-misnumbered .ensures) ∙ c .before .before .before .before .if3 .left in
-    let typed = sym (c .before .before .before .is-mistyped .ensures) ∙ c .before .before .if4 .left in
-    let scaled = sym (c .before .is-misscaled .ensures) ∙ c .if5 .left in
-    sym (none-broken tests .1 (misplaced, (numbered, (typed, (scaled, tt)))))
+    let p = toSpecPoint (a .point) in
+    let badScale = oneHolds (scaleTests (inSet (a .scales .now) (p .scale)) p) in
+    let tests = pointTests (a .depth) (a .has-group) (inSet (a .numbers .now) (p .number)) badScale p in
+    let badPlace : eqb (a .depth) 0 || a .has-group ≡ false = rw (ne-eqb (a .depth) 0 (c .before .before .before .before .before .before .before .if1 .left), c .before .before .before .before .before .before .if2 .left) in
+    let numbered = sym (c .before .before .before .before .before .has-bad-number .ensures) ∙ c .before .before .before .before .if3 .left in
+    let typed = sym (c .before .before .before .has-bad-type .ensures) ∙ c .before .before .if4 .left in
+    let scaled = sym (c .before .has-bad-scale .ensures) ∙ c .if5 .left in
+    sym (none-broken tests .1 (badPlace, (numbered, (typed, (scaled, tt)))))
 
 pub point-fault-spec : {M : Type 1} → statement M
 point-fault-spec =

@@ -6,7 +6,7 @@ use borrow.Author.Needs.{needs}
 use lib.ListN.{length}
 use lib.Seq.{length-sets}
 use Rattle.input.specs.Parsing.{withFrame}
-use Rattle.input.proofs.ParsedLists.{refusal-told, catalog-kept, map-kept, catalog-count, map-count, counted, catalog-stored, map-stored}
+use Rattle.input.proofs.ParsedLists.{refusal-result, catalog-kept, map-kept, catalog-count, map-count, counted, catalog-stored, map-stored}
 use Rattle.input.proofs.parse.Statement.{statement}
 use Rattle.input.proofs.parse.Tie as tie
 
@@ -49,7 +49,7 @@ returns : tie.Need-returns
 returns c =
     let a = c .before .before .before .before .before .before .before .args in
     let e = (rw (c .before .found .given .1) at (c .before .before .before .survey-catalog .ensures)) (length (a .map .now)) in
-    (refusal-told e, (catalog-kept e (a .catalog .now), (map-kept e (a .map .now), tt)))
+    (refusal-result e, (catalog-kept e (a .catalog .now), (map-kept e (a .map .now), tt)))
 
 returns-2 : tie.Need-returns-2
 returns-2 c =
@@ -57,7 +57,7 @@ returns-2 c =
     let f = rw (c .before .before .before .before .before .found2 .given .1) at (c .before .before .before .before .before .before .before .survey-catalog .ensures) in
     let g = rw (c .before .rest .given .1) at (c .before .before .before .survey-map .ensures) in
     let e = f .0 .rest (length (a .map .now)) ∙ ap (withFrame (f .0 .catalog)) g in
-    (refusal-told e, (catalog-kept e (a .catalog .now), (map-kept e (a .map .now), tt)))
+    (refusal-result e, (catalog-kept e (a .catalog .now), (map-kept e (a .map .now), tt)))
 
 returns-3 : tie.Need-returns-3
 returns-3 c =

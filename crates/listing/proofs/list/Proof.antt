@@ -6,26 +6,26 @@ use native.Mathlib.Omega.{arith}
 use lib.ListN.{length, length-replicate}
 use Rattle.model_definitions.specs.Definitions.{definitions}
 use Rattle.layout.specs.Reading.{reading}
-use Rattle.listing.specs.Listing.{walked, allRecords, listedTold, told, stored, recordWidth}
-use Rattle.listing.specs.Promises.{WalkFits}
-use Rattle.listing.specs.Answers.{answer}
+use Rattle.listing.specs.Listing.{walked, allRecords, listedResult, result, stored, recordWidth}
+use Rattle.listing.specs.InternalContracts.{WalkFits}
+use Rattle.listing.specs.CodeTypes.{toSpecListing}
 use Rattle.listing.proofs.ListingCases.{Walks, records-walk, listing-records}
-use Rattle.listing.proofs.ToldAnswers.{told-listed}
-use Rattle.listing.proofs.WholeAnswer.{answered-by, no-room, has-room, before-room}
+use Rattle.listing.proofs.ResultCases.{result-listed}
+use Rattle.listing.proofs.WholeAnswer.{answered-by, too-short, has-capacity, before-capacity}
 use Rattle.listing.proofs.list.Statement.{statement}
 use Rattle.listing.proofs.list.Tie as tie
 use borrow.Author.Needs.{needs}
 
 -- A survey that counts points comes from a walk, whose records fit a list with room for as many.
-survey-walk : (catalog registers out : List ℕ) (points headers : ℕ) → listedTold points headers ≡ told (allRecords catalog registers)
+survey-walk : (catalog registers out : List ℕ) (points headers : ℕ) → listedResult points headers ≡ result (allRecords catalog registers)
     → points ≤ length out / recordWidth
     → (Walks catalog registers (allRecords catalog registers))
     × (WalkFits (walked (reading (definitions catalog)) registers) out)
     × (walked (reading (definitions catalog)) registers ≡ allRecords catalog registers)
-survey-walk catalog registers out points headers e room =
-    let r = told-listed (allRecords catalog registers) points headers e in
+survey-walk catalog registers out points headers e capacity =
+    let r = result-listed (allRecords catalog registers) points headers e in
     let w = subst (Walks catalog registers) (sym (r .is)) (records-walk catalog registers (r .is)) in
-    let fits = has-room out (allRecords catalog registers) points headers e room .0 in
+    let fits = has-capacity out (allRecords catalog registers) points headers e capacity .0 in
     (w, subst (λ a. WalkFits a out) (sym (w .walks)) fits, w .walks)
 
 slice-aggregate-survey-plant : tie.Need-slice-aggregate-survey-plant
@@ -38,8 +38,8 @@ returns c =
     let out = v .out .now in
     let a = allRecords (v .catalog .now) (v .map .now) in
     let g = c .before .before .before .survey .given in
-    let e = sym (ap answer (g .1)) ∙ m .survey-plant .ensures .0 in
-    let n = no-room out a (g .0 .0) (g .0 .1 .0) e (omega arith) in
+    let e = sym (ap toSpecListing (g .1)) ∙ m .survey-plant .ensures .0 in
+    let n = too-short out a (g .0 .0) (g .0 .1 .0) e (omega arith) in
     answered-by out (listing-records (v .catalog .now) (v .map .now) (length out)) (c .refused .ensures ∙ n .0, n .1)
 
 put-map-requires : tie.Need-put-map-requires
@@ -47,7 +47,7 @@ put-map-requires c κs =
     let m = c .before .before .before .before .before .before .before in
     let v = c .before .before .before .before .before .before .before .before .before .before .before .before .args in
     let g = c .before .before .before .before .survey .given in
-    let e = sym (ap answer (g .1)) ∙ m .survey-plant .ensures .0 in
+    let e = sym (ap toSpecListing (g .1)) ∙ m .survey-plant .ensures .0 in
     let w = survey-walk (v .catalog .now) (v .map .now) (v .out .now) (g .0 .0) (g .0 .1 .0) e (omega arith) in
     ((w .0 .models, w .0 .accepted), (w .0 .opens, (m .survey-plant .ensures .1, w .1)))
 
@@ -58,10 +58,10 @@ returns-2 c =
     let out = v .out .now in
     let a = allRecords (v .catalog .now) (v .map .now) in
     let g = c .before .before .before .before .before .before .before .before .survey .given in
-    let e = sym (ap answer (g .1)) ∙ m .survey-plant .ensures .0 in
-    let room = has-room out a (g .0 .0) (g .0 .1 .0) e (omega arith) in
+    let e = sym (ap toSpecListing (g .1)) ∙ m .survey-plant .ensures .0 in
+    let capacity = has-capacity out a (g .0 .0) (g .0 .1 .0) e (omega arith) in
     let w = survey-walk (v .catalog .now) (v .map .now) out (g .0 .0) (g .0 .1 .0) e (omega arith) in
-    answered-by out (listing-records (v .catalog .now) (v .map .now) (length out) ∙ room .1)
+    answered-by out (listing-records (v .catalog .now) (v .map .now) (length out) ∙ capacity .1)
     (e, c .before .before .before .put-map .ensures ∙ ap (λ x. stored x out) (w .2))
 
 returns-3 : tie.Need-returns-3
@@ -71,8 +71,8 @@ returns-3 c =
     let out = v .out .now in
     let a = allRecords (v .catalog .now) (v .map .now) in
     let g = c .before .before .survey2 .given in
-    let e = sym (ap answer (g .1)) ∙ m .survey-plant .ensures .0 in
-    let n = before-room out a (g .0 .0) (g .0 .1 .0) (g .0 .1 .1 .0) e in
+    let e = sym (ap toSpecListing (g .1)) ∙ m .survey-plant .ensures .0 in
+    let n = before-capacity out a (g .0 .0) (g .0 .1 .0) (g .0 .1 .1 .0) e in
     answered-by out (listing-records (v .catalog .now) (v .map .now) (length out)) (c .refused2 .ensures ∙ n .0, n .1)
 
 pub list-spec : {M : Type 1} → statement M

@@ -8,10 +8,10 @@ use lib.ListN.{length, take, drop, length-drop}
 use lib.Seq.{length-take-le}
 use Rattle.layout.specs.Points.{ModelPoint}
 use Rattle.layout.specs.Reading.{Reading}
-use Rattle.layout.specs.Walks.{pointsOf, readIn}
+use Rattle.layout.specs.InternalWalks.{pointsOf, readIn}
 use Rattle.listing.specs.Listing.{recordWidth}
-use Rattle.listing.specs.Answers.{surveyForm}
-use Rattle.listing.specs.Promises.{ReadyBy, written}
+use Rattle.listing.specs.CodeTypes.{toSpecSurvey}
+use Rattle.listing.specs.InternalContracts.{ReadyBy, written}
 use Rattle.listing.proofs.MapSurvey.{no-points-unknown, no-points-refused, has-points}
 use Rattle.listing.proofs.MapRecords.{nothing-written}
 use Rattle.listing.proofs.put_known.Statement.{statement}
@@ -45,11 +45,11 @@ put-model-requires c κs =
     let part = m .before .before .part in
     let Ready = ReadyBy (v .catalog .now) (v .visit .id) (part .result .now) (m .survey-model .last .1 .0) in
     let ready = subst Ready (c .before .before .before .survey .given .1) (m .survey-model .ensures .1 .0) in
-    let Room : List ModelPoint → Type 0 = λ ps. recordWidth * (v .records + length ps) ≤ length (v .out .now) in
-    let room = subst Room (ap (λ b. pointsOf (read s b)) (sym (part .ensures))) (s .pre .1 .1 .1) in
+    let Capacity : List ModelPoint → Type 0 = λ ps. recordWidth * (v .records + length ps) ≤ length (v .out .now) in
+    let capacity = subst Capacity (ap (λ b. pointsOf (read s b)) (sym (part .ensures))) (s .pre .1 .1 .1) in
     let has = has-points (read s (part .result .now))
-    (sym (ap surveyForm (c .before .before .before .survey .given .1)) ∙ m .survey-model .ensures .0) in
-    (s .pre .0, (ready, (has, ((omega (arith, ap length (part .ensures), long s, s .pre .1 .1 .0 .1), omega arith), room))))
+    (sym (ap toSpecSurvey (c .before .before .before .survey .given .1)) ∙ m .survey-model .ensures .0) in
+    (s .pre .0, (ready, (has, ((omega (arith, ap length (part .ensures), long s, s .pre .1 .1 .0 .1), omega arith), capacity))))
 
 returns : tie.Need-returns
 returns c =
@@ -57,7 +57,7 @@ returns c =
     let s = m .before .before .before .before .before .before .before .before in
     let v = s .args in
     let part = m .before .before .part in
-    let seen = sym (ap surveyForm (c .enum-told .given .1)) ∙ m .survey-model .ensures .0 in
+    let seen = sym (ap toSpecSurvey (c .enum-told .given .1)) ∙ m .survey-model .ensures .0 in
     let none = ap (λ b. pointsOf (read s b)) (sym (part .ensures)) ∙ no-points-unknown (read s (part .result .now)) seen in
     let w = nothing-written (v .visit) (v .records) (pointsOf (read s (take (v .length) (registers s)))) (v .out .now) none in
     (w .0, (w .1, m .survey-model .ensures .1 .1))
@@ -68,7 +68,7 @@ returns-2 c =
     let s = m .before .before .before .before .before .before .before .before in
     let v = s .args in
     let part = m .before .before .part in
-    let seen = sym (ap surveyForm (c .enum-told2 .given .1)) ∙ m .survey-model .ensures .0 in
+    let seen = sym (ap toSpecSurvey (c .enum-told2 .given .1)) ∙ m .survey-model .ensures .0 in
     let none = ap (λ b. pointsOf (read s b)) (sym (part .ensures)) ∙ no-points-refused (read s (part .result .now)) seen in
     let w = nothing-written (v .visit) (v .records) (pointsOf (read s (take (v .length) (registers s)))) (v .out .now) none in
     (w .0, (w .1, m .survey-model .ensures .1 .1))

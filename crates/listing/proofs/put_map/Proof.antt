@@ -6,11 +6,11 @@ use native.Mathlib.Omega.{arith}
 use lib.Dec.{eqb}
 use lib.ListN.{length}
 use Rattle.model_definitions.specs.Definitions.{definitions}
-use Rattle.register_map.specs.Answers.{headerForm}
+use Rattle.register_map.specs.CodeTypes.{toSpecHeader}
 use Rattle.register_map.proofs.HeaderLaws.{opening-none}
 use Rattle.register_map.proofs.HeaderCases.{model-ends}
 use Rattle.layout.specs.Reading.{reading}
-use Rattle.layout.specs.Walks.{IsTable}
+use Rattle.layout.specs.InternalWalks.{IsTable}
 use Rattle.listing.proofs.MapRecords.{WalkingMap, walking-starts, walking-ends, walking-refused, walking-late, walking-goes-on, walking-at}
 use Rattle.listing.proofs.put_map.Statement.{statement}
 use Rattle.listing.proofs.put_map.Tie as tie
@@ -35,7 +35,7 @@ put-known-requires c κs =
     let s = k .before .before .before .before .before .before .before .before .before in
     let l = k .before .before .before .before .loop in
     let g = k .header .given in
-    let h = sym (k .before .before .header-at .ensures) ∙ ap headerForm (g .1) in
+    let h = sym (k .before .before .header-at .ensures) ∙ ap toSpecHeader (g .1) in
     let short = opening-none (s .args .map .now) (s .pre .1 .0) .0 in
     let next = walking-goes-on (l .inv .0) short h in
     let ends = model-ends (eqb (l .at) 2) (s .args .map .now) (l .at) h in
@@ -47,7 +47,7 @@ loop-again c =
     let s = k .before .before .before .before .before .before .before .before .before in
     let l = k .before .before .before .before .loop in
     let g = k .header .given in
-    let h = sym (k .before .before .header-at .ensures) ∙ ap headerForm (g .1) in
+    let h = sym (k .before .before .header-at .ensures) ∙ ap toSpecHeader (g .1) in
     let short = opening-none (s .args .map .now) (s .pre .1 .0) .0 in
     let next = walking-goes-on (l .inv .0) short h in
     let p = c .before .before .before .before .before .put-known in
@@ -65,7 +65,7 @@ same-length-2 c = c .before .before .before .before .loop .inv .0 .sameLength
 
 returns : tie.Need-returns Inv-loop μ-loop
 returns c =
-    let h = sym (c .before .before .header-at .ensures) ∙ ap headerForm (c .enum-told .given .1) in
+    let h = sym (c .before .before .header-at .ensures) ∙ ap toSpecHeader (c .enum-told .given .1) in
     walking-ends (c .before .before .before .before .loop .inv .0) (omega arith) h
 
 same-length-4 : tie.Need-same-length-4 Inv-loop μ-loop
@@ -73,7 +73,7 @@ same-length-4 c = c .before .before .before .before .loop .inv .0 .sameLength
 
 returns-2 : tie.Need-returns-2 Inv-loop μ-loop
 returns-2 c =
-    let h = sym (c .before .before .header-at .ensures) ∙ ap headerForm (c .enum-told2 .given .1) in
+    let h = sym (c .before .before .header-at .ensures) ∙ ap toSpecHeader (c .enum-told2 .given .1) in
     walking-refused (c .before .before .before .before .loop .inv .0) (omega arith) h
 
 same-length-6 : tie.Need-same-length-6 Inv-loop μ-loop

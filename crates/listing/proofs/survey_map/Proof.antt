@@ -6,13 +6,13 @@ use native.Mathlib.Omega.{arith}
 use lib.Dec.{eqb}
 use lib.ListN.{length}
 use Rattle.model_definitions.specs.Definitions.{definitions}
-use Rattle.register_map.specs.Answers.{headerForm}
+use Rattle.register_map.specs.CodeTypes.{toSpecHeader}
 use Rattle.register_map.proofs.HeaderLaws.{opening-none}
 use Rattle.register_map.proofs.HeaderCases.{model-ends}
 use Rattle.layout.specs.Reading.{reading}
-use Rattle.layout.specs.Walks.{IsTable, surveyed}
+use Rattle.layout.specs.InternalWalks.{IsTable, surveyed}
 use Rattle.layout.proofs.PointsInside.{points-few}
-use Rattle.listing.specs.Answers.{surveyForm}
+use Rattle.listing.specs.CodeTypes.{toSpecSurvey}
 use Rattle.listing.proofs.MapSteps.{body-length}
 use Rattle.listing.proofs.MapSurvey.{Surveying, survey-starts, survey-ends, survey-refused, survey-late, survey-unknown, survey-faulty, more-fit, survey-points}
 use Rattle.listing.proofs.survey_map.Statement.{statement}
@@ -37,7 +37,7 @@ survey-model-requires c κs =
     let s = k .before .before .before .before .before .before .before .before in
     let l = k .before .before .before .before .loop in
     let g = k .header .given in
-    let h = sym (k .before .before .header-at .ensures) ∙ ap headerForm (g .1) in
+    let h = sym (k .before .before .header-at .ensures) ∙ ap toSpecHeader (g .1) in
     let short = opening-none (s .args .map .now) (s .pre .1 .0) .0 in
     let ends = model-ends (eqb (l .at) 2) (s .args .map .now) (l .at) h in
     let all = ap length (c .part .ensures) ∙ body-length (s .args .map .now) (l .at) (g .0 .0) (g .0 .1 .0) h in
@@ -50,12 +50,12 @@ returns c =
     let s = k .before .before .before .before .before .before .before .before in
     let l = k .before .before .before .before .loop in
     let g = k .header .given in
-    let h = sym (k .before .before .header-at .ensures) ∙ ap headerForm (g .1) in
+    let h = sym (k .before .before .header-at .ensures) ∙ ap toSpecHeader (g .1) in
     let short = opening-none (s .args .map .now) (s .pre .1 .0) .0 in
     let read = reading (definitions (s .args .catalog .now)) in
     let seen = m .survey-model .ensures .0
     ∙ ap (λ body. surveyed (read (record { id = g .0 .0; body = body }))) (m .before .part .ensures) in
-    let e = sym (ap surveyForm (c .before .before .survey .given .1)) ∙ seen in
+    let e = sym (ap toSpecSurvey (c .before .before .survey .given .1)) ∙ seen in
     (c .refused .ensures ∙ survey-faulty (l .inv .0) short h e, m .survey-model .ensures .1 .1)
 
 add-points : tie.Need-add-points Inv-loop μ-loop
@@ -65,12 +65,12 @@ add-points c =
     let s = k .before .before .before .before .before .before .before .before in
     let l = k .before .before .before .before .loop in
     let g = k .header .given in
-    let h = sym (k .before .before .header-at .ensures) ∙ ap headerForm (g .1) in
+    let h = sym (k .before .before .header-at .ensures) ∙ ap toSpecHeader (g .1) in
     let short = opening-none (s .args .map .now) (s .pre .1 .0) .0 in
     let read = reading (definitions (s .args .catalog .now)) in
     let seen = m .survey-model .ensures .0
     ∙ ap (λ body. surveyed (read (record { id = g .0 .0; body = body }))) (m .before .part .ensures) in
-    let e = sym (ap surveyForm (c .before .survey2 .given .1)) ∙ seen in
+    let e = sym (ap toSpecSurvey (c .before .survey2 .given .1)) ∙ seen in
     let more = more-fit (l .inv .0) short h (points-few (s .args .catalog .now) (s .pre .0)) e in
     record { fits = omega (arith, more) }
 
@@ -81,7 +81,7 @@ loop-again c =
     let s = k .before .before .before .before .before .before .before .before in
     let l = k .before .before .before .before .loop in
     let g = k .header .given in
-    let h = sym (k .before .before .header-at .ensures) ∙ ap headerForm (g .1) in
+    let h = sym (k .before .before .header-at .ensures) ∙ ap toSpecHeader (g .1) in
     let short = opening-none (s .args .map .now) (s .pre .1 .0) .0 in
     let read = reading (definitions (s .args .catalog .now)) in
     let seen = m .survey-model .ensures .0
@@ -90,8 +90,8 @@ loop-again c =
     let Goes : ℕ → Type 0 = λ n. Surveying read (s .args .map .now) (l .at + (2 + g .0 .1 .0)) (l .headers + 1) n in
     let next : Goes (c .before .match2 .points) =
     ⊎-elim
-    (λ w. subst Goes (sym (w .2)) (survey-unknown (l .inv .0) short h (sym (ap surveyForm (w .1 .given .1)) ∙ seen)))
-    (λ w. subst Goes (sym (w .3)) (survey-points (l .inv .0) short h few (sym (ap surveyForm (w .1 .given .1)) ∙ seen)))
+    (λ w. subst Goes (sym (w .2)) (survey-unknown (l .inv .0) short h (sym (ap toSpecSurvey (w .1 .given .1)) ∙ seen)))
+    (λ w. subst Goes (sym (w .3)) (survey-points (l .inv .0) short h few (sym (ap toSpecSurvey (w .1 .given .1)) ∙ seen)))
     (c .before .match2 .came) in
     let Reached : ℕ → Type 0 = λ at. Surveying read (s .args .map .now) at (l .headers + 1) (c .before .match2 .points) in
     (subst Reached (sym (c .after-model .ensures)) next, m .survey-model .ensures .1 .1)
@@ -99,13 +99,13 @@ loop-again c =
 returns-2 : tie.Need-returns-2 Inv-loop μ-loop
 returns-2 c =
     let l = c .before .before .before .before .loop in
-    let h = sym (c .before .before .header-at .ensures) ∙ ap headerForm (c .enum-told2 .given .1) in
+    let h = sym (c .before .before .header-at .ensures) ∙ ap toSpecHeader (c .enum-told2 .given .1) in
     (survey-ends (l .inv .0) (omega arith) h, l .inv .1)
 
 returns-3 : tie.Need-returns-3 Inv-loop μ-loop
 returns-3 c =
     let l = c .before .before .before .before .before .before .loop in
-    let h = sym (c .before .before .before .before .header-at .ensures) ∙ ap headerForm (c .before .before .header2 .given .1) in
+    let h = sym (c .before .before .before .before .header-at .ensures) ∙ ap toSpecHeader (c .before .before .header2 .given .1) in
     (c .refused2 .ensures ∙ survey-refused (l .inv .0) (omega arith) h, l .inv .1)
 
 returns-4 : tie.Need-returns-4 Inv-loop μ-loop

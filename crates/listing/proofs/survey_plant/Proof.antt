@@ -1,7 +1,7 @@
 -- `listing::survey_plant` meets its contract: 1 to 11 come first.
 use mathlib.Core.Path.{sym, ap, _∙_}
-use Rattle.catalog.specs.Answers as Catalog
-use Rattle.listing.specs.Listing.{told}
+use Rattle.catalog.specs.CodeTypes as Catalog
+use Rattle.listing.specs.Listing.{result}
 use Rattle.listing.proofs.ListingCases.{records-accepted, records-refused}
 use borrow.Author.Needs.{needs}
 use Rattle.listing.proofs.survey_plant.Statement.{statement}
@@ -13,7 +13,7 @@ enum-told c = search needs
 survey-checked-requires : tie.Need-survey-checked-requires
 survey-checked-requires c κs =
     let t = c .before in (
-      (t .enum-told .given .0 .0, sym (t .before .before .check .ensures) ∙ ap Catalog.answer (t .enum-told .given .1)),
+      (t .enum-told .given .0 .0, sym (t .before .before .check .ensures) ∙ ap Catalog.toSpecChecked (t .enum-told .given .1)),
       c .before .before .before .before .before .before .before .pre,
     )
 
@@ -21,15 +21,15 @@ returns : tie.Need-returns
 returns c =
     let v = c .before .before .before .before .before .before .before .before .before .before .args in
     let t = c .before .before .before .before in
-    let e = sym (t .before .before .check .ensures) ∙ ap Catalog.answer (t .enum-told .given .1) in
+    let e = sym (t .before .before .check .ensures) ∙ ap Catalog.toSpecChecked (t .enum-told .given .1) in
     let s = c .before .before .survey-checked .ensures in
-    (s .0 ∙ sym (ap told (records-accepted (v .catalog .now) (v .map .now) e)), s .1)
+    (s .0 ∙ sym (ap result (records-accepted (v .catalog .now) (v .map .now) e)), s .1)
 
 returns-2 : tie.Need-returns-2
 returns-2 c =
     let v = c .before .before .before .before .before .before .before .before .args in
-    let e = sym (c .before .before .before .before .check .ensures) ∙ ap Catalog.answer (c .before .before .checked .given .1) in
-    (c .refused .ensures ∙ sym (ap told (records-refused (v .catalog .now) (v .map .now) e)), c .before .before .before .before .before .before .before .before .pre)
+    let e = sym (c .before .before .before .before .check .ensures) ∙ ap Catalog.toSpecChecked (c .before .before .checked .given .1) in
+    (c .refused .ensures ∙ sym (ap result (records-refused (v .catalog .now) (v .map .now) e)), c .before .before .before .before .before .before .before .before .pre)
 
 pub survey-plant-spec : {M : Type 1} → statement M
 survey-plant-spec =

@@ -4,14 +4,14 @@ use native.Mathlib.Nat.{add-sub-cancel-left}
 use native.Mathlib.Omega.{arith}
 use borrow.Author.Needs.{needs}
 use lib.ListN.{take, drop}
-use Rattle.registers.proofs.RegisterParts.{part-behind, part-rest}
+use Rattle.registers.proofs.RegisterParts.{part-past-end, part-rest}
 use Rattle.registers.proofs.part.Statement.{statement}
 use Rattle.registers.proofs.part.Tie as tie
 
 returns : tie.Need-returns
 returns c =
     let a = c .before .before .args in
-    part-behind (a .registers .now) (a .start) (a .count) (omega (arith, c .before .if1 .taken))
+    part-past-end (a .registers .now) (a .start) (a .count) (omega (arith, c .before .if1 .taken))
 
 returns-2 : tie.Need-returns-2
 returns-2 c =

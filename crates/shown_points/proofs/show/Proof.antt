@@ -3,7 +3,7 @@ use mathlib.Core.Path.{ap, _∙_}
 use Prim.Native.Nat.{ℕ}
 use borrow.Author.Needs.{needs}
 use Rattle.values.specs.Classes.{Classified}
-use Rattle.catalog_frames.specs.Forms.{pointForm}
+use Rattle.catalog_frames.specs.CodeTypes.{toSpecPoint}
 use Rattle.layout.specs.Points.{statusOf, scaleOf}
 use Rattle.shown_points.proofs.show.Statement.{statement}
 use Rattle.shown_points.proofs.show.Tie as tie
@@ -12,7 +12,7 @@ returns : tie.Need-returns
 returns c =
     let classed = c .before .before .before in
     let a = classed .before .before .args in
-    let p = pointForm (a .point) in
+    let p = toSpecPoint (a .point) in
     let status = c .before .before .status-of .ensures
     ∙ ap (λ (x : Classified). statusOf p x (a .scale-register)) (classed .class-of .ensures) in
     let raw = c .before .raw-value .ensures .0 in

@@ -5,33 +5,33 @@ use mathlib.Core.Option.{some}
 use native.Mathlib.Omega.{arith}
 use borrow.Author.Needs.{needs}
 use Rattle.point_types.specs.Rows.{rowOf}
-use Rattle.point_types.specs.Answers.{foundMeans, rowMeans}
+use Rattle.point_types.specs.CodeTypes.{toSpecFound, toSpecRow}
 use Rattle.values.proofs.ClassCases as cases
 use Rattle.values.proofs.FoundRow as row
 use Rattle.values.proofs.decode.Statement.{statement}
 use Rattle.values.proofs.decode.Tie as tie
 
 -- The row that was found is the table's.
-at : (c : tie.After-found) → rowOf (c .before .before .before .before .args .type-code) ≡ some (rowMeans (c .found .given .0 .0))
-at c = sym (c .before .before .row-of .ensures) ∙ ap foundMeans (c .found .given .1)
+at : (c : tie.After-found) → rowOf (c .before .before .before .before .args .type-code) ≡ some (toSpecRow (c .found .given .0 .0))
+at c = sym (c .before .before .row-of .ensures) ∙ ap toSpecFound (c .found .given .1)
 
 array-share-prefix-registers : tie.Need-array-share-prefix-registers
 array-share-prefix-registers c =
     let f = c .before .before in
     let e = f .before .before .before in
-    row.among-four (e .before .args .type-code) (e .before .args .t2) (rowMeans (f .found .given .0 .0)) (search needs) (e .if1 .left) (at f)
+    row.among-four (e .before .args .type-code) (e .before .args .t2) (toSpecRow (f .found .given .0 .0)) (search needs) (e .if1 .left) (at f)
 
 slice-aggregate-raw-value : tie.Need-slice-aggregate-raw-value
 slice-aggregate-raw-value c =
     let f = c .before .before .before in
     let e = f .before .before .before in
-    row.first-length (e .before .args .type-code) (e .before .args .t2) (rowMeans (f .found .given .0 .0)) (search needs) (e .if1 .left) (at f)
+    row.first-length (e .before .args .type-code) (e .before .args .t2) (toSpecRow (f .found .given .0 .0)) (search needs) (e .if1 .left) (at f)
 
 value-of-requires : tie.Need-value-of-requires
 value-of-requires c κs =
     let f = c .before .before .before .before in
     let e = f .before .before .before in
-    row.pattern-of (e .before .args .type-code) (e .before .args .t2) (rowMeans (f .found .given .0 .0)) (search needs) (e .if1 .left) (at f)
+    row.pattern-of (e .before .args .type-code) (e .before .args .t2) (toSpecRow (f .found .given .0 .0)) (search needs) (e .if1 .left) (at f)
     (c .raw-value .result) (c .raw-value .ensures .1)
 
 returns-2 : tie.Need-returns-2
@@ -39,13 +39,13 @@ returns-2 c =
     let f = c .before .before .before .before .before in
     let e = f .before .before .before in
     c .value-of .ensures
-    ∙ row.answer-of (e .before .args .type-code) (e .before .args .t2) (rowMeans (f .found .given .0 .0)) (search needs) (e .if1 .left) (at f)
+    ∙ row.answer-of (e .before .args .type-code) (e .before .args .t2) (toSpecRow (f .found .given .0 .0)) (search needs) (e .if1 .left) (at f)
     (c .before .raw-value .result) (c .before .raw-value .ensures .0)
 
 returns-3 : tie.Need-returns-3
 returns-3 c =
     let e = c .before .before .before in
-    sym (cases.no-row (e .before .args .type-code) (e .before .args .t2) (sym (c .before .before .row-of .ensures) ∙ ap foundMeans (c .enum-told .given .1)))
+    sym (cases.no-row (e .before .args .type-code) (e .before .args .t2) (sym (c .before .before .row-of .ensures) ∙ ap toSpecFound (c .enum-told .given .1)))
 
 pub decode-spec : {M : Type 1} → statement M
 decode-spec =

@@ -1,7 +1,7 @@
 -- `value_of` answers by the pattern's class.
 use mathlib.Core.Path.{sym, ap, _∙_}
 use borrow.Author.Needs.{needs}
-use Rattle.values.specs.Answers.{classAnswer}
+use Rattle.values.specs.CodeTypes.{toSpecClass}
 use Rattle.values.specs.Decoding.{valueOf}
 use Rattle.values.proofs.value_of.Statement.{statement}
 use Rattle.values.proofs.value_of.Tie as tie
@@ -9,12 +9,12 @@ use Rattle.values.proofs.value_of.Tie as tie
 number-of-requires : tie.Need-number-of-requires
 number-of-requires c κs =
     let k = c .before .before in
-    (k .before .pre, sym (k .class-in .ensures) ∙ ap classAnswer (c .enum-told .given .1))
+    (k .before .pre, sym (k .class-in .ensures) ∙ ap toSpecClass (c .enum-told .given .1))
 
 returns : tie.Need-returns
 unfolding valueOf
 returns c =
-    let class = sym (c .before .before .before .class-in .ensures) ∙ ap classAnswer (c .before .enum-told .given .1) in
+    let class = sym (c .before .before .before .class-in .ensures) ∙ ap toSpecClass (c .before .enum-told .given .1) in
     c .number-of .ensures ∙ simp (valueOf, class)
 
 pub value-of-spec : {M : Type 1} → statement M
@@ -22,5 +22,5 @@ unfolding valueOf
 value-of-spec =
     tie.close
     (tie.spec (λ c κs. search needs) (λ c. search needs) number-of-requires (λ c. search needs) (λ c. search needs) returns
-    (λ c. simp (valueOf, sym (c .before .before .class-in .ensures) ∙ ap classAnswer (c .enum-told2 .given .1)))
-    (λ c. simp (valueOf, sym (c .before .before .class-in .ensures) ∙ ap classAnswer (c .enum-told3 .given .1))))
+    (λ c. simp (valueOf, sym (c .before .before .class-in .ensures) ∙ ap toSpecClass (c .enum-told2 .given .1)))
+    (λ c. simp (valueOf, sym (c .before .before .class-in .ensures) ∙ ap toSpecClass (c .enum-told3 .given .1))))

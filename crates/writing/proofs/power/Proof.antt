@@ -16,7 +16,7 @@ returns-3 c = (rw (c .match .keys3), omega arith)
 returns-4 : tie.Need-returns-4
 returns-4 c =
     let r = c .match .rest in
-    let three : c .before .args .behind ≡ 3 = omega (arith, c .before .pre, r .1, r .0 .1, r .0 .0 .1) in
+    let three : c .before .args .lower ≡ 3 = omega (arith, c .before .pre, r .1, r .0 .1, r .0 .0 .1) in
     (rw three, omega arith)
 
 pub power-spec : {M : Type 1} → statement M

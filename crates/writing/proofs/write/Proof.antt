@@ -1,7 +1,7 @@
 -- `writing::write` meets its contract: by what is found.
 use mathlib.Core.Path.{sym, ap, _∙_}
-use Rattle.listing.specs.Answers.{targetForm, findingForm}
-use Rattle.writing.specs.Writing.{told, mapBehind}
+use Rattle.listing.specs.CodeTypes.{toSpecTarget, toSpecFinding}
+use Rattle.writing.specs.Writing.{result, mapAfter}
 use Rattle.writing.proofs.FoundTargets.{writing-refused, writing-nothing, writing-found, target-inside}
 use borrow.Author.Needs.{needs}
 use Rattle.writing.proofs.write.Statement.{statement}
@@ -11,8 +11,8 @@ write-to-requires : tie.Need-write-to-requires
 write-to-requires c κs =
     let v = c .before .before .before .before .before .before .before .before .args in
     let g = c .before .before .finding .given in
-    let e = ap findingForm (sym (g .1)) ∙ c .before .before .before .before .find .ensures in
-    target-inside (v .catalog .now) (v .map .now) (v .model) (v .point) (v .path .instances) (v .raw) (targetForm (g .0 .0)) e
+    let e = ap toSpecFinding (sym (g .1)) ∙ c .before .before .before .before .find .ensures in
+    target-inside (v .catalog .now) (v .map .now) (v .model) (v .point) (v .path .instances) (v .raw) (toSpecTarget (g .0 .0)) e
 
 enum-told : tie.Need-enum-told
 enum-told c = search needs
@@ -21,22 +21,22 @@ returns : tie.Need-returns
 returns c =
     let v = c .before .before .before .before .before .before .before .before .before .before .before .args in
     let g = c .before .before .before .before .before .finding .given in
-    let e = ap findingForm (sym (g .1)) ∙ c .before .before .before .before .before .before .before .find .ensures in
-    let a = writing-found (v .catalog .now) (v .map .now) (v .model) (v .point) (v .path .instances) (v .raw) (targetForm (g .0 .0)) e in
+    let e = ap toSpecFinding (sym (g .1)) ∙ c .before .before .before .before .before .before .before .find .ensures in
+    let a = writing-found (v .catalog .now) (v .map .now) (v .model) (v .point) (v .path .instances) (v .raw) (toSpecTarget (g .0 .0)) e in
     let w = c .before .before .write-to .ensures in
-    (w .0 ∙ ap told a, w .1 ∙ ap (λ x. mapBehind x (v .map .now)) a)
+    (w .0 ∙ ap result a, w .1 ∙ ap (λ x. mapAfter x (v .map .now)) a)
 
 returns-2 : tie.Need-returns-2
 returns-2 c =
     let v = c .before .before .before .before .before .before .args in
-    let e = ap findingForm (sym (c .enum-told .given .1)) ∙ c .before .before .find .ensures in
+    let e = ap toSpecFinding (sym (c .enum-told .given .1)) ∙ c .before .before .find .ensures in
     writing-nothing (v .catalog .now) (v .map .now) (v .model) (v .point) (v .path .instances) (v .raw) e
 
 returns-3 : tie.Need-returns-3
 returns-3 c =
     let v = c .before .before .before .before .before .before .before .args in
     let g = c .before .finding2 .given in
-    let e = ap findingForm (sym (g .1)) ∙ c .before .before .before .find .ensures in
+    let e = ap toSpecFinding (sym (g .1)) ∙ c .before .before .before .find .ensures in
     writing-refused (v .catalog .now) (v .map .now) (v .model) (v .point) (v .path .instances) (v .raw) (g .0 .0) (g .0 .1 .0) e
 
 pub write-spec : {M : Type 1} → statement M

@@ -6,8 +6,8 @@ use Prim.Native.Nat.{_-_, _<_}
 use lib.Dec.{eqb}
 use Rattle.lists.specs.Tests.{firstBroken}
 use Rattle.catalog.specs.Rules.{noPoint, run}
-use Rattle.catalog_frames.specs.Forms.{frameForm, pointForm}
-use Rattle.catalog.specs.Scans.{framesOnward}
+use Rattle.catalog_frames.specs.CodeTypes.{toSpecFrame, toSpecPoint}
+use Rattle.catalog.specs.InternalScans.{framesOnward}
 use Rattle.frame_rules.specs.FrameTests.{endTests}
 use Rattle.catalog_frames.proofs.FramesByIndex.{frame-within}
 use Rattle.catalog.proofs.MarkedRules as marked
@@ -39,7 +39,7 @@ returns-2 c =
     let is = c .before .before .frame2 .given .1 in
     let head = c .before .before .frame2 .given .0 .0 in
     let fits : (head .number < 65536) × (head .count < 65536) = search needs in
-    let here = sym (ap frameForm is) ∙ f in
+    let here = sym (ap toSpecFrame is) ∙ f in
     let same = marked.group-tested _ _ _ _ _ _ x (s .pre .0) _ here (fits .1) (fits .0) in
     rw (← f, is) (c .group-fault .ensures ∙ same, fits)
 
@@ -49,7 +49,7 @@ returns-3 c =
     let x = s .pre .1 .1 in
     let f = c .before .before .before .before .read-frame .ensures ∙ frame-within _ _ (s .pre .0) in
     let is = c .before .before .frame3 .given .1 in
-    let point = pointForm (c .before .before .frame3 .given .0 .0) in
+    let point = toSpecPoint (c .before .before .frame3 .given .0 .0) in
     let fits : (point .number < 65536) × (point .scale < 65536) = search needs in
     let same = ap firstBroken (marked.point-tested _ _ _ _ _ _ x point (fits .0) (fits .1)) in
     rw (← f, is) (c .point-fault .ensures ∙ same, fits)

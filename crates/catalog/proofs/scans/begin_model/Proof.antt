@@ -3,7 +3,7 @@ use mathlib.Core.Path.{_≡_, refl}
 use mathlib.Core.Bool.{true, false}
 use borrow.Author.Tests.{eq-eqb, ne-eqb}
 use Rattle.number_sets.proofs.MarkLaws as marks
-use Rattle.catalog.specs.Scans.{isModel}
+use Rattle.catalog.specs.InternalScans.{isModel}
 use borrow.Author.Needs.{needs}
 use Rattle.catalog.proofs.scans.begin_model.Statement.{statement}
 use Rattle.catalog.proofs.scans.begin_model.Tie as tie

@@ -3,7 +3,7 @@ use mathlib.Core.Path.{sym, ap, _∙_}
 use borrow.Author.Tests.{not-true, not-false}
 use lib.Dec.{eqb}
 use Rattle.number_sets.proofs.MarkLaws as marks
-use Rattle.catalog_frames.specs.Words.{pointWords}
+use Rattle.catalog_frames.specs.InternalWords.{pointWords}
 use Rattle.catalog.proofs.MarkLaws as laws
 use borrow.Author.Needs.{needs}
 use Rattle.catalog.proofs.scans.mark_point.Statement.{statement}

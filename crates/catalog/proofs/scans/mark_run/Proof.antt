@@ -6,7 +6,7 @@ use native.Mathlib.Omega.{arith}
 use Rattle.number_sets.specs.NumberSets.{Marks}
 use Rattle.number_sets.proofs.MarkLaws as marks
 use Rattle.catalog.specs.Rules.{run}
-use Rattle.catalog.specs.Marks.{inRun}
+use Rattle.catalog.specs.InternalMarks.{inRun}
 use Rattle.catalog.proofs.WordScans.{run-goes, run-ends, frames-none}
 use Rattle.catalog.proofs.MarkLaws as laws
 use borrow.Author.Needs.{needs}

@@ -6,7 +6,7 @@ use native.Mathlib.Omega.{arith}
 use Rattle.lists.specs.Members.{among}
 use Rattle.number_sets.specs.NumberSets.{Marks}
 use Rattle.number_sets.proofs.MarkLaws as marks
-use Rattle.catalog.specs.Scans.{numbersBefore}
+use Rattle.catalog.specs.InternalScans.{numbersBefore}
 use Rattle.catalog.proofs.WordScans.{number-next, number-nowhere}
 use borrow.Author.Needs.{needs}
 use Rattle.catalog.proofs.scans.take_numbers_out.Statement.{statement}

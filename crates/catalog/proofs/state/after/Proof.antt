@@ -1,7 +1,7 @@
 -- `catalog::state::after` meets its contract: each kind of frame has its line of `stateOf`.
 use native.Mathlib.Omega.{arith}
 use borrow.Author.Tests.{ne-eqb}
-use Rattle.catalog.specs.Tracking.{stateOf}
+use Rattle.catalog.specs.InternalTracking.{stateOf}
 use borrow.Author.Needs.{needs}
 use Rattle.catalog.proofs.state.after.Statement.{statement}
 use Rattle.catalog.proofs.state.after.Tie as tie

@@ -7,11 +7,11 @@ use borrow.Author.Needs.{needs}
 use lib.ListN.{take}
 use lib.Seq.{take-nil}
 use Rattle.catalog.specs.Rules.{run}
-use Rattle.catalog_frames.specs.Forms.{pointForm}
-use Rattle.layout.specs.Walks.{onward}
-use Rattle.definition_frames.specs.Answers.{pointOrForm}
+use Rattle.catalog_frames.specs.CodeTypes.{toSpecPoint}
+use Rattle.layout.specs.InternalWalks.{onward}
+use Rattle.definition_frames.specs.CodeTypes.{toSpecPointOr}
 use Rattle.layout.proofs.FrameRuns.{run-more, run-ends}
-use Rattle.definition_frames.proofs.RunSteps.{RunFrom, run-begins, run-goes, run-stops, run-form}
+use Rattle.definition_frames.proofs.RunSteps.{RunFrom, run-begins, run-goes, run-stops, to-spec-run}
 use Rattle.definition_frames.proofs.runs.run_extent.Statement.{statement}
 use Rattle.definition_frames.proofs.runs.run_extent.Tie as tie
 
@@ -37,8 +37,8 @@ add-i c =
     let head = read .before .before .before .before in
     let a = head .before .before .args in
     let l = head .loop in
-    let p = pointForm (read .next .given .0 .0) in
-    let f = sym (read .before .before .point-at .ensures) ∙ ap pointOrForm (read .next .given .1) in
+    let p = toSpecPoint (read .next .given .0 .0) in
+    let f = sym (read .before .before .point-at .ensures) ∙ ap toSpecPointOr (read .next .given .1) in
     let more = run-more (a .catalog .now) (l .i) p f in
     omega (arith, more .0)
 
@@ -48,8 +48,8 @@ loop-again c =
     let head = read .before .before .before .before in
     let a = head .before .before .args in
     let l = head .loop in
-    let p = pointForm (read .next .given .0 .0) in
-    let f = sym (read .before .before .point-at .ensures) ∙ ap pointOrForm (read .next .given .1) in
+    let p = toSpecPoint (read .next .given .0 .0) in
+    let f = sym (read .before .before .point-at .ensures) ∙ ap toSpecPointOr (read .next .given .1) in
     let more = run-more (a .catalog .now) (l .i) p f in
     let ws = a .catalog .now in
     let rest = run (onward ws (l .i + 1)) in
@@ -68,9 +68,9 @@ returns c =
     let head = c .before .before .before .before in
     let a = head .before .before .args in
     let l = head .loop in
-    let f = sym (c .before .before .point-at .ensures) ∙ ap pointOrForm (c .enum-told .given .1) in
+    let f = sym (c .before .before .point-at .ensures) ∙ ap toSpecPointOr (c .enum-told .given .1) in
     let left = ap (take (4096 - l .points)) (run-ends (a .catalog .now) (l .i) f) ∙ take-nil (4096 - l .points) in
-    run-form (run-stops _ _ (a .first) (l .size) (l .points) (l .i) (l .ends-with-pad) (l .inv .0) left)
+    to-spec-run (run-stops _ _ (a .first) (l .size) (l .points) (l .i) (l .ends-with-pad) (l .inv .0) left)
 
 returns-2 : tie.Need-returns-2 Inv-loop μ-loop
 returns-2 c =
@@ -78,7 +78,7 @@ returns-2 c =
     let l = c .before .loop in
     let none-left : 4096 - l .points ≡ 0 = omega arith in
     let left = ap (λ (k : ℕ). take k (run (onward (a .catalog .now) (l .i)))) none-left in
-    run-form (run-stops _ _ (a .first) (l .size) (l .points) (l .i) (l .ends-with-pad) (l .inv .0) left)
+    to-spec-run (run-stops _ _ (a .first) (l .size) (l .points) (l .i) (l .ends-with-pad) (l .inv .0) left)
 
 pub run-extent-spec : {M : Type 1} → statement M
 run-extent-spec =

@@ -1,7 +1,7 @@
 -- `equal_quantities` tries the first quantity, then the second, then compares the amounts.
 use mathlib.Core.Path.{sym, ap, _∙_}
 use borrow.Author.Needs.{needs}
-use Rattle.display.specs.Answers.{scaleFactor, quantityAmount}
+use Rattle.display.specs.CodeTypes.{scaleFactor, quantityAmount}
 use Rattle.display.specs.Equality.{equalIf, equality}
 use Rattle.display.proofs.AmountCases.{was-refused, was-amount, parts-within}
 use Rattle.display.proofs.EqualityCases.{both-accepted}

@@ -6,7 +6,7 @@ use borrow.Author.Tests.{lt-ltb}
 use lib.ListN.{length}
 use Rattle.display.specs.Amounts.{amountOf}
 use Rattle.display.specs.Decimals.{Decimal, decimalOf, stored}
-use Rattle.display.specs.Answers.{scaleFactor, bytes, lengthOf}
+use Rattle.display.specs.CodeTypes.{scaleFactor, bytes, lengthOf}
 use Rattle.display.proofs.AmountCases.{WasAmount, was-refused, was-amount, parts-within}
 use Rattle.display.proofs.DecimalCases.{long-buffer}
 use Rattle.display.proofs.StoredTexts.{put-start, put-length}
@@ -62,7 +62,7 @@ returns-3 c =
     let s = scaleFactor (a .scale) in
     let e = long-buffer (a .type-code) (a .raw) s (length (a .out .now)) parts (accepted o) (omega (arith, i .if1 .left)) in
     let put = p .put-amount .ensures .0 in (
-      ap bytes (put .behind ∙ omega arith) ∙ ap lengthOf (sym e),
+      ap bytes (put .ends ∙ omega arith) ∙ ap lengthOf (sym e),
       (put-start put (omega arith) ∙ ap (λ (d : Decimal). stored d (a .out .now)) (sym e), omega (arith, put-length put)),
     )
 

@@ -15,7 +15,7 @@ returns : tie.Need-returns
 returns c =
     let put = c .before .put-number .ensures .0 in
     let n = c .before .before .before .args .n in
-    let count : c .before .put-number .result ≡ digitCount n = omega (arith, put .behind, number-length n) in
+    let count : c .before .put-number .result ≡ digitCount n = omega (arith, put .ends, number-length n) in
     let bytes = put-on-zeros {n = 20} put (omega arith) ∙ ap (λ k. digitsOf n ++ replicate (20 - k) 0) (number-length n) in
     (λ k. record { bytes = bytes k; count = count k }, omega (arith, put-length put))
 

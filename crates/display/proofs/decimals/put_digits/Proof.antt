@@ -36,7 +36,7 @@ returns c =
     let count = l .before .before .args .count in (
       record {
         stored = sym (ap (λ (k : ℕ). sets (l .loop .out) (l .loop .i) (lastDigits k n)) e) ∙ l .loop .inv .0;
-        behind = omega (arith, digits-length count n);
+        ends = omega (arith, digits-length count n);
       },
       omega arith,
     )

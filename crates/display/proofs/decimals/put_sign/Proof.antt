@@ -12,4 +12,4 @@ put-sign-spec =
     tie.close
     (tie.spec (λ c. search needs) (λ c. search needs)
     (λ c. (put-same (ap sign (sym (c .if1 .taken))) (put-byte (c .before .args .out .now) 0 minusSign), omega arith))
-    (λ c. (put-same (ap sign (sym (c .if1 .left))) (record { stored = refl; behind = refl }), omega arith)))
+    (λ c. (put-same (ap sign (sym (c .if1 .left))) (record { stored = refl; ends = refl }), omega arith)))

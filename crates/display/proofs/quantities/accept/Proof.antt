@@ -5,7 +5,7 @@ use borrow.Author.Tests.{not-true, not-false}
 use Rattle.values.specs.Unscaled.{unscaled}
 use Rattle.values.proofs.UnscaledCases.{NumberOf, was-not-scalable, was-no-value, was-number}
 use Rattle.display.specs.Amounts.{amountOf}
-use Rattle.display.specs.Answers.{scaleFactor}
+use Rattle.display.specs.CodeTypes.{scaleFactor}
 use Rattle.display.specs.declared.quantities.Accepted.{Accepted}
 use Rattle.display.proofs.AmountCases.{same-parts}
 use Rattle.display.proofs.quantities.accept.Statement.{statement}

@@ -7,10 +7,10 @@ use borrow.Author.Needs.{needs}
 use borrow.Author.Tests.{ne-eqb}
 use lib.Dec.{eqb}
 use Rattle.catalog_frames.specs.Frames.{Head, constantCount, countByPoint}
-use Rattle.catalog_frames.specs.Forms.{headForm}
+use Rattle.catalog_frames.specs.CodeTypes.{toSpecHead}
 use Rattle.layout.specs.Points.{Scope}
 use Rattle.layout.specs.Layout.{countOf}
-use Rattle.layout.specs.Walks.{scopeIn}
+use Rattle.layout.specs.InternalWalks.{scopeIn}
 use Rattle.group_instances.proofs.counts.count_of.Statement.{statement}
 use Rattle.group_instances.proofs.counts.count_of.Tie as tie
 
@@ -33,7 +33,7 @@ returns-3 : tie.Need-returns-3
 returns-3 c =
     let n = c .match .rest in
     let a = c .before .before .args in
-    (fills (scopeIn (a .table .now)) (a .fill) (headForm (a .head)) (n .0 .1) (n .1), omega arith)
+    (fills (scopeIn (a .table .now)) (a .fill) (toSpecHead (a .head)) (n .0 .1) (n .1), omega arith)
 
 pub count-of-spec : {M : Type 1} → statement M
 count-of-spec =

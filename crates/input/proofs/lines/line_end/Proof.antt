@@ -4,7 +4,7 @@ use Prim.Native.Nat.{_+_, _-_, _≤_}
 use native.Mathlib.Omega.{arith}
 use borrow.Author.Needs.{needs}
 use lib.ListN.{length, drop}
-use Rattle.input.specs.Promises.{firstLine}
+use Rattle.input.specs.InternalContracts.{firstLine}
 use Rattle.input.proofs.FirstLines.{first-on, first-feed, first-end}
 use Rattle.input.proofs.lines.line_end.Statement.{statement}
 use Rattle.input.proofs.lines.line_end.Tie as tie

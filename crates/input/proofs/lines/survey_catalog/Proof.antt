@@ -8,30 +8,30 @@ use borrow.Author.Needs.{needs}
 use lib.ListN.{length, drop}
 use Rattle.input.specs.Lines.{lines}
 use Rattle.input.specs.Parsing.{catalogFrom, parsed}
-use Rattle.input.specs.Promises.{FramesFound}
+use Rattle.input.specs.InternalContracts.{FramesFound}
 use Rattle.input.proofs.LineSteps.{no-frame}
 use Rattle.input.proofs.CatalogLines.{at-empty, at-bad, at-full, at-frame, at-end}
 use Rattle.input.proofs.lines.survey_catalog.Statement.{statement}
 use Rattle.input.proofs.lines.survey_catalog.Tie as tie
 
 abbrev Inv-loop : tie.InvT-loop
-Inv-loop text room at₀ count₀ at count =
-    FramesFound text room count (λ registers. catalogFrom (count + 1) (room - count) registers (lines (drop at text)))
+Inv-loop text capacity at₀ count₀ at count =
+    FramesFound text capacity count (λ registers. catalogFrom (count + 1) (capacity - count) registers (lines (drop at text)))
     × (count * 2 ≤ at)
     × (at ≤ length text + 1)
 
 abbrev μ-loop : tie.MeasureT-loop
-μ-loop text room at₀ count₀ at count = length text - at
+μ-loop text capacity at₀ count₀ at count = length text - at
 
 loop-holds : tie.Need-loop-holds Inv-loop μ-loop
 loop-holds c =
     let a = c .before .args in
-    let e : a .room - 0 ≡ a .room = omega arith in (
+    let e : a .capacity - 0 ≡ a .capacity = omega arith in (
       record {
         catalog = [];
         full = refl;
         fits = omega arith;
-        rest = λ registers. rw e (no-frame (parsed (a .text .now) (a .room) registers));
+        rest = λ registers. rw e (no-frame (parsed (a .text .now) (a .capacity) registers));
       },
       omega arith,
       omega arith,

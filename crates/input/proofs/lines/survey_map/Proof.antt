@@ -8,25 +8,25 @@ use borrow.Author.Needs.{needs}
 use lib.ListN.{length, drop}
 use Rattle.input.specs.Lines.{lines}
 use Rattle.input.specs.Parsing.{mapFrom}
-use Rattle.input.specs.Promises.{RegistersFound}
+use Rattle.input.specs.InternalContracts.{RegistersFound}
 use Rattle.input.proofs.LineSteps.{no-registers}
 use Rattle.input.proofs.MapLines.{at-bad, at-full, at-line, at-end}
 use Rattle.input.proofs.lines.survey_map.Statement.{statement}
 use Rattle.input.proofs.lines.survey_map.Tie as tie
 
 abbrev Inv-loop : tie.InvT-loop
-Inv-loop text start first room at₀ line₀ count₀ at line count =
-    RegistersFound (mapFrom first room (lines (drop start text))) room count (mapFrom line (room - count) (lines (drop at text)))
+Inv-loop text start first capacity at₀ line₀ count₀ at line count =
+    RegistersFound (mapFrom first capacity (lines (drop start text))) capacity count (mapFrom line (capacity - count) (lines (drop at text)))
     × (line ≤ at + 1)
 
 abbrev μ-loop : tie.MeasureT-loop
-μ-loop text start first room at₀ line₀ count₀ at line count = length text - at
+μ-loop text start first capacity at₀ line₀ count₀ at line count = length text - at
 
 loop-holds : tie.Need-loop-holds Inv-loop μ-loop
 loop-holds c =
     let a = c .before .args in
-    let e : a .room - 0 ≡ a .room = omega arith in
-    let all = mapFrom (a .first) (a .room) (lines (drop (a .start) (a .text .now))) in
+    let e : a .capacity - 0 ≡ a .capacity = omega arith in
+    let all = mapFrom (a .first) (a .capacity) (lines (drop (a .start) (a .text .now))) in
     (record { map = []; full = refl; fits = omega arith; rest = rw e (no-registers all) }, search needs)
 
 returns : tie.Need-returns Inv-loop μ-loop

@@ -3,12 +3,12 @@ use mathlib.Core.Path.{_≡_, refl, sym, ap, subst, _∙_}
 use Prim.Native.Nat.{ℕ, _+_, _-_, _/_, _<_}
 use native.Mathlib.Omega.{arith}
 use lib.ListN.{length}
-use Rattle.layout.specs.Walks.{heldAt, scopeIn, AtGroups}
-use Rattle.layout.proofs.Standing as standing
-use Rattle.definition_frames.proofs.RunSteps.{held-run}
-use Rattle.layout.proofs.IntoGroups as groups
-use Rattle.definition_frames.specs.Answers.{groupOrForm}
-use Rattle.listing.specs.Promises.{RunOf}
+use Rattle.layout.specs.InternalWalks.{contentFrom, scopeIn, AtGroups}
+use Rattle.layout.proofs.FramePosition as position
+use Rattle.definition_frames.proofs.RunSteps.{content-run}
+use Rattle.layout.proofs.GroupDescent as groups
+use Rattle.definition_frames.specs.CodeTypes.{toSpecGroupOr}
+use Rattle.listing.specs.InternalContracts.{RunOf}
 use Rattle.listing.proofs.ExtentSteps as steps
 use Rattle.listing.proofs.ExtentWalks as walks
 use Rattle.listing.proofs.extents.groups_extent.Reads as reads
@@ -60,9 +60,9 @@ module _ (t : ℕ) where
   loop-holds c =
       let a = c .before .before .args in
       let p = c .before .before .pre .1 in
-      let all = heldAt (a .catalog .now) (a .first) .groups in
-      let none-met = steps.none-met (scopeIn (a .table .now)) all _ refl refl refl refl refl in
-      (record { standing = p .0; few = p .1 .1; end = refl; summed = none-met }, refl)
+      let all = contentFrom (a .catalog .now) (a .first) .groups in
+      let none-visited = steps.none-visited (scopeIn (a .table .now)) all _ refl refl refl refl refl in
+      (record { position = p .0; few = p .1 .1; end = refl; summed = none-visited }, refl)
 
   -- The run is the points of the group that begins here.
   own-run : (c : lts.After-run-extent (known t) (asked t) reads.Post Inv-loop μ-loop)
@@ -71,12 +71,12 @@ module _ (t : ℕ) where
   own-run c =
       let l = c .before .before .before .before .before .before .before .loop in
       let a = c .before .before .before .before .before .before .before .before .before .before .args in
-      let at = l .inv .0 .standing in
+      let at = l .inv .0 .position in
       let ws = a .catalog .now in
       let group = c .before .before .before .before .group-at .ensures in
-      let found = sym group ∙ ap groupOrForm (c .before .before .next .given .1) in
-      let within = standing.group-next ws (l .sum .next) (at .stands) (at .noPoint) _ found .1 in
-      held-run ws (l .sum .next + 1) within (at .few) (c .run-extent .result) (c .run-extent .ensures)
+      let found = sym group ∙ ap toSpecGroupOr (c .before .before .next .given .1) in
+      let within = position.group-next ws (l .sum .next) (at .parses) (at .noPoint) _ found .1 in
+      content-run ws (l .sum .next + 1) within (at .few) (c .run-extent .result) (c .run-extent .ensures)
 
   sub-groups-extent : lts.Need-sub-groups-extent (known t) (asked t) reads.Post Inv-loop μ-loop
   sub-groups-extent c =
@@ -84,8 +84,8 @@ module _ (t : ℕ) where
       let a = c .before .before .before .before .before .before .before .before .before .before .args in
       let w = l .inv .0 in
       let group = c .before .before .before .before .group-at .ensures in
-      let found = sym group ∙ ap groupOrForm (c .before .before .next .given .1) in
-      groups.level-left (a .catalog .now) (l .sum .next) (a .levels) (w .standing) (w .few) _ found
+      let found = sym group ∙ ap toSpecGroupOr (c .before .before .next .given .1) in
+      groups.level-left (a .catalog .now) (l .sum .next) (a .levels) (w .position) (w .few) _ found
 
   groups-extent-requires : lts.Need-groups-extent-requires (known t) (asked t) reads.Post Inv-loop μ-loop
   groups-extent-requires c κs =
@@ -94,10 +94,10 @@ module _ (t : ℕ) where
       let a = s .args in
       let w = l .inv .0 in
       let group = c .before .before .before .before .group-at .ensures in
-      let found = sym group ∙ ap groupOrForm (c .before .before .next .given .1) in
-      let into = groups.into-group (a .catalog .now) (l .sum .next) (a .levels) (w .standing) (w .few) _ found in
-      let behind-run = sym (own-run c .next) in
-      let there = subst (λ n. AtGroups (a .catalog .now) n (a .levels - 1)) behind-run (into .1) in
+      let found = sym group ∙ ap toSpecGroupOr (c .before .before .next .given .1) in
+      let into = groups.into-group (a .catalog .now) (l .sum .next) (a .levels) (w .position) (w .few) _ found in
+      let after-run = sym (own-run c .next) in
+      let there = subst (λ n. AtGroups (a .catalog .now) n (a .levels - 1)) after-run (into .1) in
       (omega (arith, s .pre .0, into .0), (there, (s .pre .1 .1 .0, omega (arith, w .few))))
 
   with-group-requires : lts.Need-with-group-requires (known t) (asked t) reads.Post Inv-loop μ-loop
@@ -107,8 +107,8 @@ module _ (t : ℕ) where
       let a = s .args in
       let w = l .inv .0 in
       let group = c .before .before .before .before .before .group-at .ensures in
-      let found = sym group ∙ ap groupOrForm (c .before .before .before .next .given .1) in
-      let own = walks.own-few (a .catalog .now) (l .sum .next) (a .levels) (w .standing) (w .few) _ found in
+      let found = sym group ∙ ap toSpecGroupOr (c .before .before .before .next .given .1) in
+      let own = walks.own-few (a .catalog .now) (l .sum .next) (a .levels) (w .position) (w .few) _ found in
       let run = own-run (c .before) in
       let inside = c .groups-extent .ensures .0 in
       let capped = w .summed .capped in (
@@ -128,7 +128,7 @@ module _ (t : ℕ) where
       let l = c .before .before .before .before .before .before .before .before .before .loop in
       let a = c .before .before .before .before .before .before .before .before .before .before .before .before .args in
       let group = c .before .before .before .before .before .before .group-at .ensures in
-      let found = sym group ∙ ap groupOrForm (c .before .before .before .before .next .given .1) in
+      let found = sym group ∙ ap toSpecGroupOr (c .before .before .before .before .next .given .1) in
       let inside = c .before .groups-extent .ensures in
       walks.walks-on (a .catalog .now) (scopeIn (a .table .now)) (a .levels) (a .first) (l .sum) (l .inv .0) _ found _
       (own-run (c .before .before)) _ (inside .0) (inside .1) _ (c .with-group .ensures)
@@ -148,14 +148,14 @@ module _ (t : ℕ) where
   at-end-requires c κs =
       let l = c .before .before .before .before .before .loop in
       let a = c .before .before .before .before .before .before .before .before .args in
-      let at = l .inv .0 .standing in
-      omega (arith, standing.stands-within (a .catalog .now) (l .sum .next) (at .stands), at .few)
+      let at = l .inv .0 .position in
+      omega (arith, position.parses-within (a .catalog .now) (l .sum .next) (at .parses), at .few)
 
   returns : lts.Need-returns (known t) (asked t) reads.Post Inv-loop μ-loop
   returns c =
       let l = c .before .before .before .before .before .before .loop in
       let a = c .before .before .before .before .before .before .before .before .before .args in
-      let other = sym (c .before .before .before .group-at .ensures) ∙ ap groupOrForm (c .before .enum-told .given .1) in
+      let other = sym (c .before .before .before .group-at .ensures) ∙ ap toSpecGroupOr (c .before .enum-told .given .1) in
       let e = c .at-end .ensures in
       walks.walk-ends (a .catalog .now) (scopeIn (a .table .now)) (a .levels) (a .first) (l .sum) (l .inv .0) other _
       (e .0) (e .1)
@@ -164,14 +164,14 @@ module _ (t : ℕ) where
   at-end-requires-2 c κs =
       let l = c .before .before .loop in
       let a = c .before .before .before .before .before .args in
-      let at = l .inv .0 .standing in
-      omega (arith, standing.stands-within (a .catalog .now) (l .sum .next) (at .stands), at .few)
+      let at = l .inv .0 .position in
+      omega (arith, position.parses-within (a .catalog .now) (l .sum .next) (at .parses), at .few)
 
   returns-2 : lts.Need-returns-2 (known t) (asked t) reads.Post Inv-loop μ-loop
   returns-2 c =
       let l = c .before .before .before .loop in
       let a = c .before .before .before .before .before .before .args in
-      let within = standing.stands-within (a .catalog .now) (l .sum .next) (l .inv .0 .standing .stands) in
+      let within = position.parses-within (a .catalog .now) (l .sum .next) (l .inv .0 .position .parses) in
       absurd (omega (arith, within, l .inv .1))
 
 pub +groups-extent-spec : {M : Type 1} → statement M

@@ -10,9 +10,9 @@ use Rattle.listing.proofs.extents.with_group.Statement.{statement}
 use Rattle.listing.proofs.extents.with_group.Tie as tie
 
 -- What is added is the count × the size of an instance.
-laid : (sum count run inside c size r : ℕ) → size ≡ min (run + 1 * inside) 65536 → c ≡ count → r ≡ min (sum + c * size) 65536
+present : (sum count run inside c size r : ℕ) → size ≡ min (run + 1 * inside) 65536 → c ≡ count → r ≡ min (sum + c * size) 65536
     → r ≡ min (sum + count * min (run + inside) 65536) 65536
-laid sum count run inside c size r s q e =
+present sum count run inside c size r s q e =
     let z : min (run + 1 * inside) 65536 ≡ min (run + inside) 65536 = omega arith in
     e ∙ ap (λ n. min (sum + n) 65536) (ap (λ n. n * size) q ∙ ap (λ n. count * n) (s ∙ z))
 
@@ -43,16 +43,16 @@ returns c =
     let count = c .before .before .before .before .before .before .count-of .ensures .0 in
     let points = c .before .before .before .before .before .before .before .grown2 .ensures in
     let size = c .before .before .before .before .before .before .before .before .grown .ensures in
-    let met = c .if4 .taken in
+    let visited = c .if4 .taken in
     record {
-      size = laid (a .sum .size) _ _ _ _ _ _ size count (c .before .before .before .before .before .grown3 .ensures);
-      points = laid (a .sum .points) _ _ _ _ _ _ points count (c .before .before .before .before .grown4 .ensures);
+      size = present (a .sum .size) _ _ _ _ _ _ size count (c .before .before .before .before .before .grown3 .ensures);
+      points = present (a .sum .points) _ _ _ _ _ _ points count (c .before .before .before .before .grown4 .ensures);
       fillSize = ⊎-elim (λ w. taken _ _ _ (a .sum .«fill_size») _ _ size (w .0 .taken) (w .1))
           (λ w. kept _ _ _ _ (w .0 .left) (w .1)) (c .before .before .before .if1 .came);
       fillPoints = ⊎-elim (λ w. taken _ _ _ (a .sum .«fill_points») _ _ points (w .0 .taken) (w .1))
           (λ w. kept _ _ _ _ (w .0 .left) (w .1)) (c .before .before .if2 .came);
-      unimplemented = ⊎-elim (λ w. first-holds (a .sum .unimplemented) (a .inside .unimplemented) _ _ (w .0 .taken) met)
-          (λ w. second-holds (a .sum .unimplemented) (a .inside .unimplemented) _ _ (w .0 .left) (w .1) met)
+      unimplemented = ⊎-elim (λ w. first-holds (a .sum .unimplemented) (a .inside .unimplemented) _ _ (w .0 .taken) visited)
+          (λ w. second-holds (a .sum .unimplemented) (a .inside .unimplemented) _ _ (w .0 .left) (w .1) visited)
           (c .before .if3 .came);
       next = refl;
     }
@@ -63,16 +63,16 @@ returns-2 c =
     let count = c .before .before .before .before .before .before .before .count-of .ensures .0 in
     let points = c .before .before .before .before .before .before .before .before .grown2 .ensures in
     let size = c .before .before .before .before .before .before .before .before .before .grown .ensures in
-    let unmet = c .before .if4 .left in
+    let unvisited = c .before .if4 .left in
     record {
-      size = laid (a .sum .size) _ _ _ _ _ _ size count (c .before .before .before .before .before .before .grown3 .ensures);
-      points = laid (a .sum .points) _ _ _ _ _ _ points count (c .before .before .before .before .before .grown4 .ensures);
+      size = present (a .sum .size) _ _ _ _ _ _ size count (c .before .before .before .before .before .before .grown3 .ensures);
+      points = present (a .sum .points) _ _ _ _ _ _ points count (c .before .before .before .before .before .grown4 .ensures);
       fillSize = ⊎-elim (λ w. taken _ _ _ (a .sum .«fill_size») _ _ size (w .0 .taken) (w .1))
           (λ w. kept _ _ _ _ (w .0 .left) (w .1)) (c .before .before .before .before .if1 .came);
       fillPoints = ⊎-elim (λ w. taken _ _ _ (a .sum .«fill_points») _ _ points (w .0 .taken) (w .1))
           (λ w. kept _ _ _ _ (w .0 .left) (w .1)) (c .before .before .before .if2 .came);
-      unimplemented = ⊎-elim (λ w. clash (sym (w .0 .taken) ∙ sym (w .1) ∙ unmet))
-          (λ w. third-counts (a .sum .unimplemented) (a .inside .unimplemented) _ _ _ (w .0 .left) (w .1) unmet
+      unimplemented = ⊎-elim (λ w. clash (sym (w .0 .taken) ∙ sym (w .1) ∙ unvisited))
+          (λ w. third-counts (a .sum .unimplemented) (a .inside .unimplemented) _ _ _ (w .0 .left) (w .1) unvisited
           (c .is-unimplemented .ensures))
           (c .before .before .if3 .came);
       next = refl;

@@ -3,7 +3,7 @@ use mathlib.Core.Path.{_≡_, refl, sym, _∙_}
 use Prim.Native.Nat.{_-_}
 use native.Mathlib.Omega.{arith}
 use borrow.Author.Needs.{needs}
-use Rattle.layout.proofs.ModelSearch.{topFrom, search-found, search-on, search-end, model-stands}
+use Rattle.layout.proofs.ModelSearch.{topFrom, search-found, search-on, search-end, model-accepted}
 use Rattle.listing.proofs.frames.find_model.Statement.{statement}
 use Rattle.listing.proofs.frames.find_model.Tie as tie
 
@@ -22,7 +22,7 @@ returns c =
     let l = c .before .before .before .loop in
     let ws = a .args .catalog .now in
     let here = sym (c .before .is-model .ensures) ∙ c .if1 .taken in
-    (search-found ws (a .args .id) (l .i) (omega arith) here ∙ l .inv, model-stands ws (a .args .id) (l .i) (a .pre) here)
+    (search-found ws (a .args .id) (l .i) (omega arith) here ∙ l .inv, model-accepted ws (a .args .id) (l .i) (a .pre) here)
 
 loop-again : tie.Need-loop-again Inv-loop μ-loop
 loop-again c =

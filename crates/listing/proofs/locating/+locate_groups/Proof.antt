@@ -7,14 +7,14 @@ use borrow.Author.Needs.{needs}
 use borrow.Fn.Kinds.{In}
 use borrow.Fn.PlainCycle.{Measures, is, falls, and}
 use lib.ListN.{length, getD}
-use Rattle.catalog_frames.specs.Forms.{headForm}
+use Rattle.catalog_frames.specs.CodeTypes.{toSpecHead}
 use Rattle.layout.specs.Layout.{countOf}
-use Rattle.layout.specs.Walks.{heldAt, levelOf, scopeIn}
+use Rattle.layout.specs.InternalWalks.{contentFrom, levelOf, scopeIn}
 use Rattle.layout.specs.Locating.{locatedIn}
-use Rattle.layout.proofs.Standing as standing
-use Rattle.definition_frames.specs.Answers.{groupOrForm}
-use Rattle.listing.specs.Answers.{locatedForm}
-use Rattle.listing.specs.Promises.{LocateAsks}
+use Rattle.layout.proofs.FramePosition as position
+use Rattle.definition_frames.specs.CodeTypes.{toSpecGroupOr}
+use Rattle.listing.specs.CodeTypes.{toSpecLocated}
+use Rattle.listing.specs.InternalContracts.{LocateAsks}
 use Rattle.listing.proofs.LocatedGroups as steps
 use Rattle.listing.proofs.LocatedGroups.{AtGroup}
 use Rattle.listing.proofs.locating.locate_groups.Reads as reads
@@ -55,9 +55,9 @@ abbrev Inv-loop : lts.InvT-loop
 Inv-loop catalog table fill levels key frames at₀ at =
     LocateAsks catalog table fill levels (at .frame) (at .offset)
     × (locatedIn (countOf (scopeIn table) fill) (key .number) (key .path .instances) (levelOf levels) (at .offset)
-    (heldAt catalog (at .frame) .groups)
+    (contentFrom catalog (at .frame) .groups)
     ≡ locatedIn (countOf (scopeIn table) fill) (key .number) (key .path .instances) (levelOf levels) (at₀ .offset)
-    (heldAt catalog (at₀ .frame) .groups))
+    (contentFrom catalog (at₀ .frame) .groups))
     × (frames ≡ length catalog / 8)
 
 abbrev μ-loop : lts.MeasureT-loop
@@ -76,11 +76,11 @@ module _ (t : ℕ) where
       → let a = c .before .before .before .before .before .before .before .before .before .before .args in
       let at = c .before .before .before .before .before .before .before .loop .at in
       AtGroup (a .catalog .now) (a .table .now) (a .fill) (a .levels) (at .frame) (at .offset)
-      (headForm (c .before .before .next .given .0 .0)) (c .shape-of .result)
+      (toSpecHead (c .before .before .next .given .0 .0)) (c .shape-of .result)
   there c =
       record {
         asks = c .before .before .before .before .before .before .before .loop .inv .0;
-        head = sym (c .before .before .before .before .group-at .ensures) ∙ ap groupOrForm (c .before .before .next .given .1);
+        head = sym (c .before .before .before .before .group-at .ensures) ∙ ap toSpecGroupOr (c .before .before .next .given .1);
         shape = c .shape-of .ensures;
       }
 
@@ -90,10 +90,10 @@ module _ (t : ℕ) where
   shape-of-requires : lts.Need-shape-of-requires (known t) (asked t) reads.Post Inv-loop μ-loop
   shape-of-requires c κs =
       let asks = c .before .before .before .before .before .before .loop .inv .0 in (
-        asks .standing,
+        asks .position,
         (
           (asks .isTable, asks .atMost3, asks .filling),
-          sym (c .before .before .before .group-at .ensures) ∙ ap groupOrForm (c .before .next .given .1),
+          sym (c .before .before .before .group-at .ensures) ∙ ap toSpecGroupOr (c .before .next .given .1),
         ),
       )
 
@@ -153,7 +153,7 @@ module _ (t : ℕ) where
       let a = here .before .before .before .before .before .before .before .before .before .before .before .args in
       let l : here .number-at .result < here .before .shape-of .result .count = omega (arith, c .before .before .before .before .before .if2) in
       let asks = here .before .before .before .before .before .before .before .before .loop .inv .0 in (
-        (steps.own-stands (there (here .before)), asks .standing .few),
+        (steps.own-parses (there (here .before)), asks .position .few),
         (
           steps.own-within (there (here .before)) (a .key .number) (a .key .path .instances)
               (at-number here) l,
@@ -167,7 +167,7 @@ module _ (t : ℕ) where
       let here = c .before .before .before .before .before .before .before .before .before .before .before in
       let a = here .before .before .before .before .before .before .before .before .before .before .before .args in
       let l : here .number-at .result < here .before .shape-of .result .count = omega (arith, c .before .before .before .before .before .before .before .before .before .if2) in
-      let e = sym (c .before .before .before .locate-own .ensures) ∙ ap locatedForm (c .before .found .given .1) in
+      let e = sym (c .before .before .before .locate-own .ensures) ∙ ap toSpecLocated (c .before .found .given .1) in
       steps.found-own (there (here .before)) (a .key .number) (a .key .path .instances)
       (at-number here) l e ∙ here .before .before .before .before .before .before .before .before .loop .inv .1
 
@@ -197,8 +197,8 @@ module _ (t : ℕ) where
       let here = c .before .before .before .before .before .before .before .before .before .before .before .before .before .before in
       let a = here .before .before .before .before .before .before .before .before .before .before .before .args in
       let l : here .number-at .result < here .before .shape-of .result .count = omega (arith, c .before .before .before .before .before .before .before .before .before .before .before .before .if2) in
-      let e = sym (c .before .before .before .before .before .before .locate-own .ensures) ∙ ap locatedForm (c .before .before .before .before .enum-told .given .1) in
-      let f = sym (c .before .before .before .locate-groups .ensures) ∙ ap locatedForm (c .before .found2 .given .1) in
+      let e = sym (c .before .before .before .before .before .before .locate-own .ensures) ∙ ap toSpecLocated (c .before .before .before .before .enum-told .given .1) in
+      let f = sym (c .before .before .before .locate-groups .ensures) ∙ ap toSpecLocated (c .before .found2 .given .1) in
       steps.found-lower (there (here .before)) (a .key .number) (a .key .path .instances)
       (at-number here) l e f ∙ here .before .before .before .before .before .before .before .before .loop .inv .1
 
@@ -224,8 +224,8 @@ module _ (t : ℕ) where
       let l : here .number-at .result < here .before .shape-of .result .count = omega (arith, w .0) in
       steps.found-neither (there (here .before)) (a .key .number) (a .key .path .instances)
       (at-number here) l
-      (sym (w .6 .ensures) ∙ ap locatedForm (w .8 .given .1))
-      (sym (w .9 .ensures) ∙ ap locatedForm (w .11 .given .1)))
+      (sym (w .6 .ensures) ∙ ap toSpecLocated (w .8 .given .1))
+      (sym (w .9 .ensures) ∙ ap toSpecLocated (w .11 .given .1)))
       (λ w. steps.goes-past (there (here .before)) (a .key .number) (a .key .path .instances)
       (at-number here) (omega (arith, w)))
       (c .before .before .if2 .came) in
@@ -235,13 +235,13 @@ module _ (t : ℕ) where
   returns-3 c =
       let a = c .before .before .before .before .before .before .before .before .args in
       let l = c .before .before .before .before .before .loop in
-      let e = sym (c .before .before .group-at .ensures) ∙ ap groupOrForm (c .enum-told3 .given .1) in
+      let e = sym (c .before .before .group-at .ensures) ∙ ap toSpecGroupOr (c .enum-told3 .given .1) in
       sym (steps.ends (l .inv .0) e (a .key .number) (a .key .path .instances)) ∙ l .inv .1
 
   returns-4 : lts.Need-returns-4 (known t) (asked t) reads.Post Inv-loop μ-loop
   returns-4 c =
       let l = c .before .before .loop in
-      let s = standing.stands-within (c .before .before .before .before .before .args .catalog .now) (l .at .frame) (l .inv .0 .standing .stands) in
+      let s = position.parses-within (c .before .before .before .before .before .args .catalog .now) (l .at .frame) (l .inv .0 .position .parses) in
       absurd (omega (arith, s, l .inv .2, c .if1))
 
 pub +locate-groups-spec : {M : Type 1} → statement M

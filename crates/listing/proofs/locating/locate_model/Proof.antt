@@ -5,12 +5,12 @@ use Prim.Native.Nat.{ℕ}
 use borrow.Author.Needs.{needs}
 use Rattle.model_definitions.specs.Definitions.{Groups, pointsSize}
 use Rattle.layout.specs.Layout.{countOf}
-use Rattle.layout.specs.Walks.{heldAt, scopeIn}
+use Rattle.layout.specs.InternalWalks.{contentFrom, scopeIn}
 use Rattle.layout.specs.Locating.{Located, orElse, locatedIn}
-use Rattle.layout.proofs.Standing as standing
-use Rattle.definition_frames.proofs.RunSteps.{held-run}
-use Rattle.listing.specs.Answers.{locatedForm}
-use Rattle.listing.specs.Promises.{RunOf, LocateAsks}
+use Rattle.layout.proofs.FramePosition as position
+use Rattle.definition_frames.proofs.RunSteps.{content-run}
+use Rattle.listing.specs.CodeTypes.{toSpecLocated}
+use Rattle.listing.specs.InternalContracts.{RunOf, LocateAsks}
 use Rattle.listing.proofs.locating.locate_model.Statement.{statement}
 use Rattle.listing.proofs.locating.locate_model.Tie as tie
 
@@ -23,8 +23,8 @@ lower s =
 returns : tie.Need-returns
 returns c =
     let s = c .before .before .before .before .before .before in
-    let top = heldAt (s .args .catalog .now) (s .args .first) in
-    let e = sym (c .before .before .before .locate-own .ensures) ∙ ap locatedForm (c .before .found .given .1) in
+    let top = contentFrom (s .args .catalog .now) (s .args .first) in
+    let e = sym (c .before .before .before .locate-own .ensures) ∙ ap toSpecLocated (c .before .found .given .1) in
     sym (ap (λ o. orElse o (lower s (pointsSize (top .points)) (top .groups))) e)
 
 enum-told : tie.Need-enum-told
@@ -36,7 +36,7 @@ top-run : (c : tie.After-run-extent) → RunOf (c .before .before .before .befor
 top-run c =
     let s = c .before .before .before .before .before .before in
     let a = s .args in
-    held-run (a .catalog .now) (a .first) (s .pre .0 .stands) (s .pre .0 .groups .standing .few) (c .run-extent .result)
+    content-run (a .catalog .now) (a .first) (s .pre .0 .parses) (s .pre .0 .groups .position .few) (c .run-extent .result)
     (c .run-extent .ensures)
 
 locate-groups-requires : tie.Need-locate-groups-requires
@@ -51,12 +51,12 @@ returns-2 : tie.Need-returns-2
 returns-2 c =
     let s = c .before .before .before .before .before .before .before in
     let a = s .args in
-    let top = heldAt (a .catalog .now) (a .first) in
+    let top = contentFrom (a .catalog .now) (a .first) in
     let run = top-run (c .before) in
-    let none = sym (c .before .before .before .before .locate-own .ensures) ∙ ap locatedForm (c .before .before .enum-told .given .1) in
-    let there : heldAt (a .catalog .now) (c .before .run-extent .result .next) .groups ≡ top .groups =
-    ap (λ n. heldAt (a .catalog .now) n .groups) (run .next)
-    ∙ standing.behind-run (a .catalog .now) (a .first) (s .pre .0 .stands) .1 in
+    let none = sym (c .before .before .before .before .locate-own .ensures) ∙ ap toSpecLocated (c .before .before .enum-told .given .1) in
+    let there : contentFrom (a .catalog .now) (c .before .run-extent .result .next) .groups ≡ top .groups =
+    ap (λ n. contentFrom (a .catalog .now) n .groups) (run .next)
+    ∙ position.after-run (a .catalog .now) (a .first) (s .pre .0 .parses) .1 in
     c .locate-groups .ensures
     ∙ ap (lower s (c .before .run-extent .result .size)) there
     ∙ ap (λ n. lower s n (top .groups)) (run .size)

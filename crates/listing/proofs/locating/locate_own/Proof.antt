@@ -7,7 +7,7 @@ use native.Mathlib.Omega.{arith}
 use borrow.Author.Needs.{needs}
 use lib.ListN.{drop}
 use Rattle.registers.specs.Registers.{allZero}
-use Rattle.layout.specs.Walks.{heldAt, begun}
+use Rattle.layout.specs.InternalWalks.{contentFrom, presentWithin}
 use Rattle.layout.specs.Locating.{Located, locatedAmong}
 use Rattle.listing.proofs.locating.locate_own.Statement.{statement}
 use Rattle.listing.proofs.locating.locate_own.Tie as tie
@@ -17,7 +17,7 @@ abbrev among : tie.Start → Option Located
 among s =
     let a = s .args in
     locatedAmong (a .key .number) (a .start .offset)
-    (begun (a .limit) (a .start .offset) (heldAt (a .catalog .now) (a .start .frame) .points))
+    (presentWithin (a .limit) (a .start .offset) (contentFrom (a .catalog .now) (a .start .frame) .points))
 
 by-rest : (s : tie.Start) {r : Option Located} {b : Bool}
     → b ≡ allZero (drop (3 - s .args .levels) (s .args .key .path .instances))

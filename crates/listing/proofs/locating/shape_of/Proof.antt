@@ -3,11 +3,11 @@ use mathlib.Core.Path.{sym, subst}
 use Prim.Native.Nat.{_+_, _-_}
 use native.Mathlib.Omega.{arith}
 use borrow.Author.Needs.{needs}
-use Rattle.layout.specs.Walks.{AtGroups}
-use Rattle.layout.proofs.Standing as standing
-use Rattle.definition_frames.proofs.RunSteps.{held-run}
-use Rattle.layout.proofs.IntoGroups as groups
-use Rattle.listing.specs.Promises.{RunOf}
+use Rattle.layout.specs.InternalWalks.{AtGroups}
+use Rattle.layout.proofs.FramePosition as position
+use Rattle.definition_frames.proofs.RunSteps.{content-run}
+use Rattle.layout.proofs.GroupDescent as groups
+use Rattle.listing.specs.InternalContracts.{RunOf}
 use Rattle.listing.proofs.ExtentWalks.{own-few}
 use Rattle.listing.proofs.LocatedGroups.{shape-is}
 use Rattle.listing.proofs.locating.shape_of.Statement.{statement}
@@ -17,7 +17,7 @@ add-run-extent : tie.Need-add-run-extent
 add-run-extent c =
     let s = c .before .before in
     let at = s .pre .0 in
-    omega (arith, standing.stands-within (s .args .catalog .now) (s .args .frame) (at .stands), at .few)
+    omega (arith, position.parses-within (s .args .catalog .now) (s .args .frame) (at .parses), at .few)
 
 -- The run is the points of the group.
 own-run : (c : tie.After-run-extent)
@@ -26,8 +26,8 @@ own-run c =
     let s = c .before .before .before in
     let a = s .args in
     let at = s .pre .0 in
-    let stands = standing.group-next (a .catalog .now) (a .frame) (at .stands) (at .noPoint) _ (s .pre .1 .1) .1 in
-    held-run (a .catalog .now) (a .frame + 1) stands (at .few) (c .run-extent .result) (c .run-extent .ensures)
+    let parses = position.group-next (a .catalog .now) (a .frame) (at .parses) (at .noPoint) _ (s .pre .1 .1) .1 in
+    content-run (a .catalog .now) (a .frame + 1) parses (at .few) (c .run-extent .result) (c .run-extent .ensures)
 
 sub-groups-extent : tie.Need-sub-groups-extent
 sub-groups-extent c =

@@ -5,11 +5,11 @@ use mathlib.Core.Path.{_≡_, refl, sym, ap, subst, _∙_}
 use mathlib.Core.List.{[]}
 use Prim.Native.Nat.{ℕ, _+_, _*_, _-_, _/_, _≤_, _<_}
 use lib.ListN.{length, getD, length-set}
-use Rattle.catalog_frames.specs.Forms.{headForm}
-use Rattle.layout.specs.Walks.{heldAt, Stands, pastEnd, levelOf}
-use Rattle.layout.proofs.Standing as standing
+use Rattle.catalog_frames.specs.CodeTypes.{toSpecHead}
+use Rattle.layout.specs.InternalWalks.{contentFrom, ParsesAt, pastEnd, levelOf}
+use Rattle.layout.proofs.FramePosition as position
 use Rattle.layout.proofs.PassedFrames.{group-passed}
-use Rattle.definition_frames.specs.Answers.{groupOrForm}
+use Rattle.definition_frames.specs.CodeTypes.{toSpecGroupOr}
 use Rattle.listing.specs.declared.records.Progress.{Progress}
 use Rattle.listing.proofs.InstanceSteps as steps
 use Rattle.listing.proofs.GroupsWriting.{Writing}
@@ -59,9 +59,9 @@ known t = (
 abbrev Inv-loop : lts.InvT-loop
 Inv-loop catalog table₀ out₀ model body levels instance frames at₀ j₀ table out at j =
     Writing body (model .visit) (model .fill) (levelOf levels) (instance .path .instances) table₀ out₀ (at₀ .records) (at₀ .offset)
-    (heldAt catalog (at₀ .frame) .groups) table out (at .records) (at .offset) j (heldAt catalog (at .frame) .groups)
-    × Stands catalog (at .frame)
-    × (heldAt catalog (at .frame) .points ≡ [])
+    (contentFrom catalog (at₀ .frame) .groups) table out (at .records) (at .offset) j (contentFrom catalog (at .frame) .groups)
+    × ParsesAt catalog (at .frame)
+    × (contentFrom catalog (at .frame) .points ≡ [])
     × (frames ≡ length catalog / 8)
     × (j ≤ 65535)
 
@@ -74,7 +74,7 @@ module _ (t : ℕ) where
   loop-holds c =
       let at-start = c .before .before .before .before in
       let a = at-start .pre .1 in
-      (steps.begins a, a .standing .stands, a .standing .noPoint, refl, omega arith)
+      (steps.begins a, a .position .parses, a .position .noPoint, refl, omega arith)
 
   enter-requires : lts.Need-enter-requires (known t) (asked t) reads.Post Inv-loop μ-loop
   enter-requires c κs =
@@ -84,7 +84,7 @@ module _ (t : ℕ) where
       let at-start = at-loop .before .before .before .before .before in
       let a = at-start .pre .1 in
       let l = at-loop .loop in
-      let e = sym (at-group-at .group-at .ensures) ∙ ap groupOrForm (at-next .next .given .1) in
+      let e = sym (at-group-at .group-at .ensures) ∙ ap toSpecGroupOr (at-next .next .given .1) in
       ((steps.level-left a (l .inv .0) (l .inv .1) (l .inv .2) e, a .atMost3), a .threeLevels)
 
   put-own-requires : lts.Need-put-own-requires (known t) (asked t) reads.Post Inv-loop μ-loop
@@ -97,7 +97,7 @@ module _ (t : ℕ) where
       let v = at-start .args in
       let a = at-start .pre .1 in
       let l = at-loop .loop in
-      let e = sym (at-group-at .group-at .ensures) ∙ ap groupOrForm (at-next .next .given .1) in
+      let e = sym (at-group-at .group-at .ensures) ∙ ap toSpecGroupOr (at-next .next .given .1) in
       let long = length-set (v .instance .path .instances) (levelOf (v .levels) - 2) (l .j) in (
         (l .inv .0 .isTable, ap length (c .before .before .enter .ensures) ∙ long ∙ a .threeLevels),
         steps.own-asks a (l .inv .0) (l .inv .1) (l .inv .2) e
@@ -114,7 +114,7 @@ module _ (t : ℕ) where
       let at-start = at-loop .before .before .before .before .before in
       let a = at-start .pre .1 in
       let l = at-loop .loop in
-      let e = sym (at-group-at .group-at .ensures) ∙ ap groupOrForm (at-next .next .given .1) in
+      let e = sym (at-group-at .group-at .ensures) ∙ ap toSpecGroupOr (at-next .next .given .1) in
       steps.level-left a (l .inv .0) (l .inv .1) (l .inv .2) e
 
   put-groups-requires : lts.Need-put-groups-requires (known t) (asked t) reads.Post Inv-loop μ-loop
@@ -131,7 +131,7 @@ module _ (t : ℕ) where
       let v = at-start .args in
       let a = at-start .pre .1 in
       let l = at-loop .loop in
-      let e = sym (at-group-at .group-at .ensures) ∙ ap groupOrForm (at-next .next .given .1) in
+      let e = sym (at-group-at .group-at .ensures) ∙ ap toSpecGroupOr (at-next .next .given .1) in
       let inv = l .inv in
       let words : (k : ℕ) → getD (v .catalog .now) k 0 < 65536 = λ k. omega (arith, at-slices .shared-slice-known .given k) in
       let path = at-enter .enter .ensures in
@@ -166,7 +166,7 @@ module _ (t : ℕ) where
       let v = at-start .args in
       let a = at-start .pre .1 in
       let l = at-loop .loop in
-      let e = sym (at-group-at .group-at .ensures) ∙ ap groupOrForm (at-next .next .given .1) in
+      let e = sym (at-group-at .group-at .ensures) ∙ ap toSpecGroupOr (at-next .next .given .1) in
       let inv = l .inv in
       let words : (k : ℕ) → getD (v .catalog .now) k 0 < 65536 = λ k. omega (arith, at-slices .shared-slice-known .given k) in
       let path = at-enter .enter .ensures in
@@ -191,14 +191,14 @@ module _ (t : ℕ) where
       let v = at-start .args in
       let l = at-loop .loop in
       let hd = at-next .next .given .0 .0 in
-      let e = sym (at-group-at .group-at .ensures) ∙ ap groupOrForm (at-next .next .given .1) in
-      let s = standing.group-next (v .catalog .now) (l .at .frame) (l .inv .1) (l .inv .2) (headForm hd) e .1 in
+      let e = sym (at-group-at .group-at .ensures) ∙ ap toSpecGroupOr (at-next .next .given .1) in
+      let s = position.group-next (v .catalog .now) (l .at .frame) (l .inv .1) (l .inv .2) (toSpecHead hd) e .1 in
       let f = ap (λ (x : Progress). x .frame) (c .at-frame2 .ensures) in
       omega (
         arith,
         f,
         c .before .after-group .ensures ∙ group-passed (v .catalog .now) (l .at .frame) s,
-        standing.past-end-within (v .catalog .now) (l .at .frame + 1) s,
+        position.past-end-within (v .catalog .now) (l .at .frame + 1) s,
         l .inv .3,
         at-if1 .if1,
       )
@@ -212,9 +212,9 @@ module _ (t : ℕ) where
       let v = at-start .args in
       let a = at-start .pre .1 in
       let l = at-loop .loop in
-      let e = sym (at-group-at .group-at .ensures) ∙ ap groupOrForm (at-next .next .given .1) in
-      let opened = standing.group-next (v .catalog .now) (l .at .frame) (l .inv .1) (l .inv .2) _ e .1 in
-      let s = steps.stands-past a (l .inv .0) (l .inv .1) (l .inv .2) e in
+      let e = sym (at-group-at .group-at .ensures) ∙ ap toSpecGroupOr (at-next .next .given .1) in
+      let opened = position.group-next (v .catalog .now) (l .at .frame) (l .inv .1) (l .inv .2) _ e .1 in
+      let s = steps.parses-past a (l .inv .0) (l .inv .1) (l .inv .2) e in
       let w = steps.passes a (l .inv .0) (l .inv .1) (l .inv .2) e
       (omega (arith, c .before .before .before .count-of .ensures .0, c .before .before .if2)) in
       let at-frame : ℕ → Progress = λ k. record { records = l .at .records; offset = l .at .offset; frame = k } in
@@ -235,16 +235,16 @@ module _ (t : ℕ) where
       let at-start = at-loop .before .before .before .before .before in
       let a = at-start .pre .1 in
       let l = at-loop .loop in
-      let e = sym (c .before .before .group-at .ensures) ∙ ap groupOrForm (c .enum-told .given .1) in
+      let e = sym (c .before .before .group-at .ensures) ∙ ap toSpecGroupOr (c .enum-told .given .1) in
       let d = steps.ends a (l .inv .0) (l .inv .1) (l .inv .2) e in
-      (record { records = d .1; offset = d .2 }, (d .0, (l .inv .0 .elsewhere, l .inv .0 .isTable)))
+      (record { records = d .1; offset = d .2 }, (d .0, (l .inv .0 .agreeExcept, l .inv .0 .isTable)))
 
   returns-2 : lts.Need-returns-2 (known t) (asked t) reads.Post Inv-loop μ-loop
   returns-2 c =
       let at-start = c .before .before .before .before .before .before .before in
       let v = at-start .args in
       let l = c .before .before .loop in
-      let s = standing.stands-within (v .catalog .now) (l .at .frame) (l .inv .1) in
+      let s = position.parses-within (v .catalog .now) (l .at .frame) (l .inv .1) in
       absurd (omega (arith, s, l .inv .3, c .if1))
 
 pub +put-groups-spec : {M : Type 1} → statement M

@@ -4,7 +4,7 @@ use mathlib.Core.Path.{_≡_, ap, _∙_}
 use Prim.Native.Nat.{_-_}
 use native.Mathlib.Omega.{arith}
 use lib.ListN.{set}
-use Rattle.layout.specs.Walks.{levelOf}
+use Rattle.layout.specs.InternalWalks.{levelOf}
 use Rattle.listing.proofs.records.enter.Statement.{statement}
 use Rattle.listing.proofs.records.enter.Tie as tie
 

@@ -6,9 +6,9 @@ use native.Mathlib.Omega.{arith}
 use lib.ListN.{length, getD}
 use Rattle.model_definitions.specs.Definitions.{pointsSize}
 use Rattle.layout.specs.Layout.{noInstance}
-use Rattle.layout.specs.Walks.{heldAt, instanceIn, begun}
+use Rattle.layout.specs.InternalWalks.{contentFrom, instanceIn, presentWithin}
 use Rattle.layout.proofs.PointCounts as counts
-use Rattle.listing.specs.Promises.{written}
+use Rattle.listing.specs.InternalContracts.{written}
 use Rattle.listing.proofs.ModelWriting as model
 use Rattle.listing.proofs.records.put_model.Statement.{statement}
 use Rattle.listing.proofs.records.put_model.Tie as tie
@@ -35,12 +35,12 @@ returns c =
     let rest = pre .1 .1 in
     let words : (k : ℕ) → getD (v .catalog .now) k 0 < 65536 = λ k. omega (arith, at-slices .shared-slice-known .given k) in
     let run = at-put-run .put-run .ensures .0 in
-    let e : pointsSize (begun (length (v .body .now)) 0 (heldAt (v .catalog .now) (v .first) .points)) ≡ length (v .body .now) =
+    let e : pointsSize (presentWithin (length (v .body .now)) 0 (contentFrom (v .catalog .now) (v .first) .points)) ≡ length (v .body .now) =
     omega (arith, run .offset, c .if1) in
     let a = model.all-points (v .visit) (v .records) (v .out .now) (pre .0) (pre .1 .0) words (rest .1 .0 .0) (rest .1 .0 .1)
     (rest .0) (rest .1 .1) e in
     let n = counts.points-counted (v .body .now) (instanceIn (v .table .now) noInstance) 0
-    (begun (length (v .body .now)) 0 (heldAt (v .catalog .now) (v .first) .points)) in
+    (presentWithin (length (v .body .now)) 0 (contentFrom (v .catalog .now) (v .first) .points)) in
     let wrote = at-put-run .put-run .ensures .1 ∙ ap (λ x. written (v .visit) (v .records) x (v .out .now)) a in
     (omega (arith, run .records, n, ap length a), (wrote, pre .1 .0 .isTable))
 
@@ -75,10 +75,10 @@ returns-2 c =
     (rest .0) (rest .1 .1) (λ e. at-if1 .if1 .left (omega (arith, run .offset, e))) in
     let wrote = at-put-run .put-run .ensures .1 in
     let g = at-put-groups .put-groups .ensures in (
-      model.records-behind (v .visit) (v .records) (v .out .now) (pre .0) (pre .1 .0) words (rest .1 .0 .0) (rest .1 .0 .1)
+      model.records-after (v .visit) (v .records) (v .out .now) (pre .0) (pre .1 .0) words (rest .1 .0 .0) (rest .1 .0 .1)
           (rest .0) (rest .1 .1) run (f .0) (f .1) wrote (g .0),
       (
-        model.list-behind (v .visit) (v .records) (v .out .now) (pre .0) (pre .1 .0) words (rest .1 .0 .0) (rest .1 .0 .1)
+        model.list-after (v .visit) (v .records) (v .out .now) (pre .0) (pre .1 .0) words (rest .1 .0 .0) (rest .1 .0 .1)
             (rest .0) (rest .1 .1) run (f .0) (f .1) wrote (g .1 .0),
         g .1 .1 .1,
       ),

@@ -7,11 +7,11 @@ use borrow.Author.Needs.{needs}
 use lib.ListN.{length, getD}
 use Rattle.catalog_frames.specs.Frames.{Point}
 use Rattle.layout.specs.Points.{ModelPoint}
-use Rattle.layout.specs.Walks.{heldAt, noted, begun}
-use Rattle.layout.proofs.Standing.{stands-within}
-use Rattle.layout.proofs.FrameRuns.{held-noted}
-use Rattle.layout.proofs.NotedPoints.{noted-length, numbers-in-table, begun-all, own-points}
-use Rattle.listing.specs.Promises.{written, RunAsks, BehindRun}
+use Rattle.layout.specs.InternalWalks.{contentFrom, tableWith, presentWithin}
+use Rattle.layout.proofs.FramePosition.{parses-within}
+use Rattle.layout.proofs.FrameRuns.{content-recorded}
+use Rattle.layout.proofs.RecordedPoints.{table-with-length, numbers-in-table, present-all, own-points}
+use Rattle.listing.specs.InternalContracts.{written, RunAsks, AfterRun}
 use Rattle.listing.specs.declared.records.Progress.{Progress}
 use Rattle.listing.proofs.records.put_own.Statement.{statement}
 use Rattle.listing.proofs.records.put_own.Tie as tie
@@ -19,7 +19,7 @@ use Rattle.listing.proofs.records.put_own.Tie as tie
 add-inside : tie.Need-add-inside
 add-inside c =
     let s = c .before .before .before .before .before in
-    omega (arith, stands-within (s .args .catalog .now) (s .args .at .frame + 1) (s .pre .1 .stands), s .pre .1 .few)
+    omega (arith, parses-within (s .args .catalog .now) (s .args .at .frame + 1) (s .pre .1 .parses), s .pre .1 .few)
 
 -- The progress in front of the points.
 abbrev start : tie.Start → Progress
@@ -27,23 +27,23 @@ start s = record { records = s .args .at .records; offset = s .args .at .offset;
 
 -- The points, and those that begin before the end of the body: all.
 abbrev own : tie.Start → List Point
-own s = heldAt (s .args .catalog .now) (s .args .at .frame + 1) .points
+own s = contentFrom (s .args .catalog .now) (s .args .at .frame + 1) .points
 
-abbrev ownBegun : tie.Start → List Point
-ownBegun s = begun (length (s .args .body .now)) (s .args .at .offset) (own s)
+abbrev ownPresent : tie.Start → List Point
+ownPresent s = presentWithin (length (s .args .body .now)) (s .args .at .offset) (own s)
 
-all-begun : (s : tie.Start) → ownBegun s ≡ own s
-all-begun s = begun-all (length (s .args .body .now)) (s .args .at .offset) (own s) (s .pre .1 .sized) (s .pre .1 .inside)
+all-are-present : (s : tie.Start) → ownPresent s ≡ own s
+all-are-present s = present-all (length (s .args .body .now)) (s .args .at .offset) (own s) (s .pre .1 .sized) (s .pre .1 .inside)
 
 put-run-requires : tie.Need-put-run-requires
 put-run-requires c κs =
     let noting = c .before .before .before .before in
     let s = noting .before .before .before .before .before .before .before in
     let a = s .args in
-    let isTable = ap length (noting .note-run .ensures) ∙ noted-length _ _ _ _ ∙ s .pre .0 .0 in (
+    let isTable = ap length (noting .record-run .ensures) ∙ table-with-length _ _ _ _ ∙ s .pre .0 .0 in (
       (isTable, s .pre .0 .1),
       subst (λ (ps : List Point). RunAsks (a .catalog .now) (a .body .now) (a .out .now) (a .visit) (start s) ps)
-          (sym (all-begun s)) (s .pre .1),
+          (sym (all-are-present s)) (s .pre .1),
     )
 
 returns : tie.Need-returns
@@ -55,18 +55,18 @@ returns c =
     let s = known .before in
     let a = s .args in
     let body = a .body .now in
-    let all = all-begun s in
-    let filled = noting .note-run .ensures
-    ∙ held-noted (a .catalog .now) (a .at .frame + 1) (s .pre .1 .stands) body (a .at .offset) (a .table .now) in
+    let all = all-are-present s in
+    let filled = noting .record-run .ensures
+    ∙ content-recorded (a .catalog .now) (a .at .frame + 1) (s .pre .1 .parses) body (a .at .offset) (a .table .now) in
     let words : (k : ℕ) → getD (a .catalog .now) k 0 < 65536 = λ k. omega (arith, known .shared-slice-known .given k) in
-    let numbers = numbers-in-table (a .catalog .now) words (a .at .frame + 1) (s .pre .1 .stands) in
+    let numbers = numbers-in-table (a .catalog .now) words (a .at .frame + 1) (s .pre .1 .parses) in
     let points = own-points body (a .at .offset) (own s) (a .table .now) (a .instance .path .instances)
-    (noting .note-run .last .1 .1 .1 .1 .0)
+    (noting .record-run .last .1 .1 .1 .1 .0)
     (s .pre .0 .0) numbers all filled in (
-      subst (λ (ps : List Point). BehindRun (start s) ps (put .result)) all (put .ensures .0),
+      subst (λ (ps : List Point). AfterRun (start s) ps (put .result)) all (put .ensures .0),
       (
         put .ensures .1 ∙ ap (λ (ps : List ModelPoint). written (a .visit) (a .at .records) ps (a .out .now)) points,
-        filled ∙ ap (λ (ps : List Point). noted body (a .at .offset) ps (a .table .now)) all,
+        filled ∙ ap (λ (ps : List Point). tableWith body (a .at .offset) ps (a .table .now)) all,
       ),
     )
 

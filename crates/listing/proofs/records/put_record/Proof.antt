@@ -5,9 +5,9 @@ use Prim.Native.Nat.{ℕ, _*_}
 use native.Mathlib.Omega.{arith}
 use lib.ListN.{getD}
 use lib.Seq.{sets}
-use Rattle.catalog_frames.specs.Forms.{pointForm}
+use Rattle.catalog_frames.specs.CodeTypes.{toSpecPoint}
 use Rattle.layout.specs.Points.{pointAt}
-use Rattle.layout.specs.Walks.{scopeIn, instanceIn}
+use Rattle.layout.specs.InternalWalks.{scopeIn, instanceIn}
 use Rattle.shown_points.proofs.PointClasses.{shown-at}
 use Rattle.listing.specs.Listing.{recordWidth}
 use Rattle.listing.proofs.PointRuns.{shown-numbers}
@@ -53,7 +53,7 @@ returns : tie.Need-returns
 returns c =
     let show = c .before .before .before .before .before .before .before .before .before .before .before in
     let a = c .before .before .before .before .before .before .before .before .before .before .before .before .before .before .before .before .before .before .before .before .args in
-    let p = pointForm (a .point) in
+    let p = toSpecPoint (a .point) in
     let register = scopeIn (a .table .now) (p .scale) in
     let shown = show .show .result in
     let at-body = show .before .before .before .before .before .before in

@@ -4,8 +4,8 @@ use Prim.Native.Nat.{_-_, _/_}
 use native.Mathlib.Omega.{arith}
 use borrow.Author.Needs.{needs}
 use lib.ListN.{length}
-use Rattle.catalog_frames.specs.Forms.{pointForm}
-use Rattle.definition_frames.specs.Answers.{pointOrForm}
+use Rattle.catalog_frames.specs.CodeTypes.{toSpecPoint}
+use Rattle.definition_frames.specs.CodeTypes.{toSpecPointOr}
 use Rattle.listing.proofs.PointRuns.{StillWrites, still-all, still-within, still-past, still-other, first-fits, still-first}
 use Rattle.listing.proofs.records.put_run.Statement.{statement}
 use Rattle.listing.proofs.records.put_run.Tie as tie
@@ -29,8 +29,8 @@ put-record-requires c κs =
     let head = c .before .before .before .before .before .before .before in
     let i = head .loop .inv in
     let read = c .before .before in
-    let f = sym (read .before .before .point-at .ensures) ∙ ap pointOrForm (read .next .given .1) in
-    let fits = first-fits i (pointForm (read .next .given .0 .0)) (c .before .before .before .before .before .if1 .taken) f in
+    let f = sym (read .before .before .point-at .ensures) ∙ ap toSpecPointOr (read .next .given .1) in
+    let fits = first-fits i (toSpecPoint (read .next .given .0 .0)) (c .before .before .before .before .before .if1 .taken) f in
     (head .before .before .before .before .before .pre .0, (fits .0, fits .1))
 
 add-t16 : tie.Need-add-t16 Inv-loop μ-loop
@@ -40,8 +40,8 @@ add-t16 c =
     let test = read .before .before .before in
     let l = test .before .before .loop in
     let start = test .before .before .before .before .before .before .before in
-    let f = sym (read .before .before .point-at .ensures) ∙ ap pointOrForm (read .next .given .1) in
-    let fits = first-fits (l .inv) (pointForm (read .next .given .0 .0)) (test .if1 .taken) f in
+    let f = sym (read .before .before .point-at .ensures) ∙ ap toSpecPointOr (read .next .given .1) in
+    let fits = first-fits (l .inv) (toSpecPoint (read .next .given .0 .0)) (test .if1 .taken) f in
     omega (arith, fits .1, l .inv .same, start .good .1 .1 .0 .0)
 
 add-t19 : tie.Need-add-t19 Inv-loop μ-loop
@@ -60,8 +60,8 @@ loop-again c =
     let put = c .before .before .before .before .before .before in
     let read = put .before .before .before in
     let test = read .before .before .before in
-    let f = sym (read .before .before .point-at .ensures) ∙ ap pointOrForm (read .next .given .1) in
-    still-first (test .before .before .loop .inv) (pointForm (read .next .given .0 .0)) (test .if1 .taken) f
+    let f = sym (read .before .before .point-at .ensures) ∙ ap toSpecPointOr (read .next .given .1) in
+    still-first (test .before .before .loop .inv) (toSpecPoint (read .next .given .0 .0)) (test .if1 .taken) f
     (put .put-record .last .1 .0) (put .put-record .ensures)
 
 enum-told : tie.Need-enum-told Inv-loop μ-loop
@@ -69,7 +69,7 @@ enum-told c = search needs
 
 returns : tie.Need-returns Inv-loop μ-loop
 returns c =
-    let f = sym (c .before .before .point-at .ensures) ∙ ap pointOrForm (c .enum-told .given .1) in
+    let f = sym (c .before .before .point-at .ensures) ∙ ap toSpecPointOr (c .enum-told .given .1) in
     still-other (c .before .before .before .before .before .loop .inv) f
 
 returns-2 : tie.Need-returns-2 Inv-loop μ-loop

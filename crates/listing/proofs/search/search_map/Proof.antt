@@ -8,14 +8,14 @@ use lib.Dec.{eqb}
 use lib.ListN.{length}
 use Rattle.lists.specs.Tests.{firstWith}
 use Rattle.model_definitions.specs.Definitions.{definitions}
-use Rattle.register_map.specs.Answers.{headerForm}
+use Rattle.register_map.specs.CodeTypes.{toSpecHeader}
 use Rattle.register_map.proofs.HeaderLaws.{opening-none}
 use Rattle.register_map.proofs.HeaderCases.{model-ends}
 use Rattle.layout.specs.Paths.{isPoint}
 use Rattle.layout.specs.Reading.{reading}
-use Rattle.layout.specs.Walks.{IsTable, pointsOf, readIn}
-use Rattle.listing.specs.Finding.{Told}
-use Rattle.listing.specs.Promises.{resultAt}
+use Rattle.layout.specs.InternalWalks.{IsTable, pointsOf, readIn}
+use Rattle.listing.specs.Finding.{Result}
+use Rattle.listing.specs.InternalContracts.{resultAt}
 use Rattle.listing.proofs.MapSteps.{body-length}
 use Rattle.listing.proofs.MapSearch.{Searching, search-starts, search-at, search-ends, search-refused, search-late, search-other, search-own}
 use Rattle.listing.proofs.search.search_map.Statement.{statement}
@@ -43,7 +43,7 @@ search-model-requires c κs =
     let v = s .args in
     let l = c .before .before .before .before .before .before .before .before .loop in
     let g = c .before .before .before .before .header .given in
-    let h = sym (c .before .before .before .before .before .before .header-at .ensures) ∙ ap headerForm (g .1) in
+    let h = sym (c .before .before .before .before .before .before .header-at .ensures) ∙ ap toSpecHeader (g .1) in
     let short = opening-none (v .map .now) (s .pre .1 .0) .0 in
     let ends = model-ends (eqb (l .at) 2) (v .map .now) (l .at) h in
     let all = ap length (c .before .part .ensures) ∙ body-length (v .map .now) (l .at) (g .0 .0) (g .0 .1 .0) h in
@@ -55,8 +55,8 @@ returns c =
     let v = s .args in
     let l = c .before .before .before .before .before .before .before .before .before .before .before .loop in
     let g = c .before .before .before .before .before .before .before .header .given in
-    let h = sym (c .before .before .before .before .before .before .before .before .before .header-at .ensures) ∙ ap headerForm (g .1) in
-    let found : List ℕ → Told = λ body.
+    let h = sym (c .before .before .before .before .before .before .before .before .before .header-at .ensures) ∙ ap toSpecHeader (g .1) in
+    let found : List ℕ → Result = λ body.
     resultAt (l .at) (firstWith (isPoint (v .key .number) (v .key .path .instances)) (pointsOf (readIn (v .catalog .now) (g .0 .0) body))) in
     c .before .before .search-model .ensures
     ∙ ap found (c .before .before .before .before .part .ensures)
@@ -66,7 +66,7 @@ loop-again : tie.Need-loop-again Inv-loop μ-loop
 loop-again c =
     let s = c .before .before .before .before .before .before .before .before .before .before .before in
     let l = c .before .before .before .before .before .before .before .loop in
-    let h = sym (c .before .before .before .before .before .header-at .ensures) ∙ ap headerForm (c .before .before .before .header .given .1) in
+    let h = sym (c .before .before .before .before .before .header-at .ensures) ∙ ap toSpecHeader (c .before .before .before .header .given .1) in
     let short = opening-none (s .args .map .now) (s .pre .1 .0) .0 in
     (search-at (c .after-model .ensures) (search-other (l .inv .0) h short (c .before .if1 .left)), l .inv .1)
 
@@ -75,12 +75,12 @@ enum-told c = search needs
 
 returns-2 : tie.Need-returns-2 Inv-loop μ-loop
 returns-2 c =
-    let h = sym (c .before .before .header-at .ensures) ∙ ap headerForm (c .enum-told .given .1) in
+    let h = sym (c .before .before .header-at .ensures) ∙ ap toSpecHeader (c .enum-told .given .1) in
     search-ends (c .before .before .before .before .loop .inv .0) (omega arith) h
 
 returns-3 : tie.Need-returns-3 Inv-loop μ-loop
 returns-3 c =
-    let h = sym (c .before .before .header-at .ensures) ∙ ap headerForm (c .enum-told2 .given .1) in
+    let h = sym (c .before .before .header-at .ensures) ∙ ap toSpecHeader (c .enum-told2 .given .1) in
     search-refused (c .before .before .before .before .loop .inv .0) (omega arith) h
 
 returns-4 : tie.Need-returns-4 Inv-loop μ-loop

@@ -9,10 +9,10 @@ use Rattle.lists.specs.Tests.{firstWith}
 use Rattle.layout.specs.Points.{ModelPoint}
 use Rattle.layout.specs.Paths.{isPoint}
 use Rattle.layout.specs.Reading.{Reading}
-use Rattle.layout.specs.Walks.{readIn}
-use Rattle.listing.specs.Finding.{nothingTold, foundTold}
-use Rattle.listing.specs.Answers.{surveyForm, locatedForm}
-use Rattle.listing.specs.Promises.{ReadyBy, resultAt}
+use Rattle.layout.specs.InternalWalks.{readIn}
+use Rattle.listing.specs.Finding.{nothingResult, foundResult}
+use Rattle.listing.specs.CodeTypes.{toSpecSurvey, toSpecLocated}
+use Rattle.listing.specs.InternalContracts.{ReadyBy, resultAt}
 use Rattle.listing.proofs.MapSurvey.{no-points-unknown, no-points-refused, has-points}
 use Rattle.listing.proofs.LocatedModels as model
 use Rattle.listing.proofs.search.search_model.Statement.{statement}
@@ -24,7 +24,7 @@ read s = readIn (s .args .catalog .now) (s .args .id) (s .args .body .now)
 
 -- Without points none is found.
 nothing-found : (s : tie.Start) {ps : List ModelPoint} → ps ≡ []
-    → nothingTold ≡ resultAt (s .args .at) (firstWith (isPoint (s .args .key .number) (s .args .key .path .instances)) ps)
+    → nothingResult ≡ resultAt (s .args .at) (firstWith (isPoint (s .args .key .number) (s .args .key .path .instances)) ps)
 unfolding firstWith
 nothing-found s e = sym (ap (λ qs. resultAt (s .args .at) (firstWith (isPoint (s .args .key .number) (s .args .key .path .instances)) qs)) e)
 
@@ -42,7 +42,7 @@ locate-model-requires c κs =
     let m = c .before .before .before .before .before .before in
     let ready = subst (ReadyBy (v .catalog .now) (v .id) (v .body .now) (m .survey-model .last .1 .0)) (c .before .before .survey .given .1)
     (m .survey-model .ensures .1 .0) in
-    let has = has-points (read s) (sym (ap surveyForm (c .before .before .survey .given .1)) ∙ m .survey-model .ensures .0) in
+    let has = has-points (read s) (sym (ap toSpecSurvey (c .before .before .survey .given .1)) ∙ m .survey-model .ensures .0) in
     (model.model-asks (s .pre .0) ready (words m) has (s .pre .1 .1 .0), s .pre .1 .0 .1)
 
 target-at-requires : tie.Need-target-at-requires
@@ -52,19 +52,19 @@ target-at-requires c κs =
     let m = c .before .before .before .before .before .before .before .before .before .before in
     let ready = subst (ReadyBy (v .catalog .now) (v .id) (v .body .now) (m .survey-model .last .1 .0)) (c .before .before .before .before .before .before .survey .given .1)
     (m .survey-model .ensures .1 .0) in
-    let has = has-points (read s) (sym (ap surveyForm (c .before .before .before .before .before .before .survey .given .1)) ∙ m .survey-model .ensures .0) in
-    let e = sym (c .before .before .before .locate-model .ensures) ∙ ap locatedForm (c .before .located .given .1) in
+    let has = has-points (read s) (sym (ap toSpecSurvey (c .before .before .before .before .before .before .survey .given .1)) ∙ m .survey-model .ensures .0) in
+    let e = sym (c .before .before .before .locate-model .ensures) ∙ ap toSpecLocated (c .before .located .given .1) in
     (s .pre .1 .1 .1, omega (arith, model.one-found (s .pre .0) ready (words m) has (s .pre .1 .1 .0) (v .key .number) (v .key .path .instances) (s .pre .1 .0 .1) (v .at) e .0, s .pre .1 .1 .0))
 
 returns : tie.Need-returns
 returns c =
     let s = c .before .before .before .before .before .before .before .before .before in
-    nothing-found s (no-points-unknown (read s) (sym (ap surveyForm (c .enum-told .given .1)) ∙ c .before .before .before .before .survey-model .ensures .0))
+    nothing-found s (no-points-unknown (read s) (sym (ap toSpecSurvey (c .enum-told .given .1)) ∙ c .before .before .before .before .survey-model .ensures .0))
 
 returns-2 : tie.Need-returns-2
 returns-2 c =
     let s = c .before .before .before .before .before .before .before .before .before in
-    nothing-found s (no-points-refused (read s) (sym (ap surveyForm (c .enum-told2 .given .1)) ∙ c .before .before .before .before .survey-model .ensures .0))
+    nothing-found s (no-points-refused (read s) (sym (ap toSpecSurvey (c .enum-told2 .given .1)) ∙ c .before .before .before .before .survey-model .ensures .0))
 
 returns-3 : tie.Need-returns-3
 returns-3 c =
@@ -73,9 +73,9 @@ returns-3 c =
     let m = c .before .before .before .before .before .before .before .before .before .before .before in
     let ready = subst (ReadyBy (v .catalog .now) (v .id) (v .body .now) (m .survey-model .last .1 .0)) (c .before .before .before .before .before .before .before .survey .given .1)
     (m .survey-model .ensures .1 .0) in
-    let has = has-points (read s) (sym (ap surveyForm (c .before .before .before .before .before .before .before .survey .given .1)) ∙ m .survey-model .ensures .0) in
-    let e = sym (c .before .before .before .before .locate-model .ensures) ∙ ap locatedForm (c .before .before .located .given .1) in
-    ap foundTold (c .target-at .ensures) ∙ model.one-found (s .pre .0) ready (words m) has (s .pre .1 .1 .0) (v .key .number) (v .key .path .instances) (s .pre .1 .0 .1) (v .at) e .1
+    let has = has-points (read s) (sym (ap toSpecSurvey (c .before .before .before .before .before .before .before .survey .given .1)) ∙ m .survey-model .ensures .0) in
+    let e = sym (c .before .before .before .before .locate-model .ensures) ∙ ap toSpecLocated (c .before .before .located .given .1) in
+    ap foundResult (c .target-at .ensures) ∙ model.one-found (s .pre .0) ready (words m) has (s .pre .1 .1 .0) (v .key .number) (v .key .path .instances) (s .pre .1 .0 .1) (v .at) e .1
 
 returns-4 : tie.Need-returns-4
 returns-4 c =
@@ -84,8 +84,8 @@ returns-4 c =
     let m = c .before .before .before .before .before .before .before .before .before in
     let ready = subst (ReadyBy (v .catalog .now) (v .id) (v .body .now) (m .survey-model .last .1 .0)) (c .before .before .before .before .before .survey .given .1)
     (m .survey-model .ensures .1 .0) in
-    let has = has-points (read s) (sym (ap surveyForm (c .before .before .before .before .before .survey .given .1)) ∙ m .survey-model .ensures .0) in
-    let e = sym (c .before .before .locate-model .ensures) ∙ ap locatedForm (c .enum-told3 .given .1) in
+    let has = has-points (read s) (sym (ap toSpecSurvey (c .before .before .before .before .before .survey .given .1)) ∙ m .survey-model .ensures .0) in
+    let e = sym (c .before .before .locate-model .ensures) ∙ ap toSpecLocated (c .enum-told3 .given .1) in
     model.none-found (s .pre .0) ready (words m) has (s .pre .1 .1 .0) (v .key .number) (v .key .path .instances) (s .pre .1 .0 .1) (v .at) e
 
 pub search-model-spec : {M : Type 1} → statement M

@@ -2,7 +2,7 @@
 use mathlib.Core.Path.{ap, _∙_}
 use borrow.Author.Needs.{needs}
 use Rattle.registers.specs.Registers.{shownRaw}
-use Rattle.catalog_frames.specs.Forms.{pointForm}
+use Rattle.catalog_frames.specs.CodeTypes.{toSpecPoint}
 use Rattle.listing.proofs.search.target_at.Statement.{statement}
 use Rattle.listing.proofs.search.target_at.Tie as tie
 
@@ -12,7 +12,7 @@ returns c =
     let raw = c .raw-value .ensures .0 ∙ ap shownRaw (c .before .part .ensures) in
     λ k. record {
       address = c .before .before .before .body-address .ensures k;
-      definition = pointForm (a .location .point);
+      definition = toSpecPoint (a .location .point);
       raw = raw k;
     }
 

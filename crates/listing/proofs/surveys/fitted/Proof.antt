@@ -5,9 +5,9 @@ use native.Mathlib.Nat.{mul-le-mul}
 use native.Mathlib.Omega.{arith}
 use borrow.Author.Needs.{needs}
 use Rattle.layout.specs.Counts.{or0}
-use Rattle.group_instances.specs.Fills.{fillForm}
+use Rattle.group_instances.specs.Fills.{toSpecFill}
 use Rattle.group_instances.proofs.FillCounts.{few-fills}
-use Rattle.listing.specs.Promises.{surveyedBy}
+use Rattle.listing.specs.InternalContracts.{surveyedBy}
 use Rattle.listing.proofs.surveys.fitted.Statement.{statement}
 use Rattle.listing.proofs.surveys.fitted.Tie as tie
 
@@ -15,7 +15,7 @@ use Rattle.listing.proofs.surveys.fitted.Tie as tie
 few : (c : tie.After-filled) → c .filled .given .0 .0 * c .before .before .before .before .before .before .before .args .groups .«fill_points» ≤ 65535 * 65536
 few c =
     let a = c .before .before .before .before .before .before .before .args in
-    let e = ap or0 (ap fillForm (sym (c .filled .given .1)) ∙ c .before .before .fill-count .ensures) in
+    let e = ap or0 (ap toSpecFill (sym (c .filled .given .1)) ∙ c .before .before .fill-count .ensures) in
     let count : c .filled .given .0 .0 ≤ 65535 =
     omega (arith, e, few-fills (a .length) (a .run .size + a .groups .size) (a .groups .«fill_size»)) in
     let each : a .groups .«fill_points» ≤ 65536 = omega arith in
@@ -34,13 +34,13 @@ returns : tie.Need-returns
 returns c =
     let a = c .before .before .before .before .before .before .before .before .before .args in
     ap (λ o. surveyedBy (a .first) (a .run) (a .groups) o)
-    (ap fillForm (sym (c .before .before .filled .given .1)) ∙ c .before .before .before .before .fill-count .ensures)
+    (ap toSpecFill (sym (c .before .before .filled .given .1)) ∙ c .before .before .before .before .fill-count .ensures)
 
 returns-2 : tie.Need-returns-2
 returns-2 c =
     let a = c .before .before .before .before .before .before .before .args in
     ap (λ o. surveyedBy (a .first) (a .run) (a .groups) o)
-    (ap fillForm (sym (c .enum-told .given .1)) ∙ c .before .before .fill-count .ensures)
+    (ap toSpecFill (sym (c .enum-told .given .1)) ∙ c .before .before .fill-count .ensures)
 
 pub fitted-spec : {M : Type 1} → statement M
 fitted-spec =

@@ -6,12 +6,12 @@ use lib.ListN.{length, getD}
 use Rattle.catalog.specs.Rules.{run}
 use Rattle.model_definitions.specs.Definitions.{pointsSize}
 use Rattle.layout.specs.Reading.{padLeftOut}
-use Rattle.layout.specs.Walks.{onward, heldAt, noted, begun, begunAt}
-use Rattle.layout.proofs.FrameRuns.{held-noted}
-use Rattle.definition_frames.proofs.RunSteps.{held-run}
-use Rattle.definition_frames.proofs.PadTests.{held-pad}
+use Rattle.layout.specs.InternalWalks.{onward, contentFrom, tableWith, presentWithin, presentPoints}
+use Rattle.layout.proofs.FrameRuns.{content-recorded}
+use Rattle.definition_frames.proofs.RunSteps.{content-run}
+use Rattle.definition_frames.proofs.PadTests.{content-pad}
 use Rattle.layout.proofs.AcceptedModels.{accepted-few}
-use Rattle.listing.specs.Promises.{RunOf}
+use Rattle.listing.specs.InternalContracts.{RunOf}
 use Rattle.listing.proofs.SurveyedModels as models
 use Rattle.listing.proofs.SurveyedByFrames as laws
 use Rattle.listing.proofs.surveys.survey_known.Statement.{statement}
@@ -24,26 +24,26 @@ top-run : (c : tie.After-run-extent) → RunOf (c .before .before .before .befor
 top-run c =
     let b = c .before .before .before .before in
     let a = b .args in
-    held-run (a .catalog .now) (a .first) (b .pre .1 .1 .0) (accepted-few (a .catalog .now) (b .pre .0)) (c .run-extent .result)
+    content-run (a .catalog .now) (a .first) (b .pre .1 .1 .0) (accepted-few (a .catalog .now) (b .pre .0)) (c .run-extent .result)
     (c .run-extent .ensures)
 
 -- So the test of the pad is that of the definition.
 pad-test : (c : tie.After-is-pad-left-out) → let a = c .before .before .before .before .before .args in
-    c .is-pad-left-out .result ≡ padLeftOut (a .id) (heldAt (a .catalog .now) (a .first)) (length (a .body .now))
+    c .is-pad-left-out .result ≡ padLeftOut (a .id) (contentFrom (a .catalog .now) (a .first)) (length (a .body .now))
 pad-test c =
     let b = c .before .before .before .before .before in
     let a = b .args in
     c .is-pad-left-out .ensures
-    ∙ held-pad (a .catalog .now) (a .first) (b .pre .1 .1 .0) (c .before .run-extent .result) (top-run (c .before)) (a .id)
+    ∙ content-pad (a .catalog .now) (a .first) (b .pre .1 .1 .0) (c .before .run-extent .result) (top-run (c .before)) (a .id)
     (length (a .body .now))
 
 -- Where the definition is found, the points recorded are those of its top group.
-top-noted : (b : tie.Start) → let a = b .args in
-    noted (a .body .now) 0 (begun (length (a .body .now)) 0 (run (onward (a .catalog .now) (a .first)))) (a .table .now)
-    ≡ noted (a .body .now) 0 (begunAt (a .catalog .now) (a .body .now) 0 (a .first)) (a .table .now)
-top-noted b =
+top-recorded : (b : tie.Start) → let a = b .args in
+    tableWith (a .body .now) 0 (presentWithin (length (a .body .now)) 0 (run (onward (a .catalog .now) (a .first)))) (a .table .now)
+    ≡ tableWith (a .body .now) 0 (presentPoints (a .catalog .now) (a .body .now) 0 (a .first)) (a .table .now)
+top-recorded b =
     let a = b .args in
-    held-noted (a .catalog .now) (a .first) (b .pre .1 .1 .0) (a .body .now) 0 (a .table .now)
+    content-recorded (a .catalog .now) (a .first) (b .pre .1 .1 .0) (a .body .now) 0 (a .table .now)
 
 sub-t13 : tie.Need-sub-t13
 sub-t13 c =
@@ -63,7 +63,7 @@ returns c =
     let a = b .args in
     let e = sym (pad-test at-is-pad-left-out) ∙ c .before .before .before .before .before .if1 .taken in
     laws.pad-left-out (a .id) (b .pre .0) (b .pre .1 .1 .0) (b .pre .1 .1 .1) (a .body .now) (a .table .now) (b .pre .1 .0 .0)
-    (c .before .before .before .note-run .ensures ∙ top-noted b) (top-run at-run-extent) e
+    (c .before .before .before .record-run .ensures ∙ top-recorded b) (top-run at-run-extent) e
 
 returns-2 : tie.Need-returns-2
 returns-2 c =
@@ -72,9 +72,9 @@ returns-2 c =
     let ws = a .catalog .now in
     let r = top-run (c .before .before .before .before) in
     let e = sym (pad-test (c .before .before .before)) ∙ c .before .before .if1 .left in
-    let short : length (a .body .now) < pointsSize (heldAt ws (a .first) .points) =
+    let short : length (a .body .now) < pointsSize (contentFrom ws (a .first) .points) =
     omega (arith, c .if2 .taken, r .size) in
-    (models.below-surveyed (a .id) (heldAt ws (a .first)) (a .body .now) e short, (tt, b .pre .1 .0 .0))
+    (models.below-surveyed (a .id) (contentFrom ws (a .first)) (a .body .now) e short, (tt, b .pre .1 .0 .0))
 
 groups-extent-requires : tie.Need-groups-extent-requires
 groups-extent-requires c κs =
@@ -85,7 +85,7 @@ groups-extent-requires c κs =
       laws.at-groups (a .id) (b .pre .0) (b .pre .1 .1 .0) (b .pre .1 .1 .1) r,
       (
         laws.still-table (a .id) (b .pre .0) (b .pre .1 .1 .0) (b .pre .1 .1 .1) (a .body .now) (a .table .now) (b .pre .1 .0 .0)
-            (c .before .before .before .note-run2 .ensures ∙ top-noted b),
+            (c .before .before .before .record-run2 .ensures ∙ top-recorded b),
         omega arith,
       ),
     )
@@ -103,14 +103,14 @@ returns-3 c =
     let words : (k : ℕ) → getD ws k 0 < 65536 = λ k. omega (arith, at-slices .shared-slice-known .given k) in
     let r = top-run at-run-extent in
     let e = sym (pad-test at-is-pad-left-out) ∙ at-if1 .if1 .left in
-    let n = c .before .before .before .before .before .note-run2 in
-    let long : pointsSize (heldAt ws (a .first) .points) ≤ length (a .body .now) =
+    let n = c .before .before .before .before .before .record-run2 in
+    let long : pointsSize (contentFrom ws (a .first) .points) ≤ length (a .body .now) =
     omega (arith, at-if2 .if2 .left, r .size) in
     let u = laws.unimplemented (a .id) (b .pre .0) (b .pre .1 .1 .0) (b .pre .1 .1 .1) (a .body .now) (a .table .now)
-    (b .pre .1 .0 .0) (n .ensures ∙ top-noted b) words (b .pre .1 .0 .1) e long
+    (b .pre .1 .0 .0) (n .ensures ∙ top-recorded b) words (b .pre .1 .0 .1) e long
     r (c .before .groups-extent .ensures .0) (c .if3 .taken) in
     let t = laws.still-table (a .id) (b .pre .0) (b .pre .1 .1 .0) (b .pre .1 .1 .1) (a .body .now) (a .table .now)
-    (b .pre .1 .0 .0) (n .ensures ∙ top-noted b) in
+    (b .pre .1 .0 .0) (n .ensures ∙ top-recorded b) in
     (u, (tt, t))
 
 fitted-requires : tie.Need-fitted-requires
@@ -140,11 +140,11 @@ returns-4 c =
     let words : (k : ℕ) → getD ws k 0 < 65536 = λ k. omega (arith, at-slices .shared-slice-known .given k) in
     let r = top-run at-run-extent in
     let e = sym (pad-test at-is-pad-left-out) ∙ at-if1 .if1 .left in
-    let n = at-note-run2 .note-run2 in
-    let long : pointsSize (heldAt ws (a .first) .points) ≤ length (a .body .now) =
+    let n = at-note-run2 .record-run2 in
+    let long : pointsSize (contentFrom ws (a .first) .points) ≤ length (a .body .now) =
     omega (arith, at-if2 .if2 .left, r .size) in
     laws.surveyed-here (a .id) (b .pre .0) (b .pre .1 .1 .0) (b .pre .1 .1 .1) (a .body .now) (a .table .now) (b .pre .1 .0 .0)
-    (n .ensures ∙ top-noted b) words (b .pre .1 .0 .1) e long
+    (n .ensures ∙ top-recorded b) words (b .pre .1 .0 .1) e long
     r (c .before .before .groups-extent .ensures .0) (c .before .if3 .left) (c .fitted .ensures)
 
 pub survey-known-spec : {M : Type 1} → statement M

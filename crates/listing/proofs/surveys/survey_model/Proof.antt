@@ -1,10 +1,10 @@
 -- `listing::surveys::survey_model` meets its contract: it surveys by the definition that is found.
 use mathlib.Core.Path.{sym, ap, subst, _∙_}
 use Rattle.model_definitions.specs.Definitions.{definitions}
-use Rattle.layout.specs.Walks.{heldAt, surveyed}
+use Rattle.layout.specs.InternalWalks.{contentFrom, surveyed}
 use Rattle.layout.proofs.AcceptedModels.{read-known, read-unknown}
-use Rattle.listing.specs.Answers.{foundForm}
-use Rattle.listing.specs.Promises.{FoundStands}
+use Rattle.listing.specs.CodeTypes.{toSpecFound}
+use Rattle.listing.specs.InternalContracts.{FoundParses}
 use Rattle.listing.proofs.surveys.survey_model.Statement.{statement}
 use Rattle.listing.proofs.surveys.survey_model.Tie as tie
 use borrow.Author.Needs.{needs}
@@ -16,8 +16,8 @@ survey-known-requires c κs =
     let ws = a .catalog .now in
     let f = c .before .before .before .before .find-model in
     let here = c .before .before .found .given .1 in
-    let stands = subst (FoundStands ws) here (f .ensures .1) in
-    (b .pre .0, ((b .pre .1 .0, b .pre .1 .1), (stands, sym (f .ensures .0) ∙ ap (foundForm ws) here)))
+    let parses = subst (FoundParses ws) here (f .ensures .1) in
+    (b .pre .0, ((b .pre .1 .0, b .pre .1 .1), (parses, sym (f .ensures .0) ∙ ap (toSpecFound ws) here)))
 
 enum-told : tie.Need-enum-told
 enum-told c = search needs
@@ -30,10 +30,10 @@ returns c =
     let ws = a .catalog .now in
     let f = at-find-model .find-model in
     let here = c .before .before .before .before .before .found .given .1 in
-    let known = sym (f .ensures .0) ∙ ap (foundForm ws) here in
+    let known = sym (f .ensures .0) ∙ ap (toSpecFound ws) here in
     let k = c .before .before .survey-known in
     let read = read-known (definitions ws) (a .id) (a .body .now)
-    (heldAt ws (c .before .before .before .before .before .found .given .0 .0)) known in
+    (contentFrom ws (c .before .before .before .before .before .found .given .0 .0)) known in
     (k .ensures .0 ∙ sym (ap surveyed read), k .ensures .1)
 
 returns-2 : tie.Need-returns-2
@@ -42,7 +42,7 @@ returns-2 c =
     let a = b .args in
     let ws = a .catalog .now in
     let f = c .before .before .find-model in
-    let none = sym (f .ensures .0) ∙ ap (foundForm ws) (c .enum-told .given .1) in
+    let none = sym (f .ensures .0) ∙ ap (toSpecFound ws) (c .enum-told .given .1) in
     (sym (ap surveyed (read-unknown (definitions ws) (a .id) (a .body .now) none)), (tt, b .pre .1 .0))
 
 pub survey-model-spec : {M : Type 1} → statement M

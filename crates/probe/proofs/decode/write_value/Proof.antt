@@ -1,13 +1,13 @@
 -- `probe::decode::write_value` is safe: a float's bits are asked for only where it is no NaN, which is what `values::decode` says of its answer.
 use mathlib.Core.Path.{sym, ap, _∙_}
-use Rattle.values.specs.Answers.{answer}
+use Rattle.values.specs.CodeTypes.{toSpecValue}
 use Rattle.values.proofs.NoNaN.{no-nan}
 use borrow.Author.Needs.{needs}
 use Rattle.probe.proofs.decode.write_value.Statement.{statement}
 use Rattle.probe.proofs.decode.write_value.Tie as tie
 
 float-to-bits-float : tie.Need-float-to-bits-float
-float-to-bits-float c = let called = c .before .before .before in no-nan (called .before .args .type-code) (called .before .args .registers) _ (sym (called .decode .ensures) ∙ ap answer (c .before .value3 .given .1))
+float-to-bits-float c = let called = c .before .before .before in no-nan (called .before .args .type-code) (called .before .args .registers) _ (sym (called .decode .ensures) ∙ ap toSpecValue (c .before .value3 .given .1))
 
 pub write-value-spec : {M : Type 1} → statement M
 write-value-spec =

@@ -28,7 +28,7 @@ returns c =
     let bytes = c .before .before .args .bytes .now in
     let l = c .before .loop in
     let past : length bytes ≤ l .i = omega arith in
-    record { stored = rw (drop-of-length-le bytes past) at (l .inv .0); behind = omega arith }
+    record { stored = rw (drop-of-length-le bytes past) at (l .inv .0); ends = omega arith }
 
 pub put-bytes-spec : {M : Type 1} → statement M
 put-bytes-spec =

@@ -2,7 +2,7 @@
 use native.Mathlib.Omega.{arith}
 use borrow.Author.Needs.{needs}
 use Rattle.display.proofs.StoredTexts.{put-both}
-use Rattle.report.proofs.NumberTexts.{behind-last, behind-other}
+use Rattle.report.proofs.NumberTexts.{separator-last, separator-other}
 use Rattle.report.proofs.text.put_entry.Statement.{statement}
 use Rattle.report.proofs.text.put_entry.Tie as tie
 
@@ -12,7 +12,7 @@ returns c =
     let i = c .before .before .before .before .before in
     let p = i .before .before .before in
     let index = p .before .before .before .args .index in
-    (rw (behind-last index (i .if1 .taken)) (put-both (p .put-number .ensures .0) put), omega (arith, put .behind))
+    (rw (separator-last index (i .if1 .taken)) (put-both (p .put-number .ensures .0) put), omega (arith, put .ends))
 
 returns-2 : tie.Need-returns-2
 returns-2 c =
@@ -20,7 +20,7 @@ returns-2 c =
     let i = c .before .before .before .before .before in
     let p = i .before .before .before in
     let index = p .before .before .before .args .index in
-    (rw (behind-other index (i .if1 .left)) (put-both (p .put-number .ensures .0) put), omega (arith, put .behind))
+    (rw (separator-other index (i .if1 .left)) (put-both (p .put-number .ensures .0) put), omega (arith, put .ends))
 
 pub put-entry-spec : {M : Type 1} → statement M
 put-entry-spec =

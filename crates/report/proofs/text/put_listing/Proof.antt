@@ -19,7 +19,7 @@ returns c =
     let headers = put-both (put-both points (g .put-bytes2 .ensures)) (h .put-number2 .ensures .0) in
     let put = put-both headers (put-both (e .put-bytes3 .ensures) (n .put-numbers .ensures .0)) in
     let first : e .put-bytes3 .result ≤ 57 =
-    omega (arith, o .put-bytes .ensures .behind, p .put-number .ensures .1) in
+    omega (arith, o .put-bytes .ensures .ends, p .put-number .ensures .1) in
     (put, omega (arith, put-length put, s .pre .0, s .pre .1))
 
 pub put-listing-spec : {M : Type 1} → statement M

@@ -27,7 +27,7 @@ returns c =
     let n = c .before .before .before .before .before .before .before .before .args .n in
     let twenty : length (d .result .bytes) ≡ 20 = search needs in (
       put-same (digits-cut (d .result) n (d .ensures .0)) put,
-      omega (arith, put .behind, length-take-le (d .result .count) (d .result .bytes) (d .ensures .1)),
+      omega (arith, put .ends, length-take-le (d .result .count) (d .result .bytes) (d .ensures .1)),
     )
 
 pub put-number-spec : {M : Type 1} → statement M

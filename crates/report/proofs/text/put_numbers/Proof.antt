@@ -4,9 +4,9 @@ use Prim.Native.Nat.{ℕ, _+_, _-_, _*_, _≤_}
 use native.Mathlib.Omega.{arith}
 use borrow.Author.Needs.{needs}
 use lib.ListN.{take}
-use Rattle.display.specs.Parts.{Put}
+use Rattle.display.specs.InternalParts.{Put}
 use Rattle.display.proofs.StoredTexts.{put-both, put-same, put-length}
-use Rattle.report.specs.Promises.{numbersText}
+use Rattle.report.specs.InternalContracts.{numbersText}
 use Rattle.report.proofs.NumberTexts.{one-more}
 use Rattle.report.proofs.text.put_numbers.Statement.{statement}
 use Rattle.report.proofs.text.put_numbers.Tie as tie
@@ -20,7 +20,7 @@ abbrev μ-loop : tie.MeasureT-loop
 
 loop-holds : tie.Need-loop-holds Inv-loop μ-loop
 unfolding numbersText
-loop-holds c = (record { stored = refl; behind = omega arith }, omega arith, omega arith)
+loop-holds c = (record { stored = refl; ends = omega arith }, omega arith, omega arith)
 
 loop-again : tie.Need-loop-again Inv-loop μ-loop
 loop-again c =

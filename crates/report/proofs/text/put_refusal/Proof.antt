@@ -15,7 +15,7 @@ returns c =
     let n = o .before .before .before .before .before in
     let put = q .put-bytes2 .ensures in (
       put-both (put-both (put-both (n .put-number .ensures .0) (o .put-bytes .ensures)) (p .put-number2 .ensures .0)) put,
-      omega (arith, put .behind, put-length put),
+      omega (arith, put .ends, put-length put),
     )
 
 pub put-refusal-spec : {M : Type 1} → statement M

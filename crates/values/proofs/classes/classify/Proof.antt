@@ -4,31 +4,31 @@ use mathlib.Core.Option.{some}
 use Prim.Native.Nat.{ℕ}
 use borrow.Author.Needs.{needs}
 use Rattle.point_types.specs.Rows.{rowOf}
-use Rattle.point_types.specs.Answers.{foundMeans, rowMeans}
+use Rattle.point_types.specs.CodeTypes.{toSpecFound, toSpecRow}
 use Rattle.point_types.proofs.Table.{own-code, listed}
 use Rattle.values.specs.Classes.{classified}
 use Rattle.values.proofs.classes.classify.Statement.{statement}
 use Rattle.values.proofs.classes.classify.Tie as tie
 
 -- The row that was found is the table's.
-at : (c : tie.After-found) → rowOf (c .before .before .before .args .type-code) ≡ some (rowMeans (c .found .given .0 .0))
-at c = sym (c .before .before .row-of .ensures) ∙ ap foundMeans (c .found .given .1)
+at : (c : tie.After-found) → rowOf (c .before .before .before .args .type-code) ≡ some (toSpecRow (c .found .given .0 .0))
+at c = sym (c .before .before .row-of .ensures) ∙ ap toSpecFound (c .found .given .1)
 
 classified-in-requires : tie.Need-classified-in-requires
 classified-in-requires c κs =
     let f = c .before in
-    listed (f .before .before .before .args .type-code) (rowMeans (f .found .given .0 .0)) (at f)
+    listed (f .before .before .before .args .type-code) (toSpecRow (f .found .given .0 .0)) (at f)
 
 returns : tie.Need-returns
 returns c =
     let f = c .before .before in
     let a = f .before .before .before .args in
     c .classified-in .ensures
-    ∙ ap (λ (code : ℕ). classified code (a .raw)) (sym (own-code (a .type-code) (rowMeans (f .found .given .0 .0)) (at f)))
+    ∙ ap (λ (code : ℕ). classified code (a .raw)) (sym (own-code (a .type-code) (toSpecRow (f .found .given .0 .0)) (at f)))
 
 pub classify-spec : {M : Type 1} → statement M
 unfolding classified
 classify-spec =
     tie.close
     (tie.spec (λ c κs. search needs) (λ c. search needs) classified-in-requires (λ c. search needs) returns
-    (λ c. simp (classified, sym (c .before .before .row-of .ensures) ∙ ap foundMeans (c .enum-told .given .1))))
+    (λ c. simp (classified, sym (c .before .before .row-of .ensures) ∙ ap toSpecFound (c .enum-told .given .1))))

@@ -3,14 +3,14 @@ use mathlib.Core.Path.{sym, ap}
 use mathlib.Core.Bool.{Bool}
 use borrow.Author.Needs.{needs}
 use Rattle.values.specs.Classes.{ofClass, isValue}
-use Rattle.values.specs.Answers.{classAnswer}
+use Rattle.values.specs.CodeTypes.{toSpecClass}
 use Rattle.values.specs.declared.Class.{Class}
 use Rattle.values.proofs.classes.is_value_class.Statement.{statement}
 use Rattle.values.proofs.classes.is_value_class.Tie as tie
 
 -- The contract's right side, of a class of the code.
 abbrev means : Class → Bool
-means class = isValue (ofClass (classAnswer class))
+means class = isValue (ofClass (toSpecClass class))
 
 returns : tie.Need-returns
 returns c = sym (ap means (c .enum-told .given .1))

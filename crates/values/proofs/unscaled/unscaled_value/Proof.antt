@@ -5,7 +5,7 @@ use Prim.Native.Nat.{ℕ}
 use borrow.Author.Needs.{needs}
 use borrow.Author.Tests.{not-true, not-false}
 use Rattle.point_types.specs.Rows.{rowOf}
-use Rattle.point_types.specs.Answers.{foundMeans, rowMeans}
+use Rattle.point_types.specs.CodeTypes.{toSpecFound, toSpecRow}
 use Rattle.point_types.proofs.Table.{own-code, listed}
 use Rattle.values.specs.Classes.{isValue, classified}
 use Rattle.values.specs.Unscaled.{unscaled}
@@ -14,13 +14,13 @@ use Rattle.values.proofs.unscaled.unscaled_value.Statement.{statement}
 use Rattle.values.proofs.unscaled.unscaled_value.Tie as tie
 
 -- The row that was found is the table's.
-at : (c : tie.After-found) → rowOf (c .before .before .before .args .type-code) ≡ some (rowMeans (c .found .given .0 .0))
-at c = sym (c .before .before .row-of .ensures) ∙ ap foundMeans (c .found .given .1)
+at : (c : tie.After-found) → rowOf (c .before .before .before .args .type-code) ≡ some (toSpecRow (c .found .given .0 .0))
+at c = sym (c .before .before .row-of .ensures) ∙ ap toSpecFound (c .found .given .1)
 
 classified-in-requires : tie.Need-classified-in-requires
 classified-in-requires c κs =
     let f = c .before .before .before in
-    listed (f .before .before .before .args .type-code) (rowMeans (f .found .given .0 .0)) (at f)
+    listed (f .before .before .before .args .type-code) (toSpecRow (f .found .given .0 .0)) (at f)
 
 -- Whether it is a value.
 value : (c : tie.After-is-value-in)
@@ -32,7 +32,7 @@ value : (c : tie.After-is-value-in)
 value c =
     let f = c .before .before .before .before .before in
     let a = f .before .before .before .args in
-    ap (λ (code : ℕ). isValue (classified code (a .raw))) (own-code (a .type-code) (rowMeans (f .found .given .0 .0)) (at f))
+    ap (λ (code : ℕ). isValue (classified code (a .raw))) (own-code (a .type-code) (toSpecRow (f .found .given .0 .0)) (at f))
     ∙ sym (ap isValue (c .before .classified-in .ensures))
     ∙ sym (c .is-value-in .ensures)
 
@@ -48,7 +48,7 @@ integer-by-sign-requires : tie.Need-integer-by-sign-requires
 integer-by-sign-requires c κs =
     let f = c .before .before .before .before .before .before in
     let a = f .before .before .before .args in
-    let r = rowMeans (f .found .given .0 .0) in
+    let r = toSpecRow (f .found .given .0 .0) in
     record {
       listed = listed (a .type-code) r (at f);
       fits = value-fits (a .type-code) (a .raw) r (at f) (value (c .before) ∙ not-false _ (c .if2 .left));
@@ -72,4 +72,4 @@ unscaled-value-spec =
     let f = c .before .before .before in
     simp (unscaled, at f, not-true (f .found .given .0 .0 .scalable) (c .if1 .taken)))
     classified-in-requires (λ c κs. search needs) returns-2 integer-by-sign-requires (λ c. search needs) returns-3
-    (λ c. simp (unscaled, sym (c .before .before .row-of .ensures) ∙ ap foundMeans (c .enum-told .given .1))))
+    (λ c. simp (unscaled, sym (c .before .before .row-of .ensures) ∙ ap toSpecFound (c .enum-told .given .1))))

@@ -1,0 +1,60 @@
+-- What the code's types stand for: the answers of the public calls in document 01's terms.
+use mathlib.Core.List.{List, _++_}
+use Prim.Native.Nat.{ℕ, _-_, _≤_}
+use lib.IntN.{ℤ}
+use lib.ListN.{length, replicate}
+use Rattle.values.specs.Classes.{twosComplement}
+use Rattle.display.specs.Amounts as Amounts
+use Rattle.display.specs.Decimals as Decimals
+use Rattle.display.specs.Equality as Equality
+use Rattle.display.specs.declared.DecimalText.{DecimalText}
+use Rattle.display.specs.declared.Digits.{Digits}
+use Rattle.display.specs.declared.Equality as declared
+use Rattle.display.specs.declared.Quantity.{Quantity}
+
+-- The scale factor that a register holds.
+abbrev pub scaleFactor : ℕ → ℤ
+scaleFactor register = twosComplement 16 register
+
+-- The amount of a quantity, or its refusal.
+abbrev pub quantityAmount : Quantity → Amounts.Amount
+quantityAmount q = Amounts.amountOf (q .«type_code») (q .raw) (scaleFactor (q .scale))
+
+-- What `decimal` is asked for: its scale is a register, and the room is the buffer's.
+abbrev pub decimalInto : ℕ → ℕ → ℕ → List ℕ → Decimals.Decimal
+decimalInto code raw scale buffer = Decimals.decimalOf code raw (scaleFactor scale) (length buffer)
+
+-- What it answers: the length of the text, or a refusal.
+pub data Length : Type 0 where
+  bytes : ℕ → Length
+  refused : ℕ → Length
+
+-- The length of what is asked for.
+abbrev pub lengthOf : Decimals.Decimal → Length
+lengthOf (Decimals.text t) = bytes (length t)
+lengthOf (Decimals.Decimal.refused n) = Length.refused n
+
+-- The answer of `decimal`.
+abbrev pub toSpecDecimal : DecimalText → Length
+toSpecDecimal (DecimalText.Length n) = bytes n
+toSpecDecimal (DecimalText.Refused n) = Length.refused n
+
+-- The length that is answered is no more than the buffer's, so that a caller may cut the text out of the buffer. (What the buffer
+-- holds is said by `stored`.)
+abbrev pub LengthFits : List ℕ → DecimalText → Type 0
+LengthFits buffer (DecimalText.Length n) = n ≤ length buffer
+LengthFits buffer (DecimalText.Refused n) = Unit {0}
+
+-- What `digits_of` gives: the digits, zeros behind them, and how many digits there are.
+abbrev pub toCodeDigits : ℕ → Digits
+toCodeDigits n =
+    record {
+      bytes = Decimals.digitsOf n ++ replicate (20 - Decimals.digitCount n) 0;
+      count = Decimals.digitCount n;
+    }
+
+-- The answer of `equal_quantities`.
+abbrev pub toSpecEquality : declared.Equality → Equality.Equality
+toSpecEquality declared.Equality.Equal = Equality.equal
+toSpecEquality declared.Equality.Different = Equality.different
+toSpecEquality (declared.Equality.Refused n) = Equality.Equality.refused n

@@ -1,0 +1,35 @@
+-- What the code's types mean.
+use mathlib.Core.Bool.{true, false}
+use mathlib.Core.List.{List}
+use Prim.Native.Nat.{ℕ}
+use lib.Dec.{leb}
+use lib.ListN.{length}
+use Rattle.registers.specs.Registers.{join, allZero, shownRaw}
+use Rattle.values.specs.Classes.{Classified, classified}
+use Rattle.catalog_frames.specs.Frames as Frames
+use Rattle.layout.specs.Points.{statusOf, scaleOf}
+use Rattle.shown_points.specs.declared.Shown.{Shown}
+
+-- The class that `show` finds of any registers: up to four, the class of their raw value; of more, the class of 0 where all are
+-- 0, else that of 1. (It is the class of the raw value for any size that the type may have: `proofs/PointClasses.antt`.)
+unfoldable pub registersClass : ℕ → List ℕ → Classified
+registersClass code rs =
+    elim (leb (length rs) 4) [
+      | true ↦ classified code (join rs)
+      | false ↦ elim (allZero rs) [ true ↦ classified code 0 | false ↦ classified code 1 ]
+    ]
+
+-- What is shown of a point: its status, raw value and scale.
+pub record PointShown : Type 0 where
+  pub status : ℕ
+  pub raw : ℕ
+  pub scale : ℕ
+
+abbrev pub toSpecShown : Shown → PointShown
+toSpecShown s = record { status = s .status; raw = s .raw; scale = s .scale }
+
+-- What is shown of a point by the class of its registers, these, and the register of its scale point.
+abbrev pub shownBy : Frames.Point → Classified → List ℕ → ℕ → PointShown
+shownBy p class registers register =
+    let status = statusOf p class register in
+    record { status = status; raw = shownRaw registers; scale = scaleOf p status register }
