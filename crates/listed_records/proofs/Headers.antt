@@ -9,8 +9,8 @@ use native.Mathlib.Omega.{arith}
 use lib.ListN.{length, take}
 use Rattle.register_map.specs.Scan.{totalSize, scan}
 use Rattle.listing.specs.Listing.{Record, refused, listed, listing}
-use Rattle.listed_records.proofs.RefusalNumbers.{ending-number}
-use Rattle.listed_records.proofs.ListingInversion.{headers-walked, headers-marked, listed-walks, short-walks, refused-walks, refused-early}
+use Rattle.listing.proofs.RefusalNumbers.{ending-number}
+use Rattle.listing.proofs.ListingInversion.{headers-walked, headers-marked, listed-walks, short-walks, refused-walks, refused-early}
 
 -- On acceptance the headers are models + 1 and at most (registers − 1) / 3.
 pub headers : (catalog map : List ℕ) (capacity : ℕ) (rs : List Record) (headers : ℕ) → listing catalog map capacity ≡ listed rs headers

@@ -6,9 +6,6 @@ pub mod OneRecord
 pub mod RawValues
 pub mod WorkedCases
 -- Laws of the walk over the models of a map
-pub mod WalkHeaders
-pub mod RefusalNumbers
-pub mod ListingInversion
 pub mod ModelRecords
 pub mod WalkedModels
 pub mod RecordSources

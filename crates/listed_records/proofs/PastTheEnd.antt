@@ -12,7 +12,7 @@ use Rattle.register_map.proofs.PastTheMarker.{scan-longer, opening-longer}
 use Rattle.layout.specs.Reading.{Reading, reading}
 use Rattle.listing.specs.Listing.{Record, listed, Answer, walk, recordsBy, withCapacity, listing}
 use Rattle.listing.proofs.ListingCases.{catalog-refused, accepted-listed, unopened, opened}
-use Rattle.listed_records.proofs.ListingInversion.{headers-walked, listed-walks}
+use Rattle.listing.proofs.ListingInversion.{headers-walked, listed-walks}
 
 module _ (catalog map more : List ℕ) (capacity : ℕ) (ends : scan map .ending ≡ marked) (fits : length (map ++ more) ≤ 65536) where
   by-opening : (read : Model → Reading) (o : Option ℕ) → opening map ≡ o

@@ -17,7 +17,7 @@ use Rattle.layout.specs.InternalWalks.{Accepted, pointsOf}
 use Rattle.layout.proofs.AcceptedModels.{top-sound, read-known, read-unknown}
 use Rattle.listing.specs.Listing.{Record, listed, allRecords}
 use Rattle.listing.proofs.ListingCases.{records-walk}
-use Rattle.listed_records.proofs.ListingInversion.{headers-walked}
+use Rattle.listing.proofs.ListingInversion.{headers-walked}
 use Rattle.listed_records.proofs.WalkedModels.{record-of-model}
 
 -- A model that is read as points, by the sound definition of its id.

@@ -24,7 +24,7 @@ use Rattle.layout.proofs.Readings.{not-unknown}
 use Rattle.layout.proofs.ReadingSteps.{reading-here, reading-later, unknown-left}
 use Rattle.listing.specs.Listing.{Record, recordOf, listed, walk, listing}
 use Rattle.listed_records.specs.Tiling.{RecordsTiled, recordsWith}
-use Rattle.listed_records.proofs.ListingInversion.{listed-walks}
+use Rattle.listing.proofs.ListingInversion.{listed-walks}
 use Rattle.listed_records.proofs.ModelRecords.{RecordsOf, model-records}
 
 -- ---- The definition of a model

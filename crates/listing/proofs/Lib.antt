@@ -2,6 +2,10 @@
 pub mod WalkSteps
 pub mod ListingCases
 pub mod ResultCases
+pub mod RefusalNumbers
+pub mod WalkHeaders
+pub mod ListingInversion
+pub mod HeadersCounted
 -- What the proofs of the functions cite: extents and surveys
 pub mod ExtentSteps
 pub mod ExtentWalks
@@ -10,6 +14,7 @@ pub mod SurveyedModels
 pub mod SurveyedByFrames
 -- Points and records
 pub mod WrittenRecords
+pub mod OutputRecords
 pub mod PointRuns
 pub mod GroupsWriting
 pub mod InstanceSteps

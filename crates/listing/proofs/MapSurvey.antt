@@ -51,11 +51,11 @@ has-points r e = subst HasPoints (sym (points-surveyed r e .1)) tt
 
 -- Points in front of those of an answer.
 abbrev pub withPoints : ℕ → Result → Result
-withPoints n (refusedResult number place headers) = refusedResult number place headers
+withPoints n (refusedResult number place headers count) = refusedResult number place headers count
 withPoints n (listedResult k headers) = listedResult (n + k) headers
 
 with-no-points : (t : Result) → withPoints 0 t ≡ t
-with-no-points (refusedResult number place headers) = refl
+with-no-points (refusedResult number place headers count) = refl
 with-no-points (listedResult k headers) = ap (λ n. listedResult n headers) (omega arith)
 
 with-more-points : (n : ℕ) (rs : List Record) (a : Answer)
@@ -95,11 +95,11 @@ module _ {read : Model → Reading} {map : List ℕ} {at headers count : ℕ} (h
 
   -- A header is refused.
   pub survey-refused : {number : ℕ} → at < length map → headerAt (eqb at 2) (drop at map) ≡ refused number
-      → refusedResult number at headers ≡ result (walked read map)
+      → refusedResult number at headers 0 ≡ result (walked read map)
   survey-refused inside h = answers (walk-at-refused read map headers at inside h)
 
   -- No register is left.
-  pub survey-late : length map ≤ at → refusedResult 22 at headers ≡ result (walked read map)
+  pub survey-late : length map ≤ at → refusedResult 22 at headers 0 ≡ result (walked read map)
   survey-late past = answers (walk-at-late read map headers at past)
 
   module _ (short : length map ≤ 65536) {id len : ℕ} (h : headerAt (eqb at 2) (drop at map) ≡ model id len) where
@@ -119,10 +119,10 @@ module _ {read : Model → Reading} {map : List ℕ} {at headers count : ℕ} (h
 
     -- A model is refused.
     pub survey-faulty : {number : ℕ} → surveyedRefused number ≡ surveyed (read (modelAt map at id len))
-        → refusedResult number at headers ≡ result (walked read map)
+        → refusedResult number at headers 0 ≡ result (walked read map)
     survey-faulty e =
         let r = refused-surveyed (read (modelAt map at id len)) e in
-        ap (λ n. refusedResult n at headers) (sym (r .2))
+        ap (λ n. refusedResult n at headers 0) (sym (r .2))
         ∙ answers (walk-at-faulty read map headers at id len (here .low) h (r .1))
 
     module _ (few : (m : Model) (ps : List ModelPoint) → read m ≡ points ps → length ps ≤ length (m .body)) {more : ℕ}

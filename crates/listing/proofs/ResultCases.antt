@@ -7,7 +7,7 @@ use Rattle.lists.proofs.TestOutcomes.{impossible}
 use Rattle.listing.specs.Listing.{Record, Answer, refused, listed, refusedResult, listedResult, result, recordWidth, listing}
 use Rattle.listing.proofs.ListingCases.{Case, listing-case}
 
-pub result-refused : (a : Answer) (number place headers : ℕ) → refusedResult number place headers ≡ result a → a ≡ refused number place headers
+pub result-refused : (a : Answer) (number place headers : ℕ) → refusedResult number place headers 0 ≡ result a → a ≡ refused number place headers
 result-refused (refused n p h) number place headers e = cc
 result-refused (listed rs h) number place headers e = impossible (cc)
 

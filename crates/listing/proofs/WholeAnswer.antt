@@ -19,7 +19,7 @@ answered-by out e w = (w .0 ∙ ap result (sym e), w .1 ∙ ap (λ x. stored x o
 
 -- A refusal leaves the list as it was.
 pub refused-answered : (out : List ℕ) (number place headers : ℕ)
-    → Answered (refused number place headers) out (refusedResult number place headers) out
+    → Answered (refused number place headers) out (refusedResult number place headers 0) out
 unfolding stored
 refused-answered out number place headers = (refl, refl)
 
@@ -28,7 +28,7 @@ refused-answered out number place headers = (refl, refl)
 module _ (out : List ℕ) where
   -- The list has fewer than 10 × points entries.
   pub too-short : (a : Answer) (points headers : ℕ) → listedResult points headers ≡ result a → length out / recordWidth < points
-      → Answered (withCapacity (length out) a) out (refusedResult 30 points headers) out
+      → Answered (withCapacity (length out) a) out (refusedResult 30 points headers 0) out
   unfolding withCapacity
   too-short (refused number place following) points headers e f = impossible (cc)
   too-short (listed rs following) points headers e f =
@@ -48,8 +48,8 @@ module _ (out : List ℕ) where
       (fits, with-capacity (length out) rs following fits)
 
   -- A refusal at a header comes first.
-  pub before-capacity : (a : Answer) (number place headers : ℕ) → refusedResult number place headers ≡ result a
-      → Answered (withCapacity (length out) a) out (refusedResult number place headers) out
+  pub before-capacity : (a : Answer) (number place headers : ℕ) → refusedResult number place headers 0 ≡ result a
+      → Answered (withCapacity (length out) a) out (refusedResult number place headers 0) out
   unfolding withCapacity stored
   before-capacity (refused n at following) number place headers e = (e, refl)
   before-capacity (listed rs following) number place headers e = impossible (cc)

@@ -1,9 +1,12 @@
 -- What the code's types stand for.
+use mathlib.Core.Path.{_≡_}
 use mathlib.Core.Option.{Option, none, some}
 use mathlib.Core.List.{List}
-use Prim.Native.Nat.{ℕ}
+use Prim.Native.Nat.{ℕ, _+_, _-_, _/_, _≤_}
+use lib.ListN.{length}
 use Rattle.catalog_frames.specs.CodeTypes.{toSpecPoint}
 use Rattle.model_definitions.specs.Definitions.{Content}
+use Rattle.register_map.specs.Scan.{scan}
 use Rattle.layout.specs.Locating as Locating
 use Rattle.layout.specs.InternalWalks.{contentFrom, Surveyed, surveyedUnknown, surveyedRefused, surveyedPoints}
 use Rattle.listing.specs.Listing as Listing
@@ -15,12 +18,22 @@ use Rattle.listing.specs.declared.frames.Found.{Found}
 use Rattle.listing.specs.declared.surveys.Survey.{Survey}
 use Rattle.listing.specs.declared.locating.Located.{Located}
 
--- The answer of `list`.
+-- What `list` returns. The case of a refusal stands for the count 0 too.
 abbrev pub toSpecListing : Code.Listing → Listing.Result
 toSpecListing (Code.Listing.Listed points headers) = Listing.listedResult points headers
-toSpecListing (Code.Listing.Refused number place headers) = Listing.refusedResult number place headers
+toSpecListing (Code.Listing.Refused number place headers) = Listing.refusedResult number place headers 0
 
--- A point that `find` tells of.
+-- Document 01, "Listing": the headers of a map that is walked to its end marker are models + 1, and at most (registers − 1) / 3.
+pub record AllHeaders (map : List ℕ) (headers : ℕ) : Type 0 where
+  pub counted : headers ≡ length (scan map .models) + 1
+  pub bounded : headers ≤ (length map - 1) / 3
+
+-- The headers that `list` returns are these on acceptance and on 30.
+abbrev pub HeadersCounted : List ℕ → Code.Listing → Type 0
+HeadersCounted map (Code.Listing.Listed points headers) = AllHeaders map headers
+HeadersCounted map (Code.Listing.Refused number place headers) = number ≡ 30 → AllHeaders map headers
+
+-- The point that `find` returns.
 abbrev pub toSpecTarget : Target → Finding.Target
 toSpecTarget t = record { address = t .address; definition = toSpecPoint (t .point); raw = t .raw }
 

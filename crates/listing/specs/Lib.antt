@@ -1,4 +1,5 @@
 pub mod Listing
 pub mod Finding
 pub mod CodeTypes
+pub mod Calls
 pub mod InternalContracts

@@ -108,12 +108,13 @@ unfoldable pub stored : Answer → List ℕ → List ℕ
 stored (refused number place headers) out = out
 stored (listed rs headers) out = entries rs ++ drop (recordWidth * length rs) out
 
--- What listing answers of what it finds: the count of points and of headers, or the refusal.
+-- What a call of listing returns: the count of points and the headers; or a refusal's number and place, the headers before it, and
+-- the count, which document 01 sets to 0 on a refusal.
 pub data Result : Type 0 where
-  refusedResult : ℕ → ℕ → ℕ → Result
-  listedResult : ℕ → ℕ → Result
+  refusedResult : (number place headers count : ℕ) → Result
+  listedResult : (count headers : ℕ) → Result
 
--- The counts, or the refusal, of what it finds.
+-- The result of an answer.
 abbrev pub result : Answer → Result
-result (refused number place headers) = refusedResult number place headers
+result (refused number place headers) = refusedResult number place headers 0
 result (listed rs headers) = listedResult (length rs) headers

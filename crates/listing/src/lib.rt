@@ -36,7 +36,7 @@ ghost use Rattle.register_map.specs.Headers.{opening};
 ghost use Rattle.layout.specs.Reading.{reading};
 ghost use Rattle.layout.specs.InternalWalks.{Accepted, IsTable, pointsOf, readIn};
 ghost use Rattle.listing.specs.Listing as Listings;
-ghost use Rattle.listing.specs.CodeTypes.{toSpecListing};
+ghost use Rattle.listing.specs.CodeTypes.{toSpecListing, HeadersCounted};
 ghost use Rattle.listing.specs.InternalContracts.{written, bodyAt, WalkFits};
 
 // What `list` answers: the points and the headers; or the number of a refusal, its place and the headers
@@ -60,6 +60,7 @@ pub enum Listing {
 pub fn list(catalog: &[u16], map: &[u16], out: &mut [u64]) -> Listing
     ensures { λ r. ⌜ toSpecListing r ≡ Listings.result (Listings.listing (now (catalog .entry)) (now (map .entry)) (length (now (out .entry)))) ⌝ }
     ensures { λ _. ⌜ now (out .exit) ≡ Listings.stored (Listings.listing (now (catalog .entry)) (now (map .entry)) (length (now (out .entry)))) (now (out .entry)) ⌝ }
+    ensures { λ r. ⌜ HeadersCounted (now (map .entry)) r ⌝ }
 {
     let mut table = [0u16; NUMBERS];
     let survey = survey_plant(catalog, map, &mut table);
@@ -156,7 +157,7 @@ fn after_model(at: usize, length: u16) -> usize
 
 // A refusal.
 fn refused(number: u16, place: usize, headers: usize) -> Listing
-    ensures { λ r. ⌜ toSpecListing r ≡ Listings.refusedResult number place headers ⌝ }
+    ensures { λ r. ⌜ toSpecListing r ≡ Listings.refusedResult number place headers 0 ⌝ }
 {
     Listing::Refused {
         number,

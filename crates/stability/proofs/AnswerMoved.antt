@@ -16,8 +16,8 @@ use Rattle.register_map.specs.Insertion.{placed, gapsBefore}
 use Rattle.register_map.proofs.Before.{before-model}
 use Rattle.layout.specs.Reading.{Reading}
 use Rattle.listing.specs.Listing.{Record, recordWidth, Answer, refused, listed, walk, withCapacity}
-use Rattle.listed_records.proofs.RefusalNumbers.{Between}
-use Rattle.listed_records.proofs.WalkHeaders.{HeadersWalked, walk-headers}
+use Rattle.listing.proofs.RefusalNumbers.{Between}
+use Rattle.listing.proofs.WalkHeaders.{HeadersWalked, walk-headers}
 use Rattle.stability.specs.Stability.{shifted, movedAnswer, AreLower, MovedByLower}
 use Rattle.stability.proofs.WalkMoved.{movedWalk}
 use Rattle.stability.proofs.RecordPlaces.{InModel, AllInModels}

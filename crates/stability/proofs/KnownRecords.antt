@@ -14,7 +14,7 @@ use Rattle.layout.specs.Points.{ModelPoint}
 use Rattle.layout.specs.Reading.{points, reading}
 use Rattle.layout.proofs.ReadingSteps.{unknown-left}
 use Rattle.listing.specs.Listing.{Record, listed, listing}
-use Rattle.listed_records.proofs.ListingInversion.{listed-walks}
+use Rattle.listing.proofs.ListingInversion.{listed-walks}
 use Rattle.listed_records.proofs.WalkedModels.{record-of-model}
 
 -- A model of which points are read has the id of a definition.

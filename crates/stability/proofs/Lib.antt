@@ -1,6 +1,8 @@
 -- The claims
 pub mod Insertion
+pub mod InsertionCalls
 pub mod Removal
+pub mod RemovalCalls
 pub mod RefusalsAfterRemoval
 pub mod RemovalById
 pub mod InsertionExample

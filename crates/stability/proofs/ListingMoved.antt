@@ -16,7 +16,7 @@ use Rattle.layout.specs.Reading.{unknown, reading}
 use Rattle.layout.proofs.ReadingSteps.{unknown-left}
 use Rattle.layout.proofs.PointsInside.{accepted-inside}
 use Rattle.listing.specs.Listing.{Answer, walk, withCapacity, listing}
-use Rattle.listed_records.proofs.RefusalNumbers.{catalog-number}
+use Rattle.listing.proofs.RefusalNumbers.{catalog-number}
 use Rattle.listing.proofs.ListingCases.{catalog-refused, listing-walks}
 use Rattle.stability.specs.Stability.{UnknownModel, movedAnswer, MovedByLower}
 use Rattle.stability.proofs.WalkMoved.{walk-moved}

@@ -14,7 +14,7 @@ use Rattle.layout.specs.Reading.{Reading}
 use Rattle.layout.specs.InternalWalks.{pointsOf}
 use Rattle.layout.proofs.PointsInside.{Inside}
 use Rattle.listing.specs.Listing.{Record, Answer, refused, listed, walk}
-use Rattle.listed_records.proofs.WalkHeaders.{HeadersWalked, walk-headers}
+use Rattle.listing.proofs.WalkHeaders.{HeadersWalked, walk-headers}
 use Rattle.listed_records.proofs.WalkedModels.{record-of-model}
 
 -- An address lies in the model with an index, of models from address `at` on, or right behind it.

@@ -12,9 +12,9 @@ use Rattle.model_definitions.specs.Removal.{keeping}
 use Rattle.model_definitions.proofs.Removal as catalogs
 use Rattle.register_map.specs.Scan.{Model, scan}
 use Rattle.listing.specs.Listing.{Record, recordWidth, Answer, refused, listed, withCapacity, listing}
-use Rattle.listed_records.proofs.RefusalNumbers.{Between, catalog-number}
+use Rattle.listing.proofs.RefusalNumbers.{Between, catalog-number}
 use Rattle.listing.proofs.ListingCases.{with-capacity, Case, catalogRefused, openingRefused, walkRefused, tooShort, allListed, listing-case, listing-walks, listing-unopened}
-use Rattle.listed_records.proofs.ListingInversion.{walk-number, short-walks, refused-walks}
+use Rattle.listing.proofs.ListingInversion.{walk-number, short-walks, refused-walks}
 use Rattle.listed_records.proofs.Headers.{headers-at-end}
 use Rattle.stability.specs.Removed.{recordsLeft, keepsAt}
 use Rattle.stability.proofs.WalksLeft.{listed-left, refused-left}

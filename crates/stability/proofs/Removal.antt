@@ -14,7 +14,7 @@ use Rattle.model_definitions.specs.Removal.{keeping}
 use Rattle.model_definitions.proofs.Removal as catalogs
 use Rattle.listing.specs.Listing.{Record, recordWidth, listed, withCapacity, listing, entries, stored, listedResult, result}
 use Rattle.listing.proofs.ListingCases.{with-capacity, listing-walks}
-use Rattle.listed_records.proofs.ListingInversion.{listed-walks}
+use Rattle.listing.proofs.ListingInversion.{listed-walks}
 use Rattle.stability.specs.Removed.{keepsId, recordsLeft}
 use Rattle.stability.proofs.WalksLeft.{listed-left}
 

@@ -18,7 +18,7 @@ use Rattle.model_definitions.specs.Removal.{keeping}
 use Rattle.model_definitions.proofs.ModelIds.{ids-distinct}
 use Rattle.model_definitions.proofs.Removal as catalogs
 use Rattle.listing.specs.Listing.{Record, listed, listing}
-use Rattle.listed_records.proofs.ListingInversion.{listed-walks}
+use Rattle.listing.proofs.ListingInversion.{listed-walks}
 use Rattle.stability.specs.Removed.{keepsId, recordsLeft, recordsOf}
 use Rattle.stability.proofs.KnownRecords.{known-records}
 

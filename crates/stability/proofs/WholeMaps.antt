@@ -10,7 +10,7 @@ use Rattle.register_map.specs.Scan.{Model, marked, Scan, scan, WellFormed}
 use Rattle.register_map.specs.Insertion.{allModels, placed, lengthened}
 use Rattle.register_map.proofs.HeaderLaws.{opening-none, opening-with-SunS}
 use Rattle.register_map.proofs.Lengthened.{lengthened-begins, lengthened-scan}
-use Rattle.listed_records.proofs.ListingInversion.{headers-walked, listed-walks}
+use Rattle.listing.proofs.ListingInversion.{headers-walked, listed-walks}
 use Rattle.stability.specs.Stability.{MadeOfWholeModels}
 
 -- A map that is not refused as a whole, with these models up to its end marker.

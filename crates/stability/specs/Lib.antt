@@ -1,2 +1,3 @@
 pub mod Stability
 pub mod Removed
+pub mod TwoCalls

@@ -23,7 +23,7 @@ use Rattle.layout.proofs.PointPlaces.{point-inside}
 use Rattle.listing.specs.Listing.{Record, recordOf, listed, walk, allRecords}
 use Rattle.listing.specs.Finding.{isRecord, targetOf}
 use Rattle.listing.proofs.ListingCases.{records-walk, walk-records}
-use Rattle.listed_records.proofs.ListingInversion.{headers-walked}
+use Rattle.listing.proofs.ListingInversion.{headers-walked}
 use Rattle.listed_records.proofs.WalkedModels.{records-replaced}
 use Rattle.listed_records.proofs.RecordSources.{record-source, read-with}
 use Rattle.writing.specs.Writing.{refusal, rewritten}

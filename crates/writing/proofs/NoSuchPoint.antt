@@ -13,7 +13,7 @@ use Rattle.listing.specs.Listing.{Record, listed, allRecords, listing}
 use Rattle.listing.specs.Finding.{isRecord, finding, targetOf}
 use Rattle.listing.specs.Finding as Finding
 use Rattle.listing.proofs.WalkSteps.{not-listed}
-use Rattle.listed_records.proofs.ListingInversion.{listed-walks}
+use Rattle.listing.proofs.ListingInversion.{listed-walks}
 use Rattle.listing.proofs.ListingCases.{walk-records}
 use Rattle.listed_records.proofs.OneRecord.{own-found}
 use Rattle.writing.specs.Writing.{Answer, refused, writing}

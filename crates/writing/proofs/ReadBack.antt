@@ -17,7 +17,7 @@ use Rattle.model_definitions.specs.Definitions.{definitions}
 use Rattle.listing.specs.Listing.{Record, listed, allRecords, withCapacity, listing}
 use Rattle.listing.specs.Finding.{isRecord, targetOf}
 use Rattle.listing.proofs.ListingCases.{with-capacity, listing-records, walk-records}
-use Rattle.listed_records.proofs.ListingInversion.{listed-walks}
+use Rattle.listing.proofs.ListingInversion.{listed-walks}
 use Rattle.writing.specs.Writing.{refusal, rewritten, written, writing}
 use Rattle.writing.specs.AfterWriting.{RecordAfter}
 use Rattle.writing.proofs.WritingCases.{accepted-write}

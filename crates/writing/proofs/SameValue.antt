@@ -12,7 +12,7 @@ use Rattle.layout.specs.Paths.{pathOf}
 use Rattle.listing.specs.Listing.{Record, listed, allRecords, listing}
 use Rattle.listing.specs.Finding.{isRecord, targetOf}
 use Rattle.listing.proofs.ListingCases.{walk-records}
-use Rattle.listed_records.proofs.ListingInversion.{listed-walks}
+use Rattle.listing.proofs.ListingInversion.{listed-walks}
 use Rattle.listed_records.proofs.OneRecord.{own-found}
 use Rattle.listed_records.proofs.RawValues.{record-inside, record-raw}
 use Rattle.writing.specs.Writing.{rewritten, written, writing}

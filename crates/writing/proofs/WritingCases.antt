@@ -15,9 +15,9 @@ use Rattle.listing.specs.Listing.{Record, allRecords, withCapacity, listing}
 use Rattle.listing.specs.Listing as Listing
 use Rattle.listing.specs.Finding.{isRecord, finding, Target, targetOf}
 use Rattle.listing.specs.Finding as Finding
-use Rattle.listed_records.proofs.RefusalNumbers.{Between, catalog-number, opening-number}
+use Rattle.listing.proofs.RefusalNumbers.{Between, catalog-number, opening-number}
 use Rattle.listing.proofs.WalkSteps.{not-listed}
-use Rattle.listed_records.proofs.ListingInversion.{walk-number}
+use Rattle.listing.proofs.ListingInversion.{walk-number}
 use Rattle.listing.proofs.ListingCases as listings
 use Rattle.listing.proofs.ListingCases.{catalogRefused, openingRefused, walkRefused, tooShort, allListed, listing-case, listing-records, walk-records}
 use Rattle.writing.specs.Writing.{canHold, refusal, rewritten, Answer, refused, written, writing}

@@ -6,12 +6,14 @@ use native.Mathlib.Omega.{arith}
 use lib.ListN.{length, length-replicate}
 use Rattle.model_definitions.specs.Definitions.{definitions}
 use Rattle.layout.specs.Reading.{reading}
-use Rattle.listing.specs.Listing.{walked, allRecords, listedResult, result, stored, recordWidth}
+use Rattle.listing.specs.declared.Listing as Code
+use Rattle.listing.specs.Listing.{walked, allRecords, listing, listedResult, result, stored, recordWidth}
 use Rattle.listing.specs.InternalContracts.{WalkFits}
-use Rattle.listing.specs.CodeTypes.{toSpecListing}
+use Rattle.listing.specs.CodeTypes.{toSpecListing, HeadersCounted}
 use Rattle.listing.proofs.ListingCases.{Walks, records-walk, listing-records}
 use Rattle.listing.proofs.ResultCases.{result-listed}
-use Rattle.listing.proofs.WholeAnswer.{answered-by, too-short, has-capacity, before-capacity}
+use Rattle.listing.proofs.HeadersCounted.{headers-counted}
+use Rattle.listing.proofs.WholeAnswer.{Answered, answered-by, too-short, has-capacity, before-capacity}
 use Rattle.listing.proofs.list.Statement.{statement}
 use Rattle.listing.proofs.list.Tie as tie
 use borrow.Author.Needs.{needs}
@@ -28,6 +30,13 @@ survey-walk catalog registers out points headers e capacity =
     let fits = has-capacity out (allRecords catalog registers) points headers e capacity .0 in
     (w, subst (λ a. WalkFits a out) (sym (w .walks)) fits, w .walks)
 
+-- The headers follow from the result.
+with-headers : (catalog map out : List ℕ) (r : Code.Listing) {out′ : List ℕ}
+    → Answered (listing catalog map (length out)) out (toSpecListing r) out′
+    → (toSpecListing r ≡ result (listing catalog map (length out)))
+    × ((out′ ≡ stored (listing catalog map (length out)) out) × HeadersCounted map r)
+with-headers catalog map out r w = (w .0, (w .1, headers-counted catalog map (length out) r (w .0)))
+
 slice-aggregate-survey-plant : tie.Need-slice-aggregate-survey-plant
 slice-aggregate-survey-plant c = sym (length-replicate {A = ℕ} 65536 0)
 
@@ -40,7 +49,8 @@ returns c =
     let g = c .before .before .before .survey .given in
     let e = sym (ap toSpecListing (g .1)) ∙ m .survey-plant .ensures .0 in
     let n = too-short out a (g .0 .0) (g .0 .1 .0) e (omega arith) in
-    answered-by out (listing-records (v .catalog .now) (v .map .now) (length out)) (c .refused .ensures ∙ n .0, n .1)
+    with-headers (v .catalog .now) (v .map .now) out (c .refused .result)
+    (answered-by out (listing-records (v .catalog .now) (v .map .now) (length out)) (c .refused .ensures ∙ n .0, n .1))
 
 put-map-requires : tie.Need-put-map-requires
 put-map-requires c κs =
@@ -61,8 +71,9 @@ returns-2 c =
     let e = sym (ap toSpecListing (g .1)) ∙ m .survey-plant .ensures .0 in
     let capacity = has-capacity out a (g .0 .0) (g .0 .1 .0) e (omega arith) in
     let w = survey-walk (v .catalog .now) (v .map .now) out (g .0 .0) (g .0 .1 .0) e (omega arith) in
-    answered-by out (listing-records (v .catalog .now) (v .map .now) (length out) ∙ capacity .1)
-    (e, c .before .before .before .put-map .ensures ∙ ap (λ x. stored x out) (w .2))
+    with-headers (v .catalog .now) (v .map .now) out (Code.Listing.Listed (g .0 .0) (g .0 .1 .0))
+    (answered-by out (listing-records (v .catalog .now) (v .map .now) (length out) ∙ capacity .1)
+    (e, c .before .before .before .put-map .ensures ∙ ap (λ x. stored x out) (w .2)))
 
 returns-3 : tie.Need-returns-3
 returns-3 c =
@@ -73,7 +84,8 @@ returns-3 c =
     let g = c .before .before .survey2 .given in
     let e = sym (ap toSpecListing (g .1)) ∙ m .survey-plant .ensures .0 in
     let n = before-capacity out a (g .0 .0) (g .0 .1 .0) (g .0 .1 .1 .0) e in
-    answered-by out (listing-records (v .catalog .now) (v .map .now) (length out)) (c .refused2 .ensures ∙ n .0, n .1)
+    with-headers (v .catalog .now) (v .map .now) out (c .refused2 .result)
+    (answered-by out (listing-records (v .catalog .now) (v .map .now) (length out)) (c .refused2 .ensures ∙ n .0, n .1))
 
 pub list-spec : {M : Type 1} → statement M
 list-spec =

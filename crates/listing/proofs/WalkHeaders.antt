@@ -7,9 +7,9 @@ use native.Mathlib.Omega.{arith}
 use lib.ListN.{length, take}
 use Rattle.register_map.specs.Scan.{Model, sizeOf, totalSize, Ending, marked, broken}
 use Rattle.layout.specs.Reading.{Reading, unknown, faulty, points}
 use Rattle.listing.specs.Listing.{Record, recordOf, Answer, refused, listed, withRecords, walk}
 use Rattle.listing.proofs.WalkSteps.{walk-no-records, walk-faulty, walk-points}
-use Rattle.listed_records.proofs.RefusalNumbers.{Between, model-number}
+use Rattle.listing.proofs.RefusalNumbers.{Between, model-number}
 
 -- A refusal lies at a model's header, and is the model's; or at the header behind the last model, and is that header's. Of models
 -- from an index and an address on.

@@ -11,10 +11,10 @@ use Rattle.model_definitions.specs.Definitions.{definitions}
 use Rattle.register_map.specs.Scan.{scan}
 use Rattle.register_map.proofs.MadeOfModels.{marked-count}
 use Rattle.layout.specs.Reading.{reading}
 use Rattle.listing.specs.Listing.{Record, recordWidth, Answer, refused, listed, listing}
-use Rattle.listed_records.proofs.RefusalNumbers.{Between, catalog-number, opening-number, ending-number}
-use Rattle.listed_records.proofs.WalkHeaders.{HeadersWalked, walk-headers}
+use Rattle.listing.proofs.RefusalNumbers.{Between, catalog-number, opening-number, ending-number}
+use Rattle.listing.proofs.WalkHeaders.{HeadersWalked, walk-headers}
 use Rattle.listing.proofs.ListingCases.{Walks, Case, catalogRefused, openingRefused, walkRefused, tooShort, allListed, listing-case}
 
 module _ (catalog map : List ℕ) where
   -- The headers of an answer of the walk.

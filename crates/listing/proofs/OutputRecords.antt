@@ -1,0 +1,25 @@
+-- The records that a call writes are those decoded from its output list.
+use mathlib.Core.Path.{_≡_, refl, sym, ap, _∙_}
+use mathlib.Core.List.{List, [], _∷_, _++_, map}
+use Prim.Native.Nat.{ℕ, _*_}
+use lib.ListN.{length, drop}
+use lib.Seq.{drop-at}
+use Rattle.listing.specs.Listing.{Record, recordNumbers, recordWidth, entries}
+use Rattle.listing.specs.Calls.{recordsIn, consecutive}
+use Rattle.listing.proofs.WrittenRecords.{entries-length}
+
+-- Entries are the numbers of consecutive records.
+pub entries-consecutive : (rs : List Record) → entries rs ≡ consecutive (map recordNumbers rs)
+unfolding entries consecutive
+entries-consecutive [] = refl
+entries-consecutive (r ∷ rs) = ap (λ ns. recordNumbers r ++ ns) (entries-consecutive rs)
+
+-- Decoded, they are these records' numbers,
+pub records-back : (rs : List Record) (rest : List ℕ) → recordsIn (length rs) (entries rs ++ rest) ≡ map recordNumbers rs
+unfolding entries recordsIn recordNumbers
+records-back [] rest = refl
+records-back (r ∷ rs) rest = ap (λ ns. recordNumbers r ∷ ns) (records-back rs rest)
+
+-- and what follows them is the rest.
+pub rest-back : (rs : List Record) (rest : List ℕ) → drop (recordWidth * length rs) (entries rs ++ rest) ≡ rest
+rest-back rs rest = drop-at (entries rs) rest (recordWidth * length rs) (entries-length rs)

@@ -1,0 +1,78 @@
+-- Two calls of `list` compared (document 01, "The map"): what inserted and removed models change of the result and of the output list.
+-- The records of a call are decoded from the entries of its own output list.
+use mathlib.Core.Path.{_≡_}
+use mathlib.Core.Bool.{Bool, true, false, _&&_}
+use mathlib.Core.List.{List, _++_, map}
+use Prim.Native.Nat.{ℕ, _+_, _*_}
+use lib.Dec.{eqb, leb}
+use lib.ListN.{length, drop, set}
+use Rattle.lists.specs.Each.{Each}
+use Rattle.lists.specs.Tests.{selected}
+use Rattle.model_definitions.specs.Definitions.{Definition, definitions}
+use Rattle.register_map.specs.Scan.{Model, totalSize, scan}
+use Rattle.register_map.specs.Insertion.{Placed, placed, gapsBefore}
+use Rattle.listing.specs.Listing.{Result, refusedResult, listedResult, recordWidth}
+use Rattle.listing.specs.declared.Listing as Code
+use Rattle.listing.specs.CodeTypes.{toSpecListing}
+use Rattle.listing.specs.Calls.{pointsIn, recordsIn, consecutive, indexIn, idIn, addressIn}
+use Rattle.stability.specs.Stability.{AreLower}
+use Rattle.stability.specs.Removed.{keepsId}
+
+-- ---- Models inserted into the map
+
+-- A record's ten numbers, moved by the models inserted before its model: the index rises by their number, the address by the sum of
+-- 2 + length over them. The other eight numbers stay.
+abbrev pub movedNumbers : List (List Model) → List ℕ → List ℕ
+movedNumbers gaps numbers =
+    let before : List Model = gapsBefore (indexIn numbers) gaps in
+    set (set numbers 0 (indexIn numbers + length before)) 6 (addressIn numbers + totalSize before)
+
+-- An output list with its first n records moved, and the rest as it was.
+abbrev pub movedList : List (List Model) → ℕ → List ℕ → List ℕ
+movedList gaps n list = consecutive (map (movedNumbers gaps) (recordsIn n list)) ++ drop (recordWidth * n) list
+
+-- A result moved, of a map with n models. Acceptance and 30: the headers rise by the number inserted. 27 to 29: the headers rise by the
+-- number inserted before that header, the place by the sum of 2 + length over these. Nothing else changes.
+unfoldable pub movedResult : ℕ → List (List Model) → Result → Result
+movedResult n gaps (listedResult count headers) = listedResult count (headers + length (gapsBefore n gaps))
+movedResult n gaps (refusedResult number place headers count) =
+    elim (eqb number 30) [
+      | true ↦ refusedResult number place (headers + length (gapsBefore n gaps)) count
+      | false ↦ elim (leb 27 number && leb number 29) [
+        | true ↦
+            refusedResult number (place + totalSize (gapsBefore headers gaps)) (headers + length (gapsBefore headers gaps)) count
+        | false ↦ refusedResult number place headers count
+      ]
+    ]
+
+-- What moves a header that is refused by 27 to 29 are exactly the inserted models with lower addresses.
+abbrev pub HeaderByLower : List Placed → List (List Model) → Result → Type 0
+HeaderByLower ps gaps (listedResult count headers) = Unit {0}
+HeaderByLower ps gaps (refusedResult number place headers count) =
+    leb 27 number && leb number 29 ≡ true → AreLower ps gaps headers place
+
+-- The second call listed the lengthened map, the first the map: its result and its output list are the first ones, moved; and what moves
+-- a record or a refused header are exactly the inserted models with lower addresses.
+pub record InsertionMoves (map : List ℕ) (gaps : List (List Model)) (first : Code.Listing) (firstList : List ℕ)
+    (second : Code.Listing) (secondList : List ℕ) : Type 0 where
+  pub result : toSpecListing second ≡ movedResult (length (scan map .models)) gaps (toSpecListing first)
+  pub list : secondList ≡ movedList gaps (pointsIn (toSpecListing first)) firstList
+  pub recordsByLower : Each (λ numbers. AreLower (placed (scan map .models) gaps) gaps (indexIn numbers) (addressIn numbers))
+      (recordsIn (pointsIn (toSpecListing first)) firstList)
+  pub headerByLower : HeaderByLower (placed (scan map .models) gaps) gaps (toSpecListing first)
+
+-- ---- Models removed from the catalog
+
+-- The records whose definitions the choice keeps, by the ids among their numbers.
+abbrev pub keptRecords : List Bool → List Definition → List (List ℕ) → List (List ℕ)
+keptRecords choice ds = selected (λ numbers. keepsId choice ds (idIn numbers))
+
+-- The second call listed by what is left of the catalog, into the list `out`; the first accepted the map and returned these points and
+-- headers. The second accepts it too, with the same headers; its output list has the kept records of the first, in their order and with
+-- all their numbers, and then what was in it; and its count is the number of these records.
+pub record RemovalKeeps (choice : List Bool) (catalog out : List ℕ) (points headers : ℕ) (firstList : List ℕ) (second : Code.Listing)
+    (secondList : List ℕ) : Type 0 where
+  pub kept : List (List ℕ)
+  pub are : kept ≡ keptRecords choice (definitions catalog) (recordsIn points firstList)
+  pub result : toSpecListing second ≡ listedResult (length kept) headers
+  pub list : secondList ≡ consecutive kept ++ drop (recordWidth * length kept) out
