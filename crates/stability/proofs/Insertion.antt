@@ -1,11 +1,12 @@
 -- Models inserted into a map (document 01, "The map", on models put in).
 --
 -- For every catalog, accepted or not, every map made of whole models, every list of well-formed unknown models for each of its
--- gaps, and every length of the output list: where the lengthened map is within 65,536 registers, its answer is the answer for
--- the map, moved (`movedAnswer`). So it is accepted just where the map is, and else refused by the same number; the count and
--- order of the records stay, and so do each record's id, point number, instances, status, value and scale. Its address rises
--- by exactly the sum of 2 + length over the models inserted before it, and its model's index by their number; and these are
+-- gaps, and every length of the output list: if the lengthened map has at most 65,536 registers, its answer is the answer for
+-- the map, moved (`movedAnswer`). So it is accepted if and only if the map is, and otherwise refused by the same number. The count
+-- and order of the records stay, and so do each record's id, point number, instances, status, value and scale. Its address rises
+-- by exactly the sum of 2 + length over the models inserted before it, and its model's index by their number. These are
 -- the models whose addresses in the lengthened map are lower (`MovedByLower`). It is one claim over all inserted models.
+-- `InsertionCalls` states it of two calls of `list`.
 use mathlib.Core.Path.{_≡_, refl, ap, _∙_}
 use mathlib.Core.Bool.{_&&_}
 use mathlib.Core.List.{List, [], _∷_}
@@ -20,7 +21,7 @@ use Rattle.register_map.specs.Scan.{Model, totalSize, scan, WellFormed}
 use Rattle.register_map.specs.Insertion.{placed, lengthened, gapsBefore}
 use Rattle.register_map.proofs.PlacedModels.{placed-length}
 use Rattle.register_map.proofs.Lengthened.{lengthened-scan, lengthened-length, lengthened-none}
-use Rattle.listing.specs.Listing.{Record, recordNumbers, Answer, refused, listed, listing, pointCount, stored, result}
+use Rattle.listing.specs.Listing.{Record, recordNumbers, Answer, refused, listed, listing, pointCount}
 use Rattle.stability.specs.Stability.{MadeOfWholeModels, UnknownModel, shifted, movedAnswer, MovedByLower, refusalNumber}
 use Rattle.stability.proofs.WholeMaps.{whole-ends, whole-models, lengthened-models}
 use Rattle.stability.proofs.ListingMoved.{listing-moved}
@@ -37,20 +38,7 @@ insertion catalog map gaps capacity whole unknown short =
     listing-moved catalog capacity map (lengthened map gaps) (scan map .models) gaps (whole-models map whole)
     (lengthened-models map whole gaps wellFormed short) unknown
 
--- So it is of what `list` answers, and of the output list behind it.
-pub insertion-result : (catalog map : List ℕ) (gaps : List (List Model)) (out : List ℕ)
-    → MadeOfWholeModels map
-    → Each (Each (UnknownModel catalog)) gaps
-    → length (lengthened map gaps) ≤ 65536
-    → (result (listing catalog (lengthened map gaps) (length out))
-    ≡ result (movedAnswer (length (scan map .models)) gaps (listing catalog map (length out))))
-    × (stored (listing catalog (lengthened map gaps) (length out)) out
-    ≡ stored (movedAnswer (length (scan map .models)) gaps (listing catalog map (length out))) out)
-insertion-result catalog map gaps out whole unknown short =
-    let moved = insertion catalog map gaps (length out) whole unknown short .0 in
-    (ap result moved, ap (λ a. stored a out) moved)
-
--- ---- What it says, in part
+-- ---- Parts of the claim
 
 -- Of a record's ten numbers only the model's index and the address change.
 pub shifted-numbers : (ms : List Model) (r : Record) → recordNumbers (shifted ms r)
@@ -86,7 +74,7 @@ moved-count n gaps (refused number place headers) =
 
 module _ (catalog map : List ℕ) (gaps : List (List Model)) (capacity : ℕ) (whole : MadeOfWholeModels map)
     (unknown : Each (Each (UnknownModel catalog)) gaps) (short : length (lengthened map gaps) ≤ 65536) where
-  -- The lengthened map is accepted just where the map is, and otherwise both are refused by the same number.
+  -- The lengthened map is accepted if and only if the map is, and otherwise both are refused by the same number.
   pub same-number : refusalNumber (listing catalog (lengthened map gaps) capacity) ≡ refusalNumber (listing catalog map capacity)
   same-number =
       ap refusalNumber (insertion catalog map gaps capacity whole unknown short .0)

@@ -3,7 +3,7 @@ use mathlib.Core.Path.{_≡_, refl, sym, ap, _∙_}
 use mathlib.Core.List.{List, [], _∷_}
 use Prim.Native.Nat.{ℕ, _≤_}
 use native.Mathlib.Omega.{arith}
-use lib.ListN.{length}
+use lib.ListN.{length, replicate}
 use Rattle.lists.specs.Each.{Each}
 use Rattle.registers.specs.Registers.{join, shownRaw, tooWide}
 use Rattle.point_types.specs.Rows.{rows, rowAmong, registersOf}
@@ -19,9 +19,14 @@ use Rattle.register_map.specs.Insertion.{placed, lengthened, gapsBefore}
 use Rattle.layout.specs.Points.{ModelPoint, pointAt}
 use Rattle.layout.specs.Layout.{within, measured, fillMeasured, countUnimplemented, fits, fillOf, pointsAt, groupsBy, entered, contentAt}
 use Rattle.layout.specs.Reading.{endsWithPad, readFull, readBy, topOf, reading}
-use Rattle.listing.specs.Listing.{Record, listed, walk, recordsBy, allRecords, withCapacity, listing}
+use Rattle.listing.specs.Listing.{Record, recordNumbers, listed, walk, recordsBy, allRecords, withCapacity, listing, entries, stored, listedResult}
+use Rattle.listing.specs.declared.Listing as Code
+use Rattle.listing.specs.CodeTypes.{toSpecListing}
+use Rattle.listing.specs.Calls.{ListCall, recordsIn, consecutive}
 use Rattle.stability.specs.Stability.{MadeOfWholeModels, UnknownModel, movedAnswer, MovedByLower}
+use Rattle.stability.specs.TwoCalls.{movedResult}
 use Rattle.stability.proofs.Insertion.{insertion}
+use Rattle.stability.proofs.InsertionCalls.{insertion-calls}
 
 abbrev catalog : List ℕ
 catalog =
@@ -33,7 +38,7 @@ catalog =
     ∷ 4 ∷ 0 ∷ 0 ∷ 0 ∷ 0 ∷ 0 ∷ 0 ∷ 0
     ∷ []
 
--- Models 1 and 7, the marker and a register behind it.
+-- Models 1 and 7, the marker and a register after it.
 abbrev plant : List ℕ
 plant = 0x5375 ∷ 0x6E53 ∷ 1 ∷ 1 ∷ 40 ∷ 7 ∷ 1 ∷ 50 ∷ 0xFFFF ∷ 0 ∷ 77 ∷ []
 
@@ -104,6 +109,32 @@ new =
     ∙ (insertion catalog plant gaps 20 whole unknown short .0
     ∙ (ap (λ a. movedAnswer (length (scan plant .models)) gaps a) old ∙ expected))
 
--- Unmoved is no answer.
+-- What moves each record are the inserted models with lower addresses.
 pub lower : MovedByLower (placed (scan plant .models) gaps) gaps (listing catalog plant 20)
 lower = insertion catalog plant gaps 20 whole unknown short .1
+
+-- ---- Two calls, each with a list of 21 entries, all 9
+
+abbrev out : List ℕ
+out = replicate 21 9
+
+-- The call for the map as it was.
+abbrev firstList : List ℕ
+firstList = 0 ∷ 1 ∷ 1 ∷ 0 ∷ 0 ∷ 0 ∷ 4 ∷ 0 ∷ 40 ∷ 0 ∷ 1 ∷ 7 ∷ 1 ∷ 0 ∷ 0 ∷ 0 ∷ 7 ∷ 0 ∷ 50 ∷ 0 ∷ 9 ∷ []
+
+first-call : ListCall catalog plant out (Code.Listing.Listed 2 3) firstList
+unfolding rows rowAmong registersOf join shownRaw tooWide inRange classOf classified
+    frameOf framesFrom isSizeOf checkFrom checked parsed opening scanFrom scan
+    pointAt within measured fillMeasured countUnimplemented fits fillOf pointsAt groupsBy entered contentAt
+    endsWithPad readFull readBy topOf reading walk recordsBy allRecords withCapacity listing
+    recordNumbers entries stored
+first-call = record { result = refl; list = refl }
+
+-- Whatever the call for the lengthened map returns and leaves: model 7's record has index 3 and address 14, and nothing else changes.
+pub second-list : (second : Code.Listing) (secondList : List ℕ) → ListCall catalog (lengthened plant gaps) out second secondList
+    → (toSpecListing second ≡ listedResult 2 6)
+    × (secondList ≡ 0 ∷ 1 ∷ 1 ∷ 0 ∷ 0 ∷ 0 ∷ 4 ∷ 0 ∷ 40 ∷ 0 ∷ 3 ∷ 7 ∷ 1 ∷ 0 ∷ 0 ∷ 0 ∷ 14 ∷ 0 ∷ 50 ∷ 0 ∷ 9 ∷ [])
+unfolding scanFrom scan gapsBefore movedResult recordsIn consecutive
+second-list second secondList call =
+    let m = insertion-calls catalog plant gaps out whole unknown short _ firstList first-call second secondList call in
+    (m .result, m .list)

@@ -19,7 +19,7 @@ use Rattle.listing.proofs.ResultCases.{result-listed}
 use Rattle.listing.proofs.OutputRecords.{entries-consecutive, records-back}
 use Rattle.stability.specs.Removed.{keepsId, recordsLeft}
 use Rattle.stability.specs.TwoCalls.{keptRecords, RemovalKeeps}
-use Rattle.stability.proofs.Removal.{removal-same-list}
+use Rattle.stability.proofs.Removal.{removal}
 
 -- Selected of images are the images of those selected.
 pub selected-map : {A B : Type 0} (f : A → B) (test : B → Bool) (xs : List A)
@@ -52,7 +52,7 @@ removal-calls choice catalog map out points headers firstList one second secondL
     let rest = drop (recordWidth * length rs) out in
     let left = recordsLeft choice ds rs in
     let kept = Lists.map recordNumbers left in
-    let answer = removal-same-list choice catalog map (length out) rs headers (l .is) in
+    let answer = removal choice catalog map (length out) rs headers (l .is) in
     let decoded = ap (λ n. recordsIn n firstList) (l .count)
         ∙ ap (recordsIn (length rs)) (one .list ∙ ap (λ a. stored a out) (l .is))
         ∙ records-back rs rest in

@@ -1,9 +1,8 @@
 -- Removal on an example: a catalog of models 1 and 7, a map with both and an unknown one between them.
 use mathlib.Core.Path.{_≡_, refl, ap, _∙_}
-use mathlib.Core.List.{List, [], _∷_}
-use Prim.Native.Nat.{ℕ, _*_, _≤_}
-use native.Mathlib.Omega.{arith}
-use lib.ListN.{length}
+use mathlib.Core.List.{List, [], _∷_, _++_}
+use Prim.Native.Nat.{ℕ, _*_}
+use lib.ListN.{length, drop, replicate}
 use Rattle.registers.specs.Registers.{join, shownRaw, tooWide}
 use Rattle.point_types.specs.Rows.{rows, rowAmong, registersOf}
 use Rattle.values.specs.Classes.{inRange, classOf, classified}
@@ -18,9 +17,12 @@ use Rattle.register_map.specs.Scan.{scanFrom, scan}
 use Rattle.layout.specs.Points.{ModelPoint, pointAt}
 use Rattle.layout.specs.Layout.{within, measured, fillMeasured, countUnimplemented, fits, fillOf, pointsAt, groupsBy, entered, contentAt}
 use Rattle.layout.specs.Reading.{endsWithPad, readFull, readBy, topOf, reading}
-use Rattle.listing.specs.Listing.{Record, recordWidth, listed, walk, recordsBy, allRecords, withCapacity, listing}
+use Rattle.listing.specs.Listing.{Record, recordNumbers, listed, walk, recordsBy, allRecords, withCapacity, listing, entries, stored}
+use Rattle.listing.specs.declared.Listing as Code
+use Rattle.listing.specs.Calls.{ListCall, recordsIn, consecutive}
 use Rattle.stability.specs.Removed.{keepsId, recordsLeft}
 use Rattle.stability.proofs.Removal.{removal}
+use Rattle.stability.proofs.RemovalCalls.{removal-calls}
 
 -- Models 1 and 7, each of one uint16 point, numbered 1.
 abbrev catalog : List ℕ
@@ -70,10 +72,33 @@ pub model7-left : recordsLeft (allButOne 0) (definitions catalog) (model1 ∷ mo
 unfolding frameOf framesFrom parsed keepsId selected
 model7-left = refl
 
--- What the catalog without model 1 lists, into a list of ten entries.
-pub model7-listed : listing (keeping (allButOne 0) catalog) plant 10 ≡ listed (model7 ∷ []) 4
+-- What the catalog without model 1 lists.
+pub model7-listed : listing (keeping (allButOne 0) catalog) plant 20 ≡ listed (model7 ∷ []) 4
 model7-listed =
-    let rs : List Record = model1 ∷ model7 ∷ [] in
-    let Fits = recordWidth * length (recordsLeft (allButOne 0) (definitions catalog) rs) ≤ 10 in
-    let capacity : Fits = rw model7-left (omega arith) in
-    removal (allButOne 0) catalog plant 20 10 rs 4 both-listed capacity ∙ ap (λ ss. listed ss 4) model7-left
+    removal (allButOne 0) catalog plant 20 (model1 ∷ model7 ∷ []) 4 both-listed ∙ ap (λ ss. listed ss 4) model7-left
+
+-- ---- Two calls, each with a list of 21 entries, all 9
+
+abbrev out : List ℕ
+out = replicate 21 9
+
+-- The call by the whole catalog writes both records; the last entry stays.
+abbrev firstList : List ℕ
+firstList = 0 ∷ 1 ∷ 1 ∷ 0 ∷ 0 ∷ 0 ∷ 4 ∷ 0 ∷ 40 ∷ 0 ∷ 2 ∷ 7 ∷ 1 ∷ 0 ∷ 0 ∷ 0 ∷ 11 ∷ 0 ∷ 50 ∷ 0 ∷ 9 ∷ []
+
+first-call : ListCall catalog plant out (Code.Listing.Listed 2 4) firstList
+unfolding rows rowAmong registersOf join shownRaw tooWide inRange classOf classified
+    frameOf framesFrom isSizeOf checkFrom checked parsed opening scanFrom scan
+    pointAt within measured fillMeasured countUnimplemented fits fillOf pointsAt groupsBy entered contentAt
+    endsWithPad readFull readBy topOf reading walk recordsBy allRecords withCapacity listing
+    recordNumbers entries stored
+first-call = record { result = refl; list = refl }
+
+-- Whatever the call by the catalog without model 1 returns and leaves: it has the record of model 7, and the other entries stay.
+pub second-list : (second : Code.Listing) (secondList : List ℕ)
+    → ListCall (keeping (allButOne 0) catalog) plant out second secondList
+    → secondList ≡ 2 ∷ 7 ∷ 1 ∷ 0 ∷ 0 ∷ 0 ∷ 11 ∷ 0 ∷ 50 ∷ 0 ∷ replicate 11 9
+unfolding frameOf framesFrom parsed keepsId selected recordsIn consecutive
+second-list second secondList call =
+    let r = removal-calls (allButOne 0) catalog plant out 2 4 firstList first-call second secondList call in
+    r .list ∙ ap (λ ks. consecutive ks ++ drop (10 * length ks) out) (r .are)
