@@ -1,4 +1,4 @@
--- The extent of groups, met one by one: with one more group in front, the groups met and those from there on are all of them.
+-- The extent of groups, summed up one by one: the groups visited and the remaining ones together have the extent of all.
 use mathlib.Core.Path.{_≡_, refl, sym, ap, _∙_}
 use mathlib.Core.Bool.{Bool, true, false, _&&_, _||_}
 use mathlib.Core.List.{List}
@@ -19,12 +19,12 @@ use Rattle.listing.specs.InternalContracts.{ExtentOf, SameExtent, WithGr
 use Rattle.definition_frames.specs.declared.runs.Run.{Run}
 use Rattle.listing.specs.declared.extents.Extent.{Extent}
 
--- Where a group is still to come, none that was met fills the model.
+-- If a group remains, no group visited so far is a fill group.
 abbrev pub NoFillYet : Groups → Extent → Type 0
 NoFillYet noGroup sum = Unit {0}
 NoFillYet (group h ps inside following) sum = (sum .«fill_size» ≡ 0) × (sum .«fill_points» ≡ 0)
 
--- What is summed up of the groups met, with the rest of them, is the extent of all.
+-- `sum`, the extent of the groups visited, and the extent of `rest` together are the extent of `all`.
 pub record SummedUp (top : Scope) (all rest : Groups) (sum : Extent) : Type 0 where
   pub sizes : min (sum .size + groupsSize (countOf top 0) rest) 65536 ≡ min (groupsSize (countOf top 0) all) 65536
   pub points : min (sum .points + groupsPoints (countOf top 0) rest) 65536 ≡ min (groupsPoints (countOf top 0) all) 65536
@@ -37,7 +37,7 @@ pub record SummedUp (top : Scope) (all rest : Groups) (sum : Extent) : Type 0 wh
 
 -- ---- Numbers and tests
 
--- A sum, with the group in front taken into it.
+-- The sum with the next group added to it.
 total : (sum count own inner following all run inside new : ℕ) → min (sum + (count * (own + inner) + following)) 65536 ≡ all
     → run ≡ own → inside ≡ min inner 65536 → new ≡ min (sum + count * min (run + inside) 65536) 65536
     → min (new + following) 65536 ≡ all
@@ -46,7 +46,7 @@ total sum count own inner following all run inside new a r i n =
     let q : new ≡ min (sum + count * min (own + inner) 65536) 65536 = n ∙ ap (λ x. min (sum + count * x) 65536) s in
     omega (arith, a, q, capped-factor 65536 sum count (own + inner))
 
--- The same test of three, in another order.
+-- The disjunction of the same tests in another order.
 reordered : (sum here inside following all new : Bool) → (sum || (here || (inside || following))) ≡ all
     → new ≡ (sum || (inside || here)) → (new || following) ≡ all
 reordered true here inside following all new a n = rw n a
@@ -55,7 +55,7 @@ reordered false true false following all new a n = rw n a
 reordered false false true following all new a n = rw n a
 reordered false false false following all new a n = rw n a
 
--- The size of an instance of the fill group, with the group in front taken into it; there is but one such group.
+-- The size of an instance of the fill group, with the next group added; there is at most one fill group.
 filled : (fills : Bool) (own inner following all run inside old new : ℕ)
     → old + min (elim fills [ true ↦ own + inner | false ↦ following ]) 65536 ≡ all → old ≡ 0 → (fills ≡ true → following ≡ 0)
     → run ≡ own → inside ≡ min inner 65536 → new ≡ elim fills [ true ↦ min (run + inside) 65536 | false ↦ old ]
@@ -63,7 +63,7 @@ filled : (fills : Bool) (own inner following all run inside old new : ℕ)
 filled true own inner following all run inside old new a z last r i n = let b = last refl in omega arith
 filled false own inner following all run inside old new a z last r i n = omega arith
 
--- Where the group in front does not fill, what was summed up stays.
+-- If the next group is no fill group, the fill stays 0.
 not-filled : (fills : Bool) (size old new : ℕ) → fills ≡ false → new ≡ elim fills [ true ↦ size | false ↦ old ] → old ≡ 0
     → new ≡ 0
 not-filled true size old new f n z = clash f
@@ -77,7 +77,7 @@ size-picked false size other = refl
 
 -- ---- Groups
 
--- Behind a group that fills there is none.
+-- No group follows a fill group.
 none-yet : (following : Groups) (r : Extent) (fills : Bool) → (fills ≡ true → following ≡ noGroup)
     → (fills ≡ false → (r .«fill_size» ≡ 0) × (r .«fill_points» ≡ 0)) → NoFillYet following r
 none-yet noGroup r fills last z = tt
@@ -86,7 +86,7 @@ none-yet (group h ps inside following) r true last z =
 none-yet (group h ps inside following) r false last z = z refl
 
 module _ (top : Scope) (all : Groups) where
-  -- Nothing is met.
+  -- No group is visited yet.
   pub none-visited : (sum : Extent) → sum .size ≡ 0 → sum .points ≡ 0 → sum .«fill_size» ≡ 0 → sum .«fill_points» ≡ 0
       → sum .unimplemented ≡ false → SummedUp top all all sum
   none-visited sum s p fs fp u =
@@ -104,7 +104,7 @@ module _ (top : Scope) (all : Groups) where
       not-yet noGroup = tt
       not-yet (group h ps inside following) = (fs, fp)
 
-  -- All are met.
+  -- All groups are visited.
   pub all-visited : (sum r : Extent) → SummedUp top all noGroup sum → SameExtent sum r → ExtentOf top all r
   unfolding measured fillMeasured countUnimplemented
   all-visited sum r s c =
@@ -125,7 +125,7 @@ module _ (top : Scope) (all : Groups) where
       (run : Run) (size : run .size ≡ pointsSize ps) (points : run .points ≡ length ps)
       (lower : Extent) (i : ExtentOf top inside lower)
       (r : Extent) (w : WithGroup sum top h run lower r) where
-    -- One more is met.
+    -- One more group is visited.
     pub one-more : SummedUp top all following r
     unfolding measured fillMeasured countUnimplemented
     one-more =

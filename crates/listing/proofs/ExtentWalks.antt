@@ -17,7 +17,7 @@ use Rattle.definition_frames.specs.declared.runs.Run.{Run}
 use Rattle.listing.specs.declared.extents.Extent.{Extent}
 use Rattle.listing.proofs.ExtentSteps.{SummedUp, all-visited, one-more}
 
--- How many frames a group and those behind it take.
+-- The number of frames of a group and those after it.
 frames-taken : (h : Head) (ps : List Point) (inside following : Groups)
     → length (groupFrames (group h ps inside following))
     ≡ length ps + length (groupFrames inside) + length (groupFrames following) + 2
@@ -27,7 +27,7 @@ frames-taken h ps inside following =
     let b = length-append (groupFrames inside) (endFrame ∷ groupFrames following) in
     omega (arith, p, a, b)
 
--- The end behind groups that stand here.
+-- The end frame comes after the groups that begin at frame i.
 end-here : (ws : List ℕ) (i : ℕ) (g : Groups) → contentFrom ws i .points ≡ [] → contentFrom ws i .groups ≡ g
     → pastEnd ws i ≡ i + length (groupFrames g) + 1
 end-here ws i g n e =
@@ -39,7 +39,7 @@ end-here ws i g n e =
 
 module _ (ws : List ℕ) (i levels : ℕ) (at : AtGroups ws i levels) (few : levels ≤ 3) (h : Head)
     (e : headOf (frameIn ws i) ≡ some h) where
-  -- Past the group is in front of the same end.
+  -- From the frame after the group on, the enclosing group has the same end.
   same-end : pastEnd ws (pastEnd ws (i + 1)) ≡ pastEnd ws i
   same-end =
       let n = position.group-next ws i (at .parses) (at .noPoint) h e in
@@ -50,14 +50,14 @@ module _ (ws : List ℕ) (i levels : ℕ) (at : AtGroups ws i levels) (few : lev
       let f = frames-taken h (c .points) (c .groups) following in
       omega (arith, here, there, f)
 
-  -- Behind its points is in front of its own end.
+  -- From the frame after its own points on, the group has the same end.
   pub own-end : pastEnd ws (i + 1 + length (contentFrom ws (i + 1) .points)) ≡ pastEnd ws (i + 1)
   own-end =
       let n = position.group-next ws i (at .parses) (at .noPoint) h e in
       let r = position.after-run ws (i + 1) (n .1) in
       end-here ws (i + 1 + length (contentFrom ws (i + 1) .points)) (contentFrom ws (i + 1) .groups) (r .0) (r .1)
 
-  -- Its points are no more than frames, and take 64 registers each at most.
+  -- It has at most 4,096 points, of at most 64 registers each.
   pub own-few : (length (contentFrom ws (i + 1) .points) ≤ 4096) × (pointsSize (contentFrom ws (i + 1) .points) ≤ 262144)
   own-few =
       let n = position.group-next ws i (at .parses) (at .noPoint) h e in
@@ -69,7 +69,7 @@ module _ (ws : List ℕ) (i levels : ℕ) (at : AtGroups ws i levels) (few : lev
 
 -- ---- The sum
 
--- The walk stands at groups of the group in which it began, and has summed up those in front of them.
+-- The walk is at groups of the group in which it began, and `sum` is the extent of the groups before them.
 pub record Walked (ws : List ℕ) (top : Scope) (levels first : ℕ) (sum : Extent) : Type 0 where
   pub position : AtGroups ws (sum .next) levels
   pub few : levels ≤ 3
@@ -77,7 +77,7 @@ pub record Walked (ws : List ℕ) (top : Scope) (levels first : ℕ) (sum : Exte
   pub summed : SummedUp top (contentFrom ws first .groups) (contentFrom ws (sum .next) .groups) sum
 
 module _ (ws : List ℕ) (top : Scope) (levels first : ℕ) (sum : Extent) (walked : Walked ws top levels first sum) where
-  -- A step.
+  -- A step over the group at `sum .next`.
   pub walks-on : (h : Head) → headOf (frameIn ws (sum .next)) ≡ some h → (run : Run) → RunOf ws (sum .next + 1) run
       → (lower : Extent) → ExtentOf top (contentFrom ws (run .next) .groups) lower → lower .next ≡ pastEnd ws (run .next)
       → (r : Extent) → WithGroup sum top h run lower r → Walked ws top levels first r × (sum .next < r .next)
@@ -107,7 +107,7 @@ module _ (ws : List ℕ) (top : Scope) (levels first : ℕ) (sum : Extent) (walk
       } in
       (there, omega (arith, next))
 
-  -- The end.
+  -- No group is left: `sum` is the extent of all.
   pub walk-ends : headOf (frameIn ws (sum .next)) ≡ none → (r : Extent) → SameExtent sum r → r .next ≡ sum .next + 1
       → ExtentOf top (contentFrom ws first .groups) r × (r .next ≡ pastEnd ws first)
   walk-ends e r c n =

@@ -1,4 +1,4 @@
--- Writing the records of groups, instance by instance: what is still to be written, from an instance of the first group on.
+-- Writing the records of groups, instance by instance: what remains to be written from instance j of the first group on.
 use mathlib.Core.Path.{_≡_, refl, sym, ap, subst, _∙_}
 use mathlib.Core.Bool.{true, false}
 use mathlib.Core.List.{List, [], _∷_, _++_, append-assoc}
@@ -76,7 +76,7 @@ module _ (body : List ℕ) (count : Head → ℕ) (level : ℕ) (around : Instan
       rw (e, o) (sym (from-first offset following))
 
 module _ (weight : List Point → ℕ) (count : Head → ℕ) where
-  -- What groups measure from instance j of the first one on.
+  -- The registers or points (by `weight`) of groups from instance j of the first one on.
   abbrev pub measuredFrom : ℕ → Groups → ℕ
   measuredFrom j noGroup = 0
   measuredFrom j (group h ps inside following) =
@@ -100,7 +100,7 @@ module _ (weight : List Point → ℕ) (count : Head → ℕ) where
 
 -- ---- Scopes
 
--- A scope within an instance is the one around it but for the instance's points.
+-- Within an instance, the scope differs from the enclosing one only at the instance's own points.
 within-except : (body : List ℕ) (offset : ℕ) (ps : List Point) (s : Scope) (n : ℕ)
     → among n (numbersOf (pointFrames ps)) ≡ false → within body offset ps s n ≡ s n
 unfolding within
@@ -112,7 +112,7 @@ within-except body offset (p ∷ ps) s n e =
 
 -- ---- The state of the walk
 
--- The first group has as many instances as have been passed, or more.
+-- The first group has at least j instances.
 abbrev pub Passed : (Head → ℕ) → ℕ → Groups → Type 0
 Passed count j noGroup = Unit {0}
 Passed count j (group h ps inside following) = j ≤ count h
@@ -125,8 +125,8 @@ module _ (body : List ℕ) (visit : Visit) (fill level : ℕ) (path table₀ out
   abbrev counting : Head → ℕ
   counting = countOf (scopeIn table₀) fill
 
-  -- How far writing has come: the walk stands at instance j of the first of the groups `g`, in a table and a list; it began at
-  -- the groups `g₀` with table₀ and out₀. What is still to be written gives the list that is asked for.
+  -- The state of writing: the walk is at instance j of the first of the groups `g`, with `table` and `out`; it began at the groups
+  -- `g₀` with table₀ and out₀. Writing what remains into `out` gives the list that the contract requires.
   pub record Writing (table out : List ℕ) (records offset j : ℕ) (g : Groups) : Type 0 where
     pub top : List Point
     pub enclosing : List Point
@@ -142,7 +142,7 @@ module _ (body : List ℕ) (visit : Visit) (fill level : ℕ) (path table₀ out
     pub isTable : IsTable table
     pub sameLength : length out ≡ length out₀
 
-  -- What writing the own points and the groups of an instance gives.
+  -- The tables, lists and progress after writing the own points and then the groups of an instance.
   pub record InstanceWritten (table out : List ℕ) (records offset j : ℕ) (ps : List Point) (inside : Groups)
       (table₁ out₁ table₂ out₂ : List ℕ) (records₂ offset₂ : ℕ) : Type 0 where
     pub tableWith : (n : ℕ) → scopeIn table₁ n ≡ within body offset ps (scopeIn table) n
@@ -157,7 +157,7 @@ module _ (body : List ℕ) (visit : Visit) (fill level : ℕ) (path table₀ out
     pub agreeExcept : AgreeExcept (numbersOf (groupFrames inside)) table₁ table₂
     pub isTable : IsTable table₂
 
-  -- Where it begins.
+  -- The state at the start.
   pub writing-begins : (top enclosing : List Point) → SoundBelow top enclosing level g₀ → IsTable table₀
       → Writing table₀ out₀ records₀ offset₀ 0 g₀
   writing-begins top enclosing s t =
@@ -176,7 +176,7 @@ module _ (body : List ℕ) (visit : Visit) (fill level : ℕ) (path table₀ out
         sameLength = refl;
       }
 
--- No group is left: the list is the one that is asked for.
+-- No group is left: the list is the one that the contract requires.
 pub writing-ends : {body : List ℕ} {visit : Visit} {fill level : ℕ} {path table₀ out₀ : List ℕ} {records₀ offset₀ : ℕ}
     {g₀ : Groups} {table out : List ℕ} {records offset j : ℕ}
     → Writing body visit fill level path table₀ out₀ records₀ offset₀ g₀ table out records offset j noGroup
@@ -188,7 +188,7 @@ writing-ends {visit = visit} {out = out} {records = records} w =
 
 -- ---- One step
 
--- Writing P and then Q, and then the rest.
+-- Writing ps, then qs, then rs is writing all of them.
 write-on : (visit : Visit) (records : ℕ) (ps qs rs : List ModelPoint) (out out₂ : List ℕ) (n m : ℕ)
     → length ps ≡ n → length qs ≡ m
     → out₂ ≡ written visit (records + n) qs (written visit records ps out)
@@ -213,7 +213,7 @@ module _ {body : List ℕ} {visit : Visit} {fill level : ℕ} {path table₀ out
   abbrev State : List ℕ → List ℕ → ℕ → ℕ → ℕ → Groups → Type 0
   State = Writing body visit fill level path table₀ out₀ records₀ offset₀ g₀
 
-  -- A number around the instance is not one of its own.
+  -- The number of an enclosing point is not used in the group or after it.
   none-own : (p : Point) → In p (w .enclosing) → NoneOf (p .number) ps inside following
   none-own p i = none-of-parts (p .number) h ps inside following (w .sound .apart p i)
 
@@ -223,7 +223,7 @@ module _ {body : List ℕ} {visit : Visit} {fill level : ℕ} {path table₀ out
     agree-within p i =
         tableWith (p .number) ∙ scope-agrees body offset ps (w .enclosing) (scopeIn table) (scopeIn table₀) (w .agree) p i
 
-    -- On the top group it agrees with the table at the start.
+    -- It agrees with the table at the start on the points of the top group.
     agree-top : Agree (w .top) (scopeIn table₁) (scopeIn table₀)
     agree-top p i =
         let k = w .sound .topInScope p i in
@@ -231,7 +231,7 @@ module _ {body : List ℕ} {visit : Visit} {fill level : ℕ} {path table₀ out
         ∙ within-except body offset ps (scopeIn table) (p .number) (none-own p k .ofPoints)
         ∙ w .agree p k
 
-    -- So the groups in the instance measure the same.
+    -- So the groups in the instance have the same sizes and numbers of points.
     pub lower-same : (weight : List Point → ℕ)
         → measured weight (countOf (scopeIn table₁) fill) inside ≡ measured weight count inside
     lower-same weight =
@@ -305,7 +305,7 @@ module _ {body : List ℕ} {visit : Visit} {fill level : ℕ} {path table₀ out
             ∙ lists.written-length visit records P out ∙ w .sameLength;
       }
 
-  -- All instances of the first group have been written: on to the group behind it.
+  -- All instances of the first group have been written: the state at the next group.
   pub writing-past : count h ≤ j → State table out records offset 0 following
   writing-past l =
       record {

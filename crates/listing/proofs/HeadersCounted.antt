@@ -1,4 +1,4 @@
--- The headers that `list` returns on acceptance and on 30, by its result.
+-- The number of headers that `list` returns on acceptance and on 30.
 use mathlib.Core.Path.{_≡_, ap, _∙_}
 use mathlib.Core.List.{List}
 use Prim.Native.Nat.{ℕ}
@@ -9,7 +9,7 @@ use Rattle.listing.proofs.ListingCases.{Walks}
 use Rattle.listing.proofs.ResultCases.{result-listed, result-refused}
 use Rattle.listing.proofs.ListingInversion.{headers-marked, listed-walks, short-walks}
 
--- A walk to the end marker counts them all.
+-- A walk to the end marker counts all headers.
 pub walked-headers : (catalog map : List ℕ) {rs : List Record} {headers : ℕ} → Walks catalog map (listed rs headers)
     → AllHeaders map headers
 walked-headers catalog map w = let h = headers-marked catalog map w in record { counted = h .0; bounded = h .1 }

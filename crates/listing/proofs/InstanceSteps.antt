@@ -1,4 +1,4 @@
--- The steps of the walk that writes groups, at the frames where it stands: into an instance, past a group, to the end.
+-- The steps of the walk that writes groups, by the frame at which it is: into an instance, past a group, to the end.
 use mathlib.Core.Path.{_≡_, sym, ap, subst, _∙_}
 use mathlib.Core.List.{List, [], _++_}
 use mathlib.Core.Option.{none, some}
@@ -35,7 +35,7 @@ module _ {ws body : List ℕ} {visit : Visit} {fill levels : ℕ} {path table₀
   abbrev State : List ℕ → List ℕ → ℕ → ℕ → ℕ → Groups → Type 0
   State = Writing body visit fill (levelOf levels) path table₀ out₀ (start .records) (start .offset) g₀
 
-  -- The walk stands at a frame, at instance j of the group there.
+  -- The walk is at frame `frame`, at instance j of the group there.
   abbrev At : List ℕ → List ℕ → ℕ → ℕ → ℕ → ℕ → Type 0
   At table out records offset j frame = State table out records offset j (contentFrom ws frame .groups)
 
@@ -49,7 +49,7 @@ module _ {ws body : List ℕ} {visit : Visit} {fill levels : ℕ} {path table₀
 
   module _ {table out : List ℕ} {records offset j frame : ℕ} (w : At table out records offset j frame) (s : ParsesAt ws frame)
       (n : contentFrom ws frame .points ≡ []) where
-    -- No group is there: all is written.
+    -- At the frame is no group: all is written.
     pub ends : headOf (frameIn ws frame) ≡ none
         → (out
         ≡ written visit (start .records) (groupsAt body counting (levelOf levels) (instanceIn table₀ path) (start .offset) g₀) out₀)
@@ -83,7 +83,7 @@ module _ {ws body : List ℕ} {visit : Visit} {fill levels : ℕ} {path table₀
           subst (State table′ out′ records′ offset′ k)
           (sym (position.group-next ws frame s n h e .0)) v
 
-      -- The table gives the group's count.
+      -- The table gives the group's count, as at the start.
       count-there : countOf (scopeIn table) fill h ≡ counting h
       count-there =
           counts.count-agrees (scopeIn table) (scopeIn table₀) (there .top) (λ p i. there .agree p (there .sound .topInScope p i))
@@ -108,7 +108,7 @@ module _ {ws body : List ℕ} {visit : Visit} {fill levels : ℕ} {path table₀
         counted : j < counting h
         counted = omega (arith, count-there, l)
 
-        -- What writing the instance's own points asks for.
+        -- What writing the instance's own points requires.
         pub own-asks : RunAsks ws body out visit (record { records = records; offset = offset; frame = frame + 1 }) own
         own-asks =
             let z = writing.measure-next pointsSize counting j h own inside following counted in
@@ -124,7 +124,7 @@ module _ {ws body : List ℕ} {visit : Visit} {fill levels : ℕ} {path table₀
             }
 
         module _ (words : (k : ℕ) → getD ws k 0 < 65536) {table₁ out₁ path₁ : List ℕ} {at₁ : Progress}
-            (noting : table₁ ≡ tableWith body offset own table) (way : path₁ ≡ set path (levelOf levels - 2) j)
+            (recording : table₁ ≡ tableWith body offset own table) (way : path₁ ≡ set path (levelOf levels - 2) j)
             (run : AfterRun (record { records = records; offset = offset; frame = frame + 1 }) own at₁)
             (wrote : out₁
             ≡ written visit records
@@ -133,22 +133,22 @@ module _ {ws body : List ℕ} {visit : Visit} {fill levels : ℕ} {path table₀
           in-table : (k : ℕ) → scopeIn table₁ k ≡ within body offset own (scopeIn table) k
           in-table k =
               let numbers = numbers-in-table ws words (frame + 1) (position.group-next ws frame s n h e .1) in
-              ap (λ t. scopeIn t k) noting ∙ ap (λ (r : Scope). r k) (table-with-scope body offset own table (w .isTable) numbers)
+              ap (λ t. scopeIn t k) recording ∙ ap (λ (r : Scope). r k) (table-with-scope body offset own table (w .isTable) numbers)
 
           still-table : IsTable table₁
-          still-table = ap length noting ∙ table-with-length body offset own table ∙ w .isTable
+          still-table = ap length recording ∙ table-with-length body offset own table ∙ w .isTable
 
           lower-same : (weight : List Point → ℕ)
               → measured weight (countOf (scopeIn table₁) fill) inside ≡ measured weight counting inside
           lower-same = writing.lower-same there table₁ in-table
 
-          -- The groups in the instance, where the walk over them begins.
+          -- The walk over the groups in the instance begins at them.
           pub lower-here : contentFrom ws (at₁ .frame) .groups ≡ inside
           lower-here =
               ap (λ k. contentFrom ws k .groups) (run .frame)
               ∙ position.after-run ws (frame + 1) (position.group-next ws frame s n h e .1) .1
 
-          -- What writing the groups in the instance asks for.
+          -- What writing the groups in the instance requires.
           pub lower-asks : GroupsAsk ws body table₁ out₁ visit fill (levels - 1) path₁ at₁
           lower-asks =
               let r = position.after-run ws (frame + 1) (position.group-next ws frame s n h e .1) in
@@ -188,7 +188,7 @@ module _ {ws body : List ℕ} {visit : Visit} {fill levels : ℕ} {path table₀
                 );
               }
 
-          -- An instance further.
+          -- The instance is written: the walk is at instance j + 1.
           pub further : {table₂ out₂ : List ℕ} {at₂ : Progress}
               → AfterGroups (contentFrom ws (at₁ .frame) .groups) (countOf (scopeIn table₁) fill) at₁ at₂
               → out₂

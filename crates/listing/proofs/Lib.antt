@@ -6,7 +6,7 @@ pub mod RefusalNumbers
 pub mod WalkHeaders
 pub mod ListingInversion
 pub mod HeadersCounted
--- What the proofs of the functions cite: extents and surveys
+-- Cited by the proofs of the functions: extents and surveys
 pub mod ExtentSteps
 pub mod ExtentWalks
 pub mod LocatedGroups

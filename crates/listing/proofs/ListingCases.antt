@@ -1,4 +1,4 @@
--- The ways in which listing comes to its answer.
+-- The cases of listing's answer.
 use mathlib.Core.Path.{_≡_, refl, sym, ap, _∙_}
 use mathlib.Core.List.{List}
 use mathlib.Core.Option.{Option, none, some}
@@ -38,22 +38,22 @@ module _ (read : Model → Reading) (map : List ℕ) where
   unfolding recordsBy
   opened o = rw (o, recordsBy)
 
--- Records that have room are listed.
+-- Records are listed if the list has the capacity for them.
 pub with-capacity : (capacity : ℕ) (rs : List Record) (headers : ℕ) → recordWidth * length rs ≤ capacity
     → withCapacity capacity (listed rs headers) ≡ listed rs headers
 unfolding withCapacity
 with-capacity capacity rs headers fits = rw (le-ltb capacity (recordWidth * length rs) fits, withCapacity)
 
--- ---- All ways
+-- ---- All cases
 
--- None of 1 to 11, 20 and 21 arises, and the walk through the models comes to an answer.
+-- None of 1 to 11, 20 and 21 arises, and the walk over the models yields `answer`.
 pub record Walks (catalog map : List ℕ) (answer : Answer) : Type 0 where
   pub models : ℕ
   pub accepted : Checking.checked catalog ≡ Checking.accepted models
   pub opens : opening map ≡ none
   pub walks : walked (reading (definitions catalog)) map ≡ answer
 
--- An answer by what decides it.
+-- The answers of listing, by what decides them.
 pub data Case (catalog map : List ℕ) (capacity : ℕ) : Answer → Type 0 where
   catalogRefused : {n place : ℕ} → Checking.checked catalog ≡ Checking.refused n place → Case catalog map capacity (refused n place 0)
   openingRefused : {models n : ℕ} → Checking.checked catalog ≡ Checking.accepted models → opening map ≡ some n
@@ -65,7 +65,7 @@ pub data Case (catalog map : List ℕ) (capacity : ℕ) : Answer → Type 0 wher
   allListed : {rs : List Record} {headers : ℕ} → Walks catalog map (listed rs headers) → recordWidth * length rs ≤ capacity
       → Case catalog map capacity (listed rs headers)
 
--- The answer of a walk, with the room for it.
+-- The case of a walk's answer, by the capacity.
 module _ (catalog map : List ℕ) (capacity : ℕ) where
   by-capacity : (answer : Answer) → Walks catalog map answer → Case catalog map capacity (withCapacity capacity answer)
   unfolding withCapacity
@@ -87,24 +87,24 @@ module _ (catalog map : List ℕ) (capacity : ℕ) where
   by-verdict (Checking.refused n place) c = rw (catalog-refused catalog map capacity c) (catalogRefused c)
   by-verdict (Checking.accepted n) c = rw (accepted-listed catalog map capacity c) (by-opening n c (opening map) refl)
 
-  -- Every answer comes in one of these ways.
+  -- Every answer is one of these cases.
   pub listing-case : Case catalog map capacity (listing catalog map capacity)
   listing-case = by-verdict (Checking.checked catalog) refl
 
-  -- Where a walk comes to an answer, listing gives it if there is room.
+  -- If a walk yields an answer, listing returns it if the list has the capacity.
   pub listing-walks : {answer : Answer} → Walks catalog map answer → listing catalog map capacity ≡ withCapacity capacity answer
   listing-walks w =
       accepted-listed catalog map capacity (w .accepted)
       ∙ ap (withCapacity capacity) (opened (reading (definitions catalog)) map (w .opens) ∙ w .walks)
 
-  -- Where the map does not open, that is the answer of every accepted catalog.
+  -- If a map is refused as a whole (20, 21), every accepted catalog gives that answer.
   pub listing-unopened : {models n : ℕ} → Checking.checked catalog ≡ Checking.accepted models → opening map ≡ some n
       → listing catalog map capacity ≡ refused n 0 0
   unfolding withCapacity
   listing-unopened a o =
       accepted-listed catalog map capacity a ∙ ap (withCapacity capacity) (unopened (reading (definitions catalog)) map o)
 
--- ---- All records, whatever the room
+-- ---- All records, whatever the capacity
 
 module _ (catalog map : List ℕ) where
   pub records-refused : {number place : ℕ} → Checking.checked catalog ≡ Checking.refused number place
@@ -117,7 +117,7 @@ module _ (catalog map : List ℕ) where
   unfolding allRecords
   records-accepted e = rw (e, allRecords)
 
-  -- Where the records are listed, a walk came to them.
+  -- If the records are listed, a walk yields them.
   pub records-walk : {rs : List Record} {headers : ℕ} → allRecords catalog map ≡ listed rs headers
       → Walks catalog map (listed rs headers)
   records-walk {rs} {headers} e = by-verdict (Checking.checked catalog) refl
@@ -141,11 +141,11 @@ module _ (catalog map : List ℕ) where
           impossible (cc)
       by-verdict (Checking.accepted n) c = by-opening c (opening map) refl
 
-  -- And where a walk comes to an answer, it is that of all records.
+  -- Conversely, the answer that a walk yields is that of all records.
   pub walk-records : {answer : Answer} → Walks catalog map answer → allRecords catalog map ≡ answer
   walk-records w = records-accepted (w .accepted) ∙ opened (reading (definitions catalog)) map (w .opens) ∙ w .walks
 
--- Listing is all records, if there is room.
+-- Listing returns all records if the list has the capacity.
 pub listing-records : (catalog map : List ℕ) (capacity : ℕ) → listing catalog map capacity ≡ withCapacity capacity (allRecords catalog map)
 unfolding listing
 listing-records catalog map capacity = refl

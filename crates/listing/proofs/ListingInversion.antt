@@ -1,4 +1,4 @@
--- The walk behind an answer: acceptance, 30, and a refusal of 22 to 29 each tell what the walk came to.
+-- From an answer back to the walk: acceptance, 30 and a refusal of 22 to 29 each determine what the walk yields.
 use mathlib.Core.Path.{_≡_, subst}
 use mathlib.Core.List.{List}
 use mathlib.Core.Logic.{⊎-elim}
@@ -17,13 +17,13 @@ use Rattle.listing.proofs.WalkHeaders.{HeadersWalked, walk-headers}
 use Rattle.listing.proofs.ListingCases.{Walks, Case, catalogRefused, openingRefused, walkRefused, tooShort, allListed, listing-case}
 
 module _ (catalog map : List ℕ) where
-  -- The headers of an answer of the walk.
+  -- The number of headers in an answer of the walk.
   pub headers-walked : {answer : Answer} → Walks catalog map answer
       → HeadersWalked (scan map .ending) 0 2 (scan map .models) answer
   headers-walked w =
       rw (w .walks) at (walk-headers (reading (definitions catalog)) (scan map .ending) 0 2 (scan map .models))
 
-  -- Those of a walk to the end marker: models + 1, at most (registers − 1) / 3.
+  -- A walk to the end marker counts models + 1 headers, at most (registers − 1) / 3.
   pub headers-marked : {rs : List Record} {headers : ℕ} → Walks catalog map (listed rs headers)
       → (headers ≡ length (scan map .models) + 1) × (headers ≤ (length map - 1) / 3)
   headers-marked w =
@@ -91,7 +91,7 @@ module _ (catalog map : List ℕ) where
     refused-walks n place headers b e =
         refused-case n place headers b (listing catalog map capacity) (listing-case catalog map capacity) e
 
-    -- 1 to 11, 20 and 21: no header.
+    -- 1 to 11, 20 and 21: 0 headers.
     early-case : (n place headers : ℕ) → n < 22 → (answer : Answer) → Case catalog map capacity answer
         → answer ≡ refused n place headers → headers ≡ 0
     early-case n place headers l answer (catalogRefused c) e = cc

@@ -1,4 +1,4 @@
--- Locating a point in sibling groups, at the frames where the search is: into an instance, past a group, to the end.
+-- Locating a point in sibling groups, by the frame at which the search is: into an instance, past a group, to the end.
 use mathlib.Core.Path.{_≡_, refl, sym, ap, subst, _∙_}
 use mathlib.Core.List.{List, _++_}
 use mathlib.Core.Option.{Option, none, some}
@@ -22,19 +22,19 @@ use Rattle.listing.specs.declared.extents.Extent.{Extent}
 use Rattle.listing.specs.declared.locating.Shape.{Shape}
 use Rattle.listing.proofs.ExtentWalks.{own-end, own-few}
 
--- ---- Sizes that are capped
+-- ---- Capped sizes
 
--- Where a group has an instance and is not larger than the cap, the cap changes nothing of the instance,
+-- If a group has an instance and is not larger than the cap, the instance's size is exact,
 exact : (k a b : ℕ) → 1 ≤ k → k * (a + b) ≤ 65536 → a + min b 65536 ≡ a + b
 exact zero a b one h = absurd (omega arith)
 exact (suc k) a b one h = omega (arith, suc-mul k (a + b))
 
--- and with or without instances nothing of the group.
+-- and with or without instances the group's size is exact.
 exact-product : (k a b : ℕ) → k * (a + b) ≤ 65536 → k * (a + min b 65536) ≡ k * (a + b)
 exact-product zero a b h = zero-mul (a + min b 65536) ∙ sym (zero-mul (a + b))
 exact-product (suc k) a b h = ap (λ s. suc k * s) (exact (suc k) a b (omega arith) h)
 
--- An instance ends where the group does, or before.
+-- An instance ends at the group's end or before.
 ends-before : (j k s : ℕ) → j < k → j * s + s ≤ k * s
 ends-before j k s l = omega (arith, suc-mul j s, mul-le-mul-right s l)
 
@@ -60,7 +60,7 @@ module _ (ws table : List ℕ) (fill levels frame : ℕ) (at : AtGroups ws frame
       (omega arith)
       (s .sound .3))
 
-  -- Its shape, by the extents of what it holds.
+  -- Its shape, by the extents of its points and of the groups in it.
   pub shape-is : (run : Run) (lower : Extent) (count : ℕ) → RunOf ws (frame + 1) run
       → ExtentOf (scopeIn table) (contentFrom ws (run .next) .groups) lower → lower .next ≡ pastEnd ws (run .next)
       → count ≡ counting h → count ≤ 65535
@@ -96,7 +96,7 @@ total-size : (count : Head → ℕ) (h : Head) (ps : List Point) (inside followi
 unfolding measured
 total-size count h ps inside following = refl
 
--- The search is at a group with a head and a shape.
+-- The search is at a group with head h and shape r.
 pub record AtGroup (ws table : List ℕ) (fill levels frame offset : ℕ) (h : Head) (r : Shape) : Type 0 where
   pub asks : LocateAsks ws table fill levels frame offset
   pub head : headOf (frameIn ws frame) ≡ some h
@@ -143,7 +143,7 @@ module _ {ws table : List ℕ} {fill levels frame offset : ℕ} {h : Head} {r : 
   pub level-left : 1 ≤ levels
   level-left = groups.level-left ws frame levels at few h e
 
-  -- All siblings from here on end within the bound.
+  -- This group and those after it end at offset 65536 or before.
   within-bound : offset + (count h * each + groupsSize count next) ≤ 65536
   within-bound = omega (arith, asks .inside, ap (groupsSize count) here, total-size count h points lower next)
 
@@ -157,7 +157,7 @@ module _ {ws table : List ℕ} {fill levels frame offset : ℕ} {h : Head} {r : 
       ap (λ n. n * r .size) (shape .count) ∙ ap (λ n. count h * n) by-parts
       ∙ exact-product (count h) (pointsSize points) (groupsSize count lower) (omega (arith, within-bound))
 
-  -- Past the group.
+  -- The search may continue past the group.
   pub past-asks : LocateAsks ws table fill levels (r .next) (offset + r .count * r .size)
   past-asks =
       record {
@@ -174,7 +174,7 @@ module _ {ws table : List ℕ} {fill levels frame offset : ℕ} {h : Head} {r : 
       }
 
   module _ (number : ℕ) (path : List ℕ) {j : ℕ} (q : j ≡ getD path (levelOf levels - 2) 0) where
-    -- What locating gives here, and past the group.
+    -- The result of locating from this group on, and past it.
     abbrev result : Option Located
     result = locatedIn count number path (levelOf levels) offset (contentFrom ws frame .groups)
 
@@ -187,7 +187,7 @@ module _ {ws table : List ℕ} {fill levels frame offset : ℕ} {h : Head} {r : 
         ∙ ap (λ i. locatedIn count number path (levelOf levels) (offset + r .count * r .size) (contentFrom ws i .groups))
         (sym (shape .next))
 
-    -- The group lacks the instance.
+    -- The group has no instance j.
     pub goes-past : r .count ≤ j → result ≡ past
     goes-past l =
         ap (locatedIn count number path (levelOf levels) offset) here
@@ -213,7 +213,7 @@ module _ {ws table : List ℕ} {fill levels frame offset : ℕ} {h : Head} {r : 
       start-is : j * r .size ≡ j * each
       start-is = ap (λ n. j * n) exact-size
 
-      -- The instance ends within the bound.
+      -- The instance ends at offset 65536 or before.
       pub instance-within : start + each ≤ 65536
       instance-within = omega (arith, start-is, ends-before j (count h) each counted, within-bound)
 
@@ -227,7 +227,7 @@ module _ {ws table : List ℕ} {fill levels frame offset : ℕ} {h : Head} {r : 
           present-all start₁ start points (points-sized (points ++ at .sound .enclosing) points (s .sound .2))
           (omega (arith, shape .own))
 
-      -- The groups in it.
+      -- The search may continue in the groups in it.
       pub lower-asks : LocateAsks ws table fill (levels - 1) (r .inside) start₁
       lower-asks =
           let into = groups.into ws frame levels at few h e in
@@ -246,14 +246,14 @@ module _ {ws table : List ℕ} {fill levels frame offset : ℕ} {h : Head} {r : 
             );
           }
 
-      -- What locating gives among its own points, and in the groups in it.
+      -- The results of locating among its own points, and in the groups in it.
       abbrev own-result : Option Located
       own-result = locatedOwn number path (4 - (levels - 1)) start (presentWithin start₁ start points)
 
       abbrev lower-result : Option Located
       lower-result = locatedIn count number path (levelOf (levels - 1)) start₁ (contentFrom ws (r .inside) .groups)
 
-      -- The instance decides, or what is past the group.
+      -- The result is that of the instance, else that past the group.
       pub goes-in : result ≡ orElse (orElse own-result lower-result) past
       goes-in =
           let there = position.after-run ws (frame + 1) own-parses in
@@ -277,7 +277,7 @@ module _ {ws table : List ℕ} {fill levels frame offset : ℕ} {h : Head} {r : 
           ∙ ap (λ o. orElse (orElse own-result o) (locatedIn count number path (levelOf levels) (offset + count h * each) next)) second
           ∙ ap (orElse (orElse own-result lower-result)) past-is
 
-      -- It is found among the instance's own points, or in the groups in it, or what is past the group decides.
+      -- The three cases: among the instance's own points, in the groups in it, past the group.
       pub found-own : {x : Located} → own-result ≡ some x → some x ≡ result
       found-own o = sym (goes-in ∙ ap (λ y. orElse (orElse y lower-result) past) o)
 

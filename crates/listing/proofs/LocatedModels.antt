@@ -31,13 +31,13 @@ use Rattle.listing.specs.Finding.{nothingResult, foundResult}
 use Rattle.listing.specs.InternalContracts.{ModelAsks, locatedWithin, targetAt, resultAt}
 use Rattle.listing.proofs.ReadyModels as model
 
--- A reading with points is its points.
+-- A reading that has points is `points` of them.
 with-points : (r : Reading) → HasPoints r → r ≡ points (pointsOf r)
 with-points unknown h = absurd h
 with-points (faulty fault) h = absurd h
 with-points (points ps) h = refl
 
--- Without groups.
+-- Groups that pass the test for no group are none.
 no-group : (g : Groups) → hasNoGroup g ≡ true → g ≡ noGroup
 no-group noGroup e = refl
 no-group (group h ps inside next) e = clash (sym e)
@@ -57,7 +57,7 @@ module _ {ws : List ℕ} {id : ℕ} {body table : List ℕ} {first fill : ℕ} (
   abbrev count : Head → ℕ
   count = countOf (scopeIn table) fill
 
-  -- Points and groups end within the bound.
+  -- The top points and the groups end at offset 65536 or before.
   within-bound : pointsSize ps + groupsSize count (top .groups) ≤ 65536
   unfolding measured
   within-bound = go (model.how accepted ready words has)
@@ -68,7 +68,7 @@ module _ {ws : List ℕ} {id : ℕ} {body table : List ℕ} {first fill : ℕ} (
           omega (arith, l .2, ap (groupsSize count) (no-group (top .groups) (l .0)), short)
       go (full kept f) = omega (arith, model.lower-same accepted ready words f pointsSize, model.in-full accepted ready words f, short)
 
-  -- What locating requires.
+  -- The requirements of locating hold.
   pub model-asks : ModelAsks ws table (length body) first fill
   model-asks =
       let there = position.after-run ws first (ready .parses) in
@@ -84,7 +84,7 @@ module _ {ws : List ℕ} {id : ℕ} {body table : List ℕ} {first fill : ℕ} (
         };
       }
 
-  -- What it results in.
+  -- Its result is the first of the model's points with the number and the path.
   pub model-located : (number : ℕ) (path : List ℕ) → length path ≡ 3
       → locatedWithin count number path (length body) top
       ≡ firstLocation number path (pointsOf (model.read accepted ready words))
@@ -121,7 +121,7 @@ module _ {ws : List ℕ} {id : ℕ} {body table : List ℕ} {first fill : ℕ} (
   abbrev all : List ModelPoint
   all = pointsOf (model.read accepted ready words)
 
-  -- Each of its points shows what its registers hold, and is in the body.
+  -- Each of its points has the raw value of its registers, and begins in the body or at its end.
   point-there : (p : ModelPoint) → In p all → Reads body p × (p .offset ≤ length body)
   point-there p i =
       let d = models.top-sound ws id top accepted (ready .known) in
@@ -137,7 +137,7 @@ module _ {ws : List ℕ} {id : ℕ} {body table : List ℕ} {first fill : ℕ} (
     abbrev it : ModelPoint → Bool
     it = isPoint number path
 
-    -- None is located, and none is found.
+    -- If no point is located, no point is found.
     pub none-found : (at : ℕ) → locatedWithin count number path (length body) top ≡ none → nothingResult ≡ resultAt at (firstWith it all)
     none-found at e = go (firstWith it all) (sym (model-located number path long) ∙ e)
       where
@@ -146,7 +146,7 @@ module _ {ws : List ℕ} {id : ℕ} {body table : List ℕ} {first fill : ℕ} (
         go none q = refl
         go (some p) q = not-none (sym q)
 
-    -- One is located, and it is the one that is found.
+    -- The point that is located is the one that is found.
     pub one-found : (at : ℕ) {l : Located} → locatedWithin count number path (length body) top ≡ some l
         → (l .offset ≤ length body) × (foundResult (targetAt at body l) ≡ resultAt at (firstWith it all))
     one-found at {l} e = go (firstWith it all) refl (sym (model-located number path long) ∙ e)

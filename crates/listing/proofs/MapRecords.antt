@@ -1,4 +1,4 @@
--- The second walk over the headers of a map: the records of all models are written.
+-- The second walk over the headers of a map, which writes the records of all models.
 use mathlib.Core.Path.{_≡_, refl, sym, ap, subst, _∙_}
 use mathlib.Core.List.{List, [], _++_}
 use mathlib.Core.List as Lists
@@ -22,13 +22,14 @@ use Rattle.listing.proofs.WrittenRecords.{sets-append, entries-length, 
 use Rattle.listing.proofs.WalkSteps.{not-listed, prepended-listed}
 use Rattle.listing.proofs.MapSteps.{walkAt, modelAt, walk-starts, walk-at-end, walk-at-refused, walk-at-late, walk-at-unknown, walk-at-faulty, walk-at-points}
 
--- Of no points nothing is written.
+-- Without points, nothing is written.
 pub nothing-written : (visit : Visit) (k : ℕ) (ps : List ModelPoint) (out : List ℕ) → ps ≡ []
     → (k ≡ k + length ps) × (out ≡ written visit k ps out)
 nothing-written visit k ps out e =
     (omega (arith, ap length e), sym (ap (λ qs. written visit k qs out) e ∙ written-none visit k out))
 
--- The walk is at a header, with `records` written: what is left fits after them, and leads to the whole.
+-- The walk is at the header at `at`, with `records` records written into `out`: the remaining records fit after them, and writing
+-- them gives the list that the contract requires.
 pub record WalkingMap (read : Model → Reading) (map before out : List ℕ) (at index records : ℕ) : Type 0 where
   pub left : List Record
   pub headers : ℕ
@@ -40,7 +41,7 @@ pub record WalkingMap (read : Model → Reading) (map before out : List ℕ) (at
   pub high : at ≤ 65538
   pub fewModels : index ≤ at
 
--- At an address that is the same.
+-- The same at an equal address.
 pub walking-at : {read : Model → Reading} {map before out : List ℕ} {at here index records : ℕ} → here ≡ at
     → WalkingMap read map before out at index records → WalkingMap read map before out here index records
 walking-at {read} {map} {before} {out} {at} {here} {index} {records} e w =
@@ -71,7 +72,7 @@ walking-starts read map out = go (walked read map) refl
 
 module _ {read : Model → Reading} {map before out : List ℕ} {at index records : ℕ}
     (here : WalkingMap read map before out at index records) where
-  -- At the end marker all is written.
+  -- At the end marker all records are written.
   pub walking-ends : at < length map → headerAt (eqb at 2) (drop at map) ≡ endMarker → out ≡ stored (walked read map) before
   unfolding entries
   walking-ends inside h =
@@ -80,11 +81,11 @@ module _ {read : Model → Reading} {map before out : List ℕ} {at index record
       let none : [] ≡ here .left = cc in
       ap (λ rs. sets out (recordWidth * records) (entries rs)) none ∙ here .leads
 
-  -- No header is refused.
+  -- A refused header cannot occur.
   pub walking-refused : {A : Type 0} {number : ℕ} → at < length map → headerAt (eqb at 2) (drop at map) ≡ refused number → A
   walking-refused inside h = not-listed (sym (walk-at-refused read map index at inside h) ∙ here .rest)
 
-  -- The registers do not end.
+  -- Nor can the map end without an end marker.
   pub walking-late : {A : Type 0} → length map ≤ at → A
   walking-late past = not-listed (sym (walk-at-late read map index at past) ∙ here .rest)
 
@@ -98,13 +99,13 @@ module _ {read : Model → Reading} {map before out : List ℕ} {at index record
     abbrev next : Answer
     next = walkAt read map (index + 1) (at + (2 + len))
 
-    -- The points fit, and after them the walk goes on.
+    -- The points ps fit, and after writing them the walk is at the next header.
     abbrev Onward : List ModelPoint → Type 0
     Onward ps =
         (recordWidth * (records + length ps) ≤ length out)
         × WalkingMap read map before (written visit records ps out) (at + (2 + len)) (index + 1) (records + length ps)
 
-    -- The records after those of the model.
+    -- The same, by the records ss that remain after the model's.
     goes : (ps : List ModelPoint) (ss : List Record) → next ≡ listed ss (here .headers)
         → here .left ≡ Lists.map (recordOf index at id) ps ++ ss → Onward ps
     goes ps ss e q =
@@ -135,7 +136,7 @@ module _ {read : Model → Reading} {map before out : List ℕ} {at index record
           },
         )
 
-    -- The points of a model fit, and after them the walk goes on.
+    -- The points of the model fit, and after writing them the walk is at the next header.
     pub walking-goes-on : Onward (pointsOf (read own))
     walking-goes-on = go (read own) refl
       where

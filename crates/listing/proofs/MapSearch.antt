@@ -1,4 +1,4 @@
--- The search for a point, header by header: the records of its model decide, and no others.
+-- The search for a point, header by header: only the records of its model decide.
 use mathlib.Core.Path.{_≡_, refl, sym, ap, subst, _∙_}
 use mathlib.Core.Bool.{Bool, true, false}
 use mathlib.Core.List.{List, [], _∷_}
@@ -25,7 +25,7 @@ use Rattle.listing.specs.InternalContracts.{resultAt, IsListed}
 use Rattle.listing.proofs.Searches.{skipped, own-records, none-later}
 use Rattle.listing.proofs.MapSteps.{walkAt, modelAt, walk-starts, walk-at-end, walk-at-refused, walk-at-late, walk-at-unknown, walk-at-faulty, walk-at-points}
 
--- Answers that list records.
+-- Answers that are no refusal.
 under-records : (rs : List Record) (a : Answer) → IsListed (withRecords rs a) → IsListed a
 under-records rs (Listing.refused n place headers) l = l
 under-records rs (listed ss headers) l = tt
@@ -40,19 +40,19 @@ module _ (target number : ℕ) (path : List ℕ) where
   abbrev toFinding : Option Record → Finding.Finding
   toFinding o = elim o [ none ↦ Finding.nothing | some r ↦ Finding.found r ]
 
-  -- Where no record of an answer is the one, nothing is found.
+  -- If no record of an answer has the search key, nothing is found.
   none-found : (a : Answer) → IsListed a → ((ss : List Record) (headers : ℕ) → a ≡ listed ss headers → firstWith (isRecord target number path) ss ≡ none)
       → result (find a) ≡ nothingResult
   none-found (Listing.refused n place headers) l f = absurd l
   none-found (listed ss headers) l f = ap (λ o. result (toFinding o)) (f ss headers refl)
 
-  -- The records of another model do not count.
+  -- The records of another model are skipped.
   others-skipped : (i at id : ℕ) → eqb i target ≡ false → (ps : List ModelPoint) (a : Answer)
       → find (withRecords (Lists.map (recordOf i at id) ps) a) ≡ find a
   others-skipped i at id n ps (Listing.refused m place headers) = refl
   others-skipped i at id n ps (listed ss headers) = ap toFinding (skipped target number path i at id n ps ss)
 
-  -- Of the records of one model the first is that of the first point.
+  -- The first record found in one model is that of the first point found.
   first-found : (i at id : ℕ) (ps : List ModelPoint)
       → result (toFinding (firstWith (λ r. isPoint number path (r .point)) (Lists.map (recordOf i at id) ps)))
       ≡ resultAt at (firstWith it ps)
@@ -70,7 +70,7 @@ module _ (target number : ℕ) (path : List ℕ) where
       go true e = refl
       go false e = e
 
-  -- The records of the model itself decide.
+  -- The records of the model with the index decide.
   own-decides : (i at id : ℕ) → eqb i target ≡ true → (ps : List ModelPoint) (a : Answer) → IsListed a
       → ((ss : List Record) (headers : ℕ) → a ≡ listed ss headers → firstWith (isRecord target number path) ss ≡ none)
       → result (find (withRecords (Lists.map (recordOf i at id) ps) a)) ≡ resultAt at (firstWith it ps)
@@ -80,7 +80,7 @@ module _ (target number : ℕ) (path : List ℕ) where
 
 -- ---- Header by header
 
--- The search is at the header of the model with an index: what is left decides as the whole does.
+-- The search is at the header of model `index`: the remaining models give the result of the whole map.
 pub record Searching (read : Model → Reading) (map : List ℕ) (target number : ℕ) (path : List ℕ) (at index : ℕ) : Type 0 where
   pub same : findingIn target number path (walkAt read map index at) ≡ findingIn target number path (walked read map)
   pub isListed : IsListed (walkAt read map index at)
@@ -100,7 +100,7 @@ search-starts read map target number path l =
       fewModels = omega arith;
     }
 
--- At an address that is the same.
+-- The same at an equal address.
 pub search-at : {read : Model → Reading} {map : List ℕ} {target number : ℕ} {path : List ℕ} {at here index : ℕ} → here ≡ at
     → Searching read map target number path at index → Searching read map target number path here index
 search-at {read} {map} {target} {number} {path} {at} {here} {index} e s =
@@ -111,13 +111,13 @@ module _ {read : Model → Reading} {map : List ℕ} {target number : ℕ} {path
   abbrev expected : Result
   expected = result (findingIn target number path (walked read map))
 
-  -- At the end marker there is none.
+  -- At the end marker there is no such point.
   pub search-ends : at < length map → headerAt (eqb at 2) (drop at map) ≡ endMarker → nothingResult ≡ expected
   unfolding firstWith
   search-ends inside h =
       sym (ap (λ a. result (findingIn target number path a)) (walk-at-end read map index at inside h)) ∙ ap result (here .same)
 
-  -- No header is refused, and the registers do not end.
+  -- A refused header cannot occur, nor a map without an end marker.
   pub search-refused : {A : Type 0} {n : ℕ} → at < length map → headerAt (eqb at 2) (drop at map) ≡ refused n → A
   search-refused inside h = absurd (subst IsListed (walk-at-refused read map index at inside h) (here .isListed))
 
@@ -162,7 +162,7 @@ module _ {read : Model → Reading} {map : List ℕ} {target number : ℕ} {path
             ∙ others-skipped target number path index at id (ne-eqb index target n) ps next)
             (under-records (Lists.map (recordOf index at id) ps) next (subst IsListed w (here .isListed)))
 
-    -- The model itself decides.
+    -- The model with the index decides.
     pub search-own : index ≡ target → resultAt at (firstWith (isPoint number path) (pointsOf (read own))) ≡ expected
     unfolding firstWith
     search-own y = go (read own) refl ∙ ap result (here .same)

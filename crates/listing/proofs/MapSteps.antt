@@ -1,4 +1,4 @@
--- Listing header by header, from an address on, as the code goes through a map.
+-- Listing header by header from an address on, as the code walks over a map.
 use mathlib.Core.Path.{_≡_, refl, ap, _∙_}
 use mathlib.Core.List.{List, []}
 use mathlib.Core.List as Lists
@@ -18,28 +18,28 @@ use Rattle.listing.specs.Listing as Listing
 use Rattle.listing.specs.Listing.{recordOf, Answer, listed, withRecords, walk, walked}
 use Rattle.listing.proofs.WalkSteps.{walk-unknown, walk-faulty, walk-points}
 
--- The models from the header at an address on.
+-- The models from the header at address `at` on.
 abbrev pub scanAt : List ℕ → ℕ → Scan
 scanAt map at = scanFrom (length map) (eqb at 2) (drop at map)
 
--- What listing finds from the header at an address on, with so many headers before it.
+-- The answer from the header at address `at` on, with `index` headers before it.
 abbrev pub walkAt : (Model → Reading) → List ℕ → ℕ → ℕ → Answer
 walkAt read map index at = walk read (scanAt map at .ending) index at (scanAt map at .models)
 
--- The model at an address, by its id and its length.
+-- The model whose header is at address `at`, by its id and its length.
 abbrev pub modelAt : List ℕ → ℕ → ℕ → ℕ → Model
 modelAt map at id len = record { id = id; body = take len (drop (at + 2) map) }
 
 -- ---- The scan from an address on
 
 module _ (map : List ℕ) (at : ℕ) where
-  -- Where a register is left, the bound of the scan is not 0.
+  -- If a register is left, the bound of the scan is not 0.
   bound-left : at < length map → scanAt map at ≡ scanFrom (suc (length map - 1)) (eqb at 2) (drop at map)
   bound-left inside =
       let n : length map ≡ suc (length map - 1) = omega arith in
       ap (λ n. scanFrom n (eqb at 2) (drop at map)) n
 
-  -- A model, and those behind it.
+  -- A model, and those after it.
   scan-at-model : (id len : ℕ) → 2 ≤ at → headerAt (eqb at 2) (drop at map) ≡ model id len
       → scanAt map at ≡ withModel (modelAt map at id len) (scanAt map (at + 2 + len))
   scan-at-model id len low h =
@@ -69,7 +69,7 @@ module _ (map : List ℕ) (at : ℕ) where
       scan-enough (length map) 1 (eqb at 2) (drop at map) (omega (arith, left)) (omega (arith, left))
       ∙ scan-refused 0 (eqb at 2) (drop at map) (header-late (eqb at 2) map at (omega arith))
 
-  -- The registers of a model's body are as many as its length says.
+  -- A model's body has the number of registers that its length says.
   pub body-length : (id len : ℕ) → headerAt (eqb at 2) (drop at map) ≡ model id len → length (take len (drop (at + 2) map)) ≡ len
   body-length id len h =
       let ends = model-ends (eqb at 2) map at h in
@@ -77,7 +77,7 @@ module _ (map : List ℕ) (at : ℕ) where
 
 -- ---- The walk from an address on
 
--- At the first header it is the whole walk.
+-- From the first header on it is the whole walk.
 pub walk-starts : (read : Model → Reading) (map : List ℕ) → walkAt read map 0 2 ≡ walked read map
 unfolding scan
 walk-starts read map = refl
@@ -86,7 +86,7 @@ module _ (read : Model → Reading) (map : List ℕ) (index at : ℕ) where
   by-scan : {s : Scan} → scanAt map at ≡ s → walkAt read map index at ≡ walk read (s .ending) index at (s .models)
   by-scan e = ap (λ s. walk read (s .ending) index at (s .models)) e
 
-  -- At the end marker nothing is left.
+  -- At the end marker no record is left.
   pub walk-at-end : at < length map → headerAt (eqb at 2) (drop at map) ≡ endMarker
       → walkAt read map index at ≡ listed [] (index + 1)
   unfolding walk
@@ -104,7 +104,7 @@ module _ (read : Model → Reading) (map : List ℕ) (index at : ℕ) where
   walk-at-late past = by-scan (scan-at-late map at past)
 
   module _ (id len : ℕ) (low : 2 ≤ at) (h : headerAt (eqb at 2) (drop at map) ≡ model id len) where
-    -- The walk behind a model.
+    -- The walk after a model.
     following : walk read (scanAt map (at + 2 + len) .ending) (index + 1) (at + sizeOf (modelAt map at id len))
         (scanAt map (at + 2 + len) .models)
         ≡ walkAt read map (index + 1) (at + (2 + len))
@@ -114,7 +114,7 @@ module _ (read : Model → Reading) (map : List ℕ) (index at : ℕ) where
         λ n size. walk read (scanAt map n .ending) (index + 1) (at + (2 + size)) (scanAt map n .models) in
         ap (from (at + 2 + len)) (body-length map at id len h) ∙ ap (λ n. from n len) next
 
-    -- An unknown model is stepped over.
+    -- An unknown model is skipped.
     pub walk-at-unknown : read (modelAt map at id len) ≡ unknown
         → walkAt read map index at ≡ walkAt read map (index + 1) (at + (2 + len))
     walk-at-unknown e =
@@ -123,7 +123,7 @@ module _ (read : Model → Reading) (map : List ℕ) (index at : ℕ) where
         ∙ walk-unknown read (s .ending) index at (modelAt map at id len) (s .models) e
         ∙ following
 
-    -- A faulty one is refused.
+    -- A faulty model is refused.
     pub walk-at-faulty : {fault : Fault} → read (modelAt map at id len) ≡ faulty fault
         → walkAt read map index at ≡ Listing.refused (faultNumber fault) at index
     walk-at-faulty e =
@@ -131,7 +131,7 @@ module _ (read : Model → Reading) (map : List ℕ) (index at : ℕ) where
         by-scan (scan-at-model map at id len low h)
         ∙ walk-faulty read (s .ending) index at (modelAt map at id len) (s .models) e
 
-    -- The records of the others stand in front of those behind them.
+    -- The records of a model come before those of the models after it.
     pub walk-at-points : {ps : List ModelPoint} → read (modelAt map at id len) ≡ points ps
         → walkAt read map index at
         ≡ withRecords (Lists.map (recordOf index at id) ps) (walkAt read map (index + 1) (at + (2 + len)))

@@ -1,4 +1,4 @@
--- The first walk over the headers of a map: refusals are found and points counted, from each header on.
+-- The first walk over the headers of a map, which finds refusals and counts points.
 use mathlib.Core.Path.{_≡_, refl, sym, ap, _∙_, subst}
 use mathlib.Core.List.{List, []}
 use mathlib.Core.List as Lists
@@ -17,7 +17,7 @@ use Rattle.listing.specs.Listing as Listing
 use Rattle.listing.specs.Listing.{Record, recordOf, Answer, listed, withRecords, walked, Result, refusedResult, listedResult, result}
 use Rattle.listing.proofs.MapSteps.{walkAt, modelAt, body-length, walk-starts, walk-at-end, walk-at-refused, walk-at-late, walk-at-unknown, walk-at-faulty, walk-at-points}
 
--- ---- A reading by what surveying it answers
+-- ---- A reading by its survey
 
 unknown-surveyed : (r : Reading) → surveyedUnknown ≡ surveyed r → r ≡ unknown
 unknown-surveyed unknown e = refl
@@ -43,13 +43,13 @@ no-points-unknown r e = ap pointsOf (unknown-surveyed r e)
 pub no-points-refused : (r : Reading) {number : ℕ} → surveyedRefused number ≡ surveyed r → pointsOf r ≡ []
 no-points-refused r e = ap pointsOf (refused-surveyed r e .1)
 
--- One that is surveyed with points has points.
+-- A model that is surveyed with points has points.
 pub has-points : (r : Reading) {n : ℕ} → surveyedPoints n ≡ surveyed r → HasPoints r
 has-points r e = subst HasPoints (sym (points-surveyed r e .1)) tt
 
 -- ---- The walk
 
--- Points in front of those of an answer.
+-- A result with n more points. A refusal stays.
 abbrev pub withPoints : ℕ → Result → Result
 withPoints n (refusedResult number place headers count) = refusedResult number place headers count
 withPoints n (listedResult k headers) = listedResult (n + k) headers
@@ -63,7 +63,8 @@ with-more-points : (n : ℕ) (rs : List Record) (a : Answer)
 with-more-points n rs (Listing.refused number place headers) = refl
 with-more-points n rs (listed ss headers) = ap (λ k. listedResult k headers) (omega (arith, length-append rs ss))
 
--- The walk stands at a header with so many headers and points before it: what is left decides as the whole does.
+-- The walk is at the header at `at`, with `headers` headers and `points` points before it: the remaining models give the result of
+-- the whole map.
 pub record Surveying (read : Model → Reading) (map : List ℕ) (at headers points : ℕ) : Type 0 where
   pub rest : withPoints points (result (walkAt read map headers at)) ≡ result (walked read map)
   pub low : 2 ≤ at
@@ -82,11 +83,11 @@ survey-starts read map =
     }
 
 module _ {read : Model → Reading} {map : List ℕ} {at headers count : ℕ} (here : Surveying read map at headers count) where
-  -- An answer from here on is that of the whole.
+  -- The answer from here on gives the result of the whole map.
   answers : {a : Answer} → walkAt read map headers at ≡ a → withPoints count (result a) ≡ result (walked read map)
   answers e = ap (λ a. withPoints count (result a)) (sym e) ∙ here .rest
 
-  -- At the end marker the points so far are all.
+  -- At the end marker all points are counted.
   pub survey-ends : at < length map → headerAt (eqb at 2) (drop at map) ≡ endMarker
       → listedResult count (headers + 1) ≡ result (walked read map)
   survey-ends inside h =
@@ -103,7 +104,7 @@ module _ {read : Model → Reading} {map : List ℕ} {at headers count : ℕ} (h
   survey-late past = answers (walk-at-late read map headers at past)
 
   module _ (short : length map ≤ 65536) {id len : ℕ} (h : headerAt (eqb at 2) (drop at map) ≡ model id len) where
-    -- A model that is unknown is stepped over.
+    -- An unknown model is skipped.
     pub survey-unknown : surveyedUnknown ≡ surveyed (read (modelAt map at id len))
         → Surveying read map (at + (2 + len)) (headers + 1) count
     survey-unknown e =
@@ -127,14 +128,14 @@ module _ {read : Model → Reading} {map : List ℕ} {at headers count : ℕ} (h
 
     module _ (few : (m : Model) (ps : List ModelPoint) → read m ≡ points ps → length ps ≤ length (m .body)) {more : ℕ}
         (e : surveyedPoints more ≡ surveyed (read (modelAt map at id len))) where
-      -- The points of a model are no more than its registers.
+      -- A model has at most as many points as registers.
       pub more-fit : more ≤ len
       more-fit =
           let r = points-surveyed (read (modelAt map at id len)) e in
           let f = few (modelAt map at id len) (r .0) (r .1) in
           omega (arith, f, r .2, body-length map at id len h)
 
-      -- They are added.
+      -- Its points are added.
       pub survey-points : Surveying read map (at + (2 + len)) (headers + 1) (count + more)
       survey-points =
           let r = points-surveyed (read (modelAt map at id len)) e in

@@ -46,10 +46,10 @@ module _ {ws : List ℕ} {id : ℕ} {body table : List ℕ} {first fill : ℕ} (
   abbrev start : Progress
   start = record { records = records; offset = 0; frame = first }
 
-  -- ---- What is asked and what comes out
+  -- ---- What writing requires, and its results
 
   module _ (has : HasPoints read) (capacity : recordWidth * (records + length (pointsOf read)) ≤ length out) where
-    -- What writing the top points asks for.
+    -- What writing the top points requires.
     pub run-asks : RunAsks ws body out visit start present
     run-asks = go (readBy id top body) (model.read-here accepted ready words) (model.how accepted ready words has)
       where
@@ -78,7 +78,7 @@ module _ {ws : List ℕ} {id : ℕ} {body table : List ℕ} {first fill : ℕ} (
             let n = ap (λ x. length (pointsOf x)) q ∙ pointCounts.content-counted top body in
             asks (omega (arith, ap pointsSize b, f .capacity)) (omega (arith, ap length b, n))
 
-    -- Where the top points fill the body they are all points.
+    -- If the top points fill the body, they are all points of the model.
     pub all-points : pointsSize present ≡ length body → pointsAt body (instanceIn table noInstance) 0 present ≡ pointsOf read
     all-points e = go (readBy id top body) (model.read-here accepted ready words) (model.how accepted ready words has)
       where
@@ -97,7 +97,7 @@ module _ {ws : List ℕ} {id : ℕ} {body table : List ℕ} {first fill : ℕ} (
             ∙ sym (model.content-parts top body)
             ∙ sym (ap pointsOf q)
 
-    -- Else the model is read in full.
+    -- Otherwise the model is read in full.
     pub else-full : (pointsSize present ≡ length body → ⊥) → Full top body × (read ≡ points (contentAt top body))
     else-full n = go (readBy id top body) (model.read-here accepted ready words) (model.how accepted ready words has)
       where
@@ -120,7 +120,7 @@ module _ {ws : List ℕ} {id : ℕ} {body table : List ℕ} {first fill : ℕ} (
       counted : length (pointsOf read) ≡ length ps + groupsPoints (countsOf top body) (top .groups)
       counted = ap (λ x. length (pointsOf x)) q ∙ pointCounts.content-counted top body
 
-      -- What writing the groups asks for.
+      -- What writing the groups requires.
       pub groups-ask : GroupsAsk ws body table out₁ visit fill 3 noInstance at₁
       groups-ask =
           let b = model.all-present accepted ready words f in
@@ -154,7 +154,7 @@ module _ {ws : List ℕ} {id : ℕ} {body table : List ℕ} {first fill : ℕ} (
             );
           }
 
-      -- What has been written behind the groups.
+      -- After the groups, the number of records and the list are those that the contract requires.
       pub records-after : {at₂ : Progress} → AfterGroups (contentFrom ws (at₁ .frame) .groups) (countOf (scopeIn table) fill) at₁ at₂
           → at₂ .records ≡ records + length (pointsOf read)
       records-after b =

@@ -1,4 +1,4 @@
--- The records that a call writes are those decoded from its output list.
+-- The records decoded from an output list are those that the call wrote.
 use mathlib.Core.Path.{_≡_, refl, sym, ap, _∙_}
 use mathlib.Core.List.{List, [], _∷_, _++_, map}
 use Prim.Native.Nat.{ℕ, _*_}
@@ -8,18 +8,18 @@ use Rattle.listing.specs.Listing.{Record, recordNumbers, recordWidth, en
 use Rattle.listing.specs.Calls.{recordsIn, consecutive}
 use Rattle.listing.proofs.WrittenRecords.{entries-length}
 
--- Entries are the numbers of consecutive records.
+-- The entries of records are their numbers, record after record.
 pub entries-consecutive : (rs : List Record) → entries rs ≡ consecutive (map recordNumbers rs)
 unfolding entries consecutive
 entries-consecutive [] = refl
 entries-consecutive (r ∷ rs) = ap (λ ns. recordNumbers r ++ ns) (entries-consecutive rs)
 
--- Decoded, they are these records' numbers,
+-- Decoding the entries of records gives their numbers,
 pub records-back : (rs : List Record) (rest : List ℕ) → recordsIn (length rs) (entries rs ++ rest) ≡ map recordNumbers rs
 unfolding entries recordsIn recordNumbers
 records-back [] rest = refl
 records-back (r ∷ rs) rest = ap (λ ns. recordNumbers r ∷ ns) (records-back rs rest)
 
--- and what follows them is the rest.
+-- and what follows the entries is the rest of the list.
 pub rest-back : (rs : List Record) (rest : List ℕ) → drop (recordWidth * length rs) (entries rs ++ rest) ≡ rest
 rest-back rs rest = drop-at (entries rs) rest (recordWidth * length rs) (entries-length rs)

@@ -25,7 +25,7 @@ use Rattle.listing.specs.declared.records.Visit.{Visit}
 use Rattle.listing.specs.declared.records.Progress.{Progress}
 use Rattle.listing.proofs.WrittenRecords.{written-none, written-length, written-append}
 
--- The numbers of a record from what is shown of its point.
+-- The ten numbers that the code computes from a shown point are those of its record.
 pub shown-numbers : (visit : Visit) (body table path : List ℕ) (offset address : ℕ) (p : Point) (shown : Shown)
     → address ≡ visit .address + 2 + offset
     → toSpecShown shown ≡ shownBy p (classified (p .typeCode) (join (registersAt body offset p))) (registersAt body offset p)
@@ -40,15 +40,15 @@ shown-numbers visit body table path offset address p shown at s =
     let scale = ap (λ (x : PointShown). x .scale) s in
     rw (at, status, raw, scale)
 
--- The points that are left to write.
+-- The points that remain to be written.
 abbrev pub leftAt : List ℕ → List ℕ → Progress → List Point
 leftAt ws body at = presentWithin (length body) (at .offset) (contentFrom ws (at .frame) .points)
 
--- As they lie in the body.
+-- The same points as listing shows them.
 abbrev pub shownAt : List ℕ → List ℕ → List ℕ → List ℕ → Progress → List ModelPoint
 shownAt ws body table path at = pointsAt body (instanceIn table path) (at .offset) (leftAt ws body at)
 
--- Writing those that are left gives what writing all of them gives.
+-- Writing the remaining points gives what writing all of them gives.
 pub record StillWrites (ws body table : List ℕ) (visit : Visit) (path : List ℕ) (out₀ : List ℕ) (at₀ : Progress) (out : List ℕ)
     (at : Progress) : Type 0 where
   pub asks : RunAsks ws body out visit at (leftAt ws body at)
@@ -61,11 +61,11 @@ pub record StillWrites (ws body table : List ℕ) (visit : Visit) (path : List �
   })
   pub same : length out ≡ length out₀
 
--- Progress by one point.
+-- The progress after one more point.
 abbrev pub pastPoint : Progress → Point → Progress
 pastPoint at p = record { records = at .records + 1; offset = at .offset + p .size; frame = at .frame + 1 }
 
--- All are left.
+-- At the start all points remain.
 pub still-all : (ws body table : List ℕ) (visit : Visit) (path out : List ℕ) (at : Progress)
     → RunAsks ws body out visit at (leftAt ws body at) → StillWrites ws body table visit path out at out at
 still-all ws body table visit path out at a =
@@ -73,11 +73,11 @@ still-all ws body table visit path out at a =
 
 module _ {ws body table : List ℕ} {visit : Visit} {path out₀ : List ℕ} {at₀ : Progress} {out : List ℕ} {at : Progress}
     (s : StillWrites ws body table visit path out₀ at₀ out at) where
-  -- The walk stands in the catalog.
+  -- The frame is one of the catalog's.
   pub still-within : at .frame < length ws / 8
   still-within = position.parses-within ws (at .frame) (s .asks .parses)
 
-  -- None is left.
+  -- No point remains: the list is the one that the contract requires.
   still-none : leftAt ws body at ≡ []
       → AfterRun at₀ (leftAt ws body at₀) at × (out ≡ written visit (at₀ .records) (shownAt ws body table path at₀) out₀)
   unfolding pointsAt
@@ -96,7 +96,7 @@ module _ {ws body table : List ℕ} {visit : Visit} {path out₀ : List ℕ} {at
             ∙ s .holds,
       )
 
-  -- None begins behind the end of the body, or where no point stands.
+  -- No point remains at the end of the body, or if the frame is no point.
   pub still-past : length body ≤ at .offset
       → AfterRun at₀ (leftAt ws body at₀) at × (out ≡ written visit (at₀ .records) (shownAt ws body table path at₀) out₀)
   still-past h = still-none (present-past (length body) (at .offset) (contentFrom ws (at .frame) .points) h)
@@ -109,14 +109,14 @@ module _ {ws body table : List ℕ} {visit : Visit} {path out₀ : List ℕ} {at
       still-none (ap (λ (ps : List Point). presentWithin (length body) (at .offset) ps) e)
 
   module _ (p : Point) (h : at .offset < length body) (f : pointOf (frameIn ws (at .frame)) ≡ some p) where
-    -- The first of those left, and the others.
+    -- The first of the remaining points, and the others.
     first-left : leftAt ws body at ≡ p ∷ leftAt ws body (pastPoint at p)
     first-left =
         let next = position.point-next ws (at .frame) (s .asks .parses) p f in
         ap (λ (ps : List Point). presentWithin (length body) (at .offset) ps) (next .0)
         ∙ present-first (length body) (at .offset) p (contentFrom ws (at .frame + 1) .points) h
 
-    -- It lies in the body, and has room.
+    -- It is inside the body, and the list has capacity for its record.
     pub first-fits : PointFits body (at .offset) visit p
         × (recordWidth * (at .records + 1) ≤ length out)
     first-fits =
@@ -133,7 +133,7 @@ module _ {ws body table : List ℕ} {visit : Visit} {path out₀ : List ℕ} {at
           omega (arith, s .asks .capacity, n),
         )
 
-    -- Once its record is written, the others are left.
+    -- After its record is written, the others remain.
     pub still-first : (out′ : List ℕ)
         → out′ ≡ written visit (at .records) (pointAt body (instanceIn table path) (at .offset) p ∷ []) out
         → StillWrites ws body table visit path out₀ at₀ out′ (pastPoint at p)

@@ -1,4 +1,4 @@
--- A model whose definition is found and whose top points are in the table: what is read of it, and what the table gives.
+-- A model whose definition is found and whose top points are in the table: how it is read, and the scope that the table holds.
 use mathlib.Core.Path.{_≡_, refl, sym, ap, subst, _∙_}
 use mathlib.Core.Bool.{Bool, true, false}
 use mathlib.Core.List.{List, [], _∷_, _++_}
@@ -26,14 +26,14 @@ use Rattle.layout.proofs.PointCounts as pointCounts
 use Rattle.layout.proofs.RecordedPoints as recorded
 use Rattle.layout.proofs.Sizes.{full-size, points-sized}
 
--- The points of a model in full.
+-- The points of a model read in full: the top points, then the groups.
 pub content-parts : (c : Content) (body : List ℕ) → contentAt c body
     ≡ pointsAt body (topInstance (c .points) body) 0 (c .points)
     ++ groupsAt body (countsOf c body) 2 (topInstance (c .points) body) (pointsSize (c .points)) (c .groups)
 unfolding contentAt
 content-parts c body = refl
 
--- The fill is at most the length.
+-- The count of the fill group is at most the length.
 pub fill-few : (c : Content) (body : List ℕ) → fillOf c body ≤ length body
 unfolding fillOf
 fill-few c body = go (fillSizeOf c body)
@@ -78,7 +78,7 @@ module _ {ws : List ℕ} {id : ℕ} {body table : List ℕ} {first fill : ℕ} (
   pub sound-groups : SoundGroups ps ps 2 (top .groups)
   sound-groups = models.top-groups-sound ws id top accepted (ready .known)
 
-  -- The table holds the scope of the points that are laid.
+  -- The table holds the scope of the top points that are present.
   table-scope : scopeIn table ≡ within body 0 present (scopeIn (ready .before))
   table-scope =
       ap scopeIn (ready .tableRecorded)
@@ -90,14 +90,14 @@ module _ {ws : List ℕ} {id : ℕ} {body table : List ℕ} {first fill : ℕ} (
           sym (recorded.table-with-length body 0 (presentWithin (length body) 0 (contentFrom ws first .points)) (ready .before))
           ∙ sym (ap length (ready .tableRecorded)) ∙ ready .isTable
 
-  -- It is read in one of two ways.
+  -- It is read in full or without its last pad.
   pub how : HasPoints read → HowRead id top body (readBy id top body)
   how has = how-read id top body (subst HasPoints read-here has)
 
   -- ---- The top points
 
   module _ (qs : List Point) (e : present ≡ qs) where
-    -- In the table's scope and in the model's these points are the same.
+    -- The table and the model's scope agree on these points.
     agree-present : Agree qs (scopeIn table) (topScope qs body)
     agree-present p i =
         ap (λ (s : Scope). s (p .number)) (table-scope ∙ ap (λ rs. within body 0 rs (scopeIn (ready .before))) e)
@@ -110,14 +110,14 @@ module _ {ws : List ℕ} {id : ℕ} {body table : List ℕ} {first fill : ℕ} (
         ∙ points-agree body 0 qs qs (instanceIn table noInstance) (topInstance qs body) r
         (record { samePath = refl; agree = agree-present })
 
-  -- In full all top points are laid.
+  -- In a model read in full all top points are present.
   pub all-present : Full top body → present ≡ ps
   all-present f = recorded.present-all (length body) 0 ps (points-sized ps ps sound-points) (omega (arith, f .capacity))
 
   pub resolved : Each (ScaleResolves ps) ps
   resolved = points-resolve ps ps sound-points
 
-  -- The size of a body in full, with the table's counts.
+  -- In a model read in full, the table gives the definition's counts.
   module _ (f : Full top body) where
     agree-top : Agree ps (scopeIn table) (topScope ps body)
     agree-top = agree-present ps (all-present f)
@@ -138,7 +138,7 @@ module _ {ws : List ℕ} {id : ℕ} {body table : List ℕ} {first fill : ℕ} (
         (instanceIn table noInstance) (topInstance ps body) (record { samePath = refl; agree = agree-top })
         ∙ ap (λ n. groupsAt body (countOf (topScope ps body) n) 2 (topInstance ps body) offset (top .groups)) (ready .filling)
 
-    -- Where the top points fill the body, no group has a point.
+    -- If the top points fill the body, the groups have no points.
     pub no-lower : pointsSize ps ≡ length body
         → groupsAt body (countsOf top body) 2 (topInstance ps body) (pointsSize ps) (top .groups) ≡ []
     no-lower e =

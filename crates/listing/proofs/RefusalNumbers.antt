@@ -1,5 +1,4 @@
--- The numbers of refusals tell them apart: a catalog's are 1 to 11, a map's as a whole 20 and 21, a header's 22 to 26, a model's
--- 27 to 29.
+-- The ranges of refusal numbers: a catalog's are 1 to 11, a map's as a whole 20 and 21, a header's 22 to 26, a model's 27 to 29.
 use mathlib.Core.Path.{_≡_, refl, ap, _∙_}
 use mathlib.Core.Bool.{Bool, true, false, not, _&&_}
 use mathlib.Core.List.{List, [], _∷_}
@@ -20,16 +19,16 @@ use Rattle.register_map.specs.Scan.{broken, scanFrom, scan}
 use Rattle.register_map.proofs.ScanSteps.{scan-model, scan-end, scan-refused}
 use Rattle.layout.specs.Reading.{Fault, belowTopPoints, countPointUnimplemented, notTheSize, faultNumber}
 
--- A number lies in a range.
+-- low ≤ n ≤ high.
 abbrev pub Between : ℕ → ℕ → ℕ → Type 0
 Between low high n = (low ≤ n) × (n ≤ high)
 
--- Are the numbers of these rules 3 to 10?
+-- Are the numbers of these rules all from 3 to 10?
 abbrev numbered : List (Bool × ℕ) → Bool
 numbered [] = true
 numbered (r ∷ rs) = (leb 3 (r .1) && leb (r .1) 10) && numbered rs
 
--- The rule that is first broken is one of the rules.
+-- So is the number of the first broken rule.
 first-broken : (rs : List (Bool × ℕ)) (n : ℕ) → numbered rs ≡ true → firstBroken rs ≡ some n → Between 3 10 n
 first-broken [] n k = λ e. impossible (cc)
 first-broken (r ∷ rs) n k =
@@ -40,11 +39,11 @@ first-broken (r ∷ rs) n k =
     by-test (λ o. o ≡ some n → Between 3 10 n) (r .0) (λ t e. let same : r .1 ≡ n = cc in (omega arith, omega arith))
     (λ t e. first-broken rs n (h .1) e)
 
--- A frame breaks one of the rules 3 to 10.
+-- A frame can break only rules 3 to 10.
 rule-number : (s : State) (f : Frame) (fs : List Frame) (n : ℕ) → fault s f (run fs) ≡ some n → Between 3 10 n
 rule-number s f fs n = first-broken (rules s f (run fs)) n refl
 
--- A catalog's refusal.
+-- A catalog's refusal has a number from 1 to 11.
 module _ (n place : ℕ) where
   frames-number : (s : State) (i : ℕ) (fs : List Frame) → checkFrom s i fs ≡ refused n place → Between 1 11 n
   unfolding checkFrom
@@ -72,7 +71,7 @@ catalog-number n place ws =
     (λ u. frames-number n place start 0 (frames ws)))
     (λ t e. let same : 1 ≡ n = cc in (omega arith, omega arith))
 
--- A map's refusal as a whole.
+-- A map that is refused as a whole is refused by 20 or 21.
 pub opening-number : (map : List ℕ) (n : ℕ) → Headers.opening map ≡ some n → Between 20 21 n
 unfolding Headers.opening
 opening-number map n =
@@ -81,7 +80,7 @@ opening-number map n =
     (λ t. by-test W (Headers.beginsWithSunS map) (λ u e. impossible (cc))
     (λ u e. let same : 21 ≡ n = cc in (omega arith, omega arith)))
 
--- A header's refusal.
+-- A header is refused by 22 to 26.
 header-number : (first : Bool) (rest : List ℕ) (n : ℕ) → Headers.headerAt first rest ≡ Headers.refused n → Between 22 26 n
 header-number first [] n = λ e. let same : 22 ≡ n = cc in (omega arith, omega arith)
 header-number first (id ∷ []) n = λ e. let same : 22 ≡ n = cc in (omega arith, omega arith)
@@ -96,7 +95,7 @@ header-number first (id ∷ len ∷ following) n =
     (λ w. by-test W (ltb (length following) len) (λ x e. let same : 26 ≡ n = cc in (omega arith, omega arith))
     (λ x e. impossible (cc))))))
 
--- The refusal of the header that the models of a map end at.
+-- So is the header at which the models of a map end.
 ending-from : (k : ℕ) (first : Bool) (rest : List ℕ) (n : ℕ) → scanFrom k first rest .ending ≡ broken n → Between 22 26 n
 unfolding scanFrom
 ending-from zero first rest n e = let same : 22 ≡ n = cc in (omega arith, omega arith)
@@ -116,7 +115,7 @@ pub ending-number : (map : List ℕ) (n : ℕ) → scan map .ending ≡ broken n
 unfolding scan
 ending-number map n = ending-from (length map) true (drop 2 map) n
 
--- A model's refusal.
+-- A model is refused by 27 to 29.
 pub model-number : (fault : Fault) → Between 27 29 (faultNumber fault)
 model-number belowTopPoints = (omega arith, omega arith)
 model-number countPointUnimplemented = (omega arith, omega arith)

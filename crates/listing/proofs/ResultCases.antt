@@ -1,4 +1,4 @@
--- What is told of a listing is the refusal itself, or the counts of its records, for which there was room.
+-- From a result back to the answer: a result with counts comes from an answer with records, and they fit the list.
 use mathlib.Core.Path.{_≡_}
 use mathlib.Core.List.{List}
 use Prim.Native.Nat.{ℕ, _*_, _≤_}
@@ -11,7 +11,7 @@ pub result-refused : (a : Answer) (number place headers : ℕ) → refusedResult
 result-refused (refused n p h) number place headers e = cc
 result-refused (listed rs h) number place headers e = impossible (cc)
 
--- The records of a listing that is told by its counts.
+-- The answer lists records, `points` of them, and this number of headers.
 pub record Records (a : Answer) (points headers : ℕ) : Type 0 where
   pub records : List Record
   pub is : a ≡ listed records headers
@@ -21,7 +21,7 @@ pub result-listed : (a : Answer) (points headers : ℕ) → listedResult points 
 result-listed (refused n p h) points headers e = impossible (cc)
 result-listed (listed rs h) points headers e = record { records = rs; is = cc; count = cc }
 
--- An accepted listing fits its list.
+-- The records of an accepted listing fit the list.
 pub records-fit : (catalog map : List ℕ) (capacity : ℕ) (rs : List Record) (headers : ℕ) → listing catalog map capacity ≡ listed rs headers
     → recordWidth * length rs ≤ capacity
 records-fit catalog map capacity rs headers e = go (listing catalog map capacity) (listing-case catalog map capacity) e

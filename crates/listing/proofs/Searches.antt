@@ -1,4 +1,4 @@
--- The records of one model among all: a search for a point passes over those of other models.
+-- The records of one model among all: a search for a point skips the records of other models.
 use mathlib.Core.Path.{_≡_, refl, sym, ap, _∙_}
 use mathlib.Core.Bool.{Bool, true, false, _&&_}
 use mathlib.Core.List.{List, [], _∷_, _++_}
@@ -21,7 +21,7 @@ module _ (index number : ℕ) (path : List ℕ) where
   abbrev isIt : Record → Bool
   isIt = isRecord index number path
 
-  -- The records of another model are passed over.
+  -- The records of another model are skipped.
   pub skipped : (i at id : ℕ) → eqb i index ≡ false → (ps : List ModelPoint) (ss : List Record)
       → firstWith isIt (Lists.map (recordOf i at id) ps ++ ss) ≡ firstWith isIt ss
   unfolding firstWith
@@ -31,7 +31,7 @@ module _ (index number : ℕ) (path : List ℕ) where
       ap {B = Option Record} (λ b. elim (b && isPoint number path p) [ true ↦ some (recordOf i at id p) | false ↦ rest ]) n
       ∙ skipped i at id n ps ss
 
-  -- Of its own model the point decides.
+  -- Among the records of its own model, number and path decide.
   pub own-records : (i at id : ℕ) → eqb i index ≡ true → (ps : List ModelPoint) (ss : List Record) → firstWith isIt ss ≡ none
       → firstWith isIt (Lists.map (recordOf i at id) ps ++ ss)
       ≡ firstWith (λ r. isPoint number path (r .point)) (Lists.map (recordOf i at id) ps)
@@ -44,7 +44,7 @@ module _ (index number : ℕ) (path : List ℕ) where
       ∙ ap {B = Option Record} (λ o. elim (isPoint number path p) [ true ↦ some (f p) | false ↦ o ])
       (own-records i at id y ps ss e)
 
-  -- The records behind a model have higher indices.
+  -- The records of later models have higher indices, so none of them is found.
   pub none-later : (read : Model → Reading) (ending : Ending) (i at : ℕ) (ms : List Model) (ss : List Record) (headers : ℕ)
       → walk read ending i at ms ≡ listed ss headers → index < i → firstWith isIt ss ≡ none
   unfolding walk firstWith

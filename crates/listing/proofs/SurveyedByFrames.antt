@@ -1,4 +1,4 @@
--- A model surveyed by the definition that begins at a frame of an accepted catalog, with a table of the points in reach.
+-- A model surveyed by the definition that begins at a frame of an accepted catalog, with a table of the points in scope.
 use mathlib.Core.Path.{_≡_, refl, sym, ap, subst, _∙_}
 use mathlib.Core.Bool.{true, false}
 use mathlib.Core.List.{List}
@@ -38,7 +38,7 @@ module _ {ws : List ℕ} (id : ℕ) {first : ℕ} (accepted : Accepted ws) (pars
   sound-groups : SoundGroups (c .points) (c .points) 2 (c .groups)
   sound-groups = top-groups-sound ws id c accepted known
 
-  -- A run has no more points than the catalog has frames.
+  -- A run has at most 4,096 points, the limit on a catalog's frames.
   pub few-points : {run : Run} → RunOf ws first run → run .points ≤ 4096
   few-points r =
       let n = r .points in
@@ -46,31 +46,31 @@ module _ {ws : List ℕ} (id : ℕ) {first : ℕ} (accepted : Accepted ws) (pars
       let f = accepted-few ws accepted in
       omega arith
 
-  -- Where a pad is left out, there is a point.
+  -- If a pad is left out, there is a point.
   pub has-point : {run : Run} (len : ℕ) → RunOf ws first run → padLeftOut id c len ≡ true → 1 ≤ run .points
   has-point len r e =
       let n = r .points in
       let b = but-one (c .points) (left-out id c len e .1) in
       omega (arith, b)
 
-  -- Behind the run stand the groups.
+  -- The groups begin after the run.
   pub at-groups : {run : Run} → RunOf ws first run → AtGroups ws (run .next) 3
   at-groups r = subst (λ i. AtGroups ws i 3) (sym (r .next)) (top-groups ws id first accepted parses known)
 
-  -- ---- With the table behind the run
+  -- ---- With the table after recording the run
 
   module _ (body table : List ℕ) {after : List ℕ} (isTable : IsTable table)
-      (noting : after ≡ tableWith body 0 (presentWithin (length body) 0 (c .points)) table) where
+      (recording : after ≡ tableWith body 0 (presentWithin (length body) 0 (c .points)) table) where
     pub still-table : IsTable after
     still-table =
-        ap length noting ∙ table-with-length body 0 (presentWithin (length body) 0 (c .points)) table ∙ isTable
+        ap length recording ∙ table-with-length body 0 (presentWithin (length body) 0 (c .points)) table ∙ isTable
 
-    -- The definition is ready to be written by.
+    -- The definition and the table are ready for writing records.
     ready : (f : ℕ) → f ≡ fillOf c body → Ready ws id body after first f
     ready f e =
-        record { known = known; parses = parses; filling = e; isTable = still-table; before = table; tableRecorded = noting }
+        record { known = known; parses = parses; filling = e; isTable = still-table; before = table; tableRecorded = recording }
 
-    -- A model without its pad.
+    -- The survey of a model whose pad is left out.
     pub pad-left-out : {run : Run} → RunOf ws first run → padLeftOut id c (length body) ≡ true
         → (surveyedPoints (run .points - 1) ≡ surveyed (readBy id c body)) × (Ready ws id body after first 0 × IsTable after)
     pad-left-out r e =
@@ -79,11 +79,11 @@ module _ {ws : List ℕ} (id : ℕ) {first : ℕ} (accepted : Accepted ws) (pars
 
     module _ (words : (k : ℕ) → getD ws k 0 < 65536) (short : length body ≤ 65535)
         (kept : padLeftOut id c (length body) ≡ false) (long : pointsSize (c .points) ≤ length body) where
-      -- The table holds the scope of the top group, as far as its points go.
+      -- The table and the top group's scope agree on its points.
       agrees : Agree (c .points) (scopeIn after) (topScope (c .points) body)
       agrees p i =
           let all = present-all (length body) 0 (c .points) (points-sized (c .points) (c .points) sound-points) (omega arith) in
-          let there : after ≡ tableWith body 0 (c .points) table = noting ∙ ap (λ ps. tableWith body 0 ps table) all in
+          let there : after ≡ tableWith body 0 (c .points) table = recording ∙ ap (λ ps. tableWith body 0 ps table) all in
           let scope = table-with-scope body 0 (c .points) table isTable (numbers-in-table ws words first parses) in
           ap (λ t. scopeIn t (p .number)) there
           ∙ ap (λ s. s (p .number)) scope
@@ -91,7 +91,7 @@ module _ {ws : List ℕ} (id : ℕ) {first : ℕ} (accepted : Accepted ws) (pars
 
       module _ {run : Run} (r : RunOf ws first run) {groups : Extent}
           (x : ExtentOf (scopeIn after) (contentFrom ws (run .next) .groups) groups) where
-        -- The extent is that by the definition.
+        -- The extent that the code computes is the definition's.
         extent : ExtentOf (topScope (c .points) body) (c .groups) groups
         extent =
             let here : contentFrom ws (run .next) .groups ≡ c .groups =
@@ -99,11 +99,11 @@ module _ {ws : List ℕ} (id : ℕ) {first : ℕ} (accepted : Accepted ws) (pars
             models.extent-agrees (scopeIn after) (topScope (c .points) body) (c .points) (c .points) 2 (c .groups) groups agrees
             sound-groups (subst (λ g. ExtentOf (scopeIn after) g groups) here x)
 
-        -- 28.
+        -- 28, if a count point is unimplemented.
         pub unimplemented : groups .unimplemented ≡ true → surveyedRefused 28 ≡ surveyed (readBy id c body)
         unimplemented u = models.unimplemented-surveyed id c body kept long (sym (extent .unimplemented) ∙ u)
 
-        -- 29, or the points.
+        -- Otherwise 29 or the number of points.
         pub surveyed-here : groups .unimplemented ≡ false → {s : Survey} → s ≡ fittedBy first run groups (length body)
             → (toSpecSurvey s ≡ surveyed (readBy id c body)) × (ReadyBy ws id body after s × IsTable after)
         surveyed-here u {s} q =

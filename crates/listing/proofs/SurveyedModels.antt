@@ -1,5 +1,5 @@
--- A model whose length is not under its top points and whose count points are implemented: the sizes and points that are held at
--- a bound decide 29, the number of points and the fill as those by the definition do.
+-- A model whose length is not under its top points and whose count points are implemented: the capped sizes and numbers of points
+-- give the same 29, number of points and fill count as the exact ones of the definition.
 use mathlib.Core.Path.{_≡_, refl, sym, ap, subst, _∙_}
 use mathlib.Core.Bool.{Bool, true, false, _&&_}
 use mathlib.Core.List.{List, _++_}
@@ -34,7 +34,7 @@ use Rattle.definition_frames.specs.declared.runs.Run.{Run}
 use Rattle.listing.specs.declared.extents.Extent.{Extent}
 use Rattle.listing.specs.declared.surveys.Survey.{Survey}
 
--- An instance of the fill group has no more points than registers.
+-- An instance of the fill group has at most as many points as registers.
 fill-fits : (count : Head → ℕ) (top enclosing : List Point) (level : ℕ) (g : Groups) → SoundGroups top enclosing level g
     → fillPoints count g ≤ or0 (fillSize count g)
 unfolding fillMeasured
@@ -51,7 +51,7 @@ fill-fits count top enclosing level (group h ps inside following) e =
         omega arith
     go false r = r
 
--- The extent of sound groups is the same with scopes that agree on the points of the top group.
+-- Two scopes that agree on the points of the top group give sound groups the same extent.
 pub extent-agrees : (s s′ : Scope) (top enclosing : List Point) (level : ℕ) (g : Groups) (r : Extent)
     → ((p : Point) → In p top → s (p .number) ≡ s′ (p .number)) → SoundGroups top enclosing level g
     → ExtentOf s g r → ExtentOf s′ g r
@@ -93,7 +93,7 @@ fitted-rest first L T N G P run groups short few t n g p z = go (eqb L (T + G)) 
         none-fits (yes h) r = fills.more-than-the-rest L rest size z r h
         none-fits (no h) r = fills.too-short L rest size (omega arith)
 
--- As many points as fill the rest of the model, held at the bound or not.
+-- The points of all instances of the fill group: capped sizes give the same number as exact ones.
 filled-points : (l size Q : ℕ) → l ≤ 65535 → Q ≤ size → l / min size 65536 * min Q 65536 ≡ l / size * Q
 filled-points l size Q short few = go (decLe size 65536)
   where
@@ -106,7 +106,7 @@ filled-points l size Q short few = go (decLe size 65536)
         let none-fits : l < size = omega arith in
         rw (same, div-eq-of-lt none-fits) (omega (arith, zero-mul (min Q 65536), zero-mul Q))
 
--- What is left behind the rest, held at the bound or not: the remainder, and how often the size goes into it.
+-- Of l registers for the fill group: the capped size gives the same remainder and the same number of instances as the exact one.
 module _ (l size fs : ℕ) (short : l ≤ 65535) (z : fs ≡ min size 65536) where
   left-over : l % fs ≡ l % size
   left-over = ap (λ n. l % n) z ∙ capped-remainder 65536 l (omega arith) size
@@ -118,7 +118,7 @@ module _ (l size fs : ℕ) (short : l ≤ 65535) (z : fs ≡ min size 65536) whe
   often-points Q fp q few =
       ap (λ n. l / n * fp) z ∙ ap (λ n. l / min size 65536 * n) q ∙ filled-points l size Q short few
 
--- The points and the fill, if nothing is left over.
+-- The number of points and the fill count if the remainder is 0, else 29.
 by-remainder : (first over often : ℕ) (run : Run) (groups : Extent)
     → surveyedBy first run groups (elim (eqb over 0) [ true ↦ some often | false ↦ none ])
     ≡ elim (eqb over 0) [
@@ -193,7 +193,7 @@ module _ (first : ℕ) (run : Run) (groups : Extent) (c : Content) (body : List 
     (sound : SoundGroups (c .points) (c .points) 2 (c .groups))
     (registers : run .size ≡ pointsSize (c .points)) (number : run .points ≡ length (c .points))
     (extent : ExtentOf (topScope (c .points) body) (c .groups) groups) where
-  -- 29, or the points and the fill.
+  -- 29, or the number of points and the fill count.
   pub fitted-by-definition : fittedBy first run groups (length body)
       ≡ elim (fits c body) [
         | true ↦ Survey.Points first (length (contentAt c body)) (fillOf c body)
@@ -257,10 +257,10 @@ module _ (first : ℕ) (run : Run) (groups : Extent) (c : Content) (body : List 
           (extent .fillPoints)
           ∙ ap (λ x. result (leb (T + G) L && eqb ((L - (T + G)) % n) 0) x ((L - (T + G)) / n)) (sym k)
 
--- ---- What surveying answers of a model
+-- ---- The survey of a model
 
 module _ (id : ℕ) (c : Content) (body : List ℕ) where
-  -- Of a model without its pad: the points but the pad.
+  -- A model whose pad is left out: the number of its points without the pad.
   pub pad-surveyed : padLeftOut id c (length body) ≡ true
       → surveyedPoints (length (c .points) - 1) ≡ surveyed (readBy id c body)
   unfolding readBy
@@ -274,12 +274,12 @@ module _ (id : ℕ) (c : Content) (body : List ℕ) where
       rw (e, readBy) (ap surveyedPoints k)
 
   module _ (kept : padLeftOut id c (length body) ≡ false) where
-    -- Any other is read by its layout.
+    -- Any other model is read in full.
     whole : readBy id c body ≡ readFull c body
     unfolding readBy
     whole = rw (kept, readBy)
 
-    -- 27.
+    -- 27, if the length is under the top points.
     pub below-surveyed : length body < pointsSize (c .points) → surveyedRefused 27 ≡ surveyed (readBy id c body)
     unfolding readFull
     below-surveyed l =
@@ -287,7 +287,7 @@ module _ (id : ℕ) (c : Content) (body : List ℕ) where
         sym (ap surveyed (whole ∙ e))
 
     module _ (long : pointsSize (c .points) ≤ length body) where
-      -- 28.
+      -- 28, if a count point is unimplemented.
       pub unimplemented-surveyed : countUnimplemented (topScope (c .points) body) (c .groups) ≡ true
           → surveyedRefused 28 ≡ surveyed (readBy id c body)
       unfolding readFull
@@ -296,7 +296,7 @@ module _ (id : ℕ) (c : Content) (body : List ℕ) where
           rw (le-ltb (length body) (pointsSize (c .points)) long, readFull) (rw u) in
           sym (ap surveyed (whole ∙ e))
 
-      -- 29, or the points.
+      -- Otherwise 29 or the number of points.
       pub fits-surveyed : (r : Survey) (first : ℕ) → countUnimplemented (topScope (c .points) body) (c .groups) ≡ false
           → r ≡ elim (fits c body) [
             | true ↦ Survey.Points first (length (contentAt c body)) (fillOf c body)
@@ -318,7 +318,7 @@ module _ (id : ℕ) (c : Content) (body : List ℕ) where
           go true = refl
           go false = refl
 
--- Where points were found, their definition is ready to be written by.
+-- If the survey counts points, the definition and the table are ready for writing records.
 pub ready-by : (ws : List ℕ) (id : ℕ) (body table : List ℕ) (first number f : ℕ) (b : Bool) (r : Survey)
     → r ≡ elim b [ true ↦ Survey.Points first number f | false ↦ Survey.Refused 29 ] → Ready ws id body table first f
     → ReadyBy ws id body table r

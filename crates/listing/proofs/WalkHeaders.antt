@@ -1,4 +1,4 @@
--- Where the walk through a map's models ends: at the end marker, with a header for each model and the marker, or at a refused
+-- Where the walk over a map's models ends: at the end marker, with a header for each model and one for the marker, or at a refused
 -- header.
 use mathlib.Core.Path.{_≡_, refl}
 use mathlib.Core.List.{List, [], _∷_, map}
@@ -11,8 +11,8 @@ use Rattle.listing.specs.Listing.{Record, recordOf, Answer, refused, lis
 use Rattle.listing.proofs.WalkSteps.{walk-no-records, walk-faulty, walk-points}
 use Rattle.listing.proofs.RefusalNumbers.{Between, model-number}
 
--- A refusal lies at a model's header, and is the model's; or at the header behind the last model, and is that header's. Of models
--- from an index and an address on.
+-- A refusal in a walk over models from model `index` and address `at` on: it is at a model's header with a number from 27 to 29,
+-- or at the header after the last model with that header's number.
 pub record RefusedAt (ending : Ending) (index at : ℕ) (ms : List Model) (n place headers : ℕ) : Type 0 where
   pub before : ℕ
   pub within : before ≤ length ms
@@ -21,12 +21,12 @@ pub record RefusedAt (ending : Ending) (index at : ℕ) (ms : List Model) (n pla
   pub atModel : before < length ms → Between 27 29 n
   pub atEnd : before ≡ length ms → ending ≡ broken n
 
--- The headers of an answer.
+-- The number of headers in an answer.
 abbrev pub HeadersWalked : Ending → ℕ → ℕ → List Model → Answer → Type 0
 HeadersWalked ending index at ms (refused n place headers) = RefusedAt ending index at ms n place headers
 HeadersWalked ending index at ms (listed rs headers) = (headers ≡ index + length ms + 1) × (ending ≡ marked)
 
--- One model more.
+-- With one more model before them.
 headers-before : (ending : Ending) (index at : ℕ) (m : Model) (ms : List Model) (rs : List Record) (answer : Answer)
     → HeadersWalked ending (index + 1) (at + sizeOf m) ms answer → HeadersWalked ending index at (m ∷ ms) (withRecords rs answer)
 headers-before ending index at m ms rs (refused n place headers) r =
@@ -78,7 +78,7 @@ module _ (read : Model → Reading) where
       (headers-before ending index at m ms (map (recordOf index at (m .id)) ps) (walk read ending (index + 1) (at + sizeOf m) ms)
       later)
 
-  -- All models from one on.
+  -- The walk over any models.
   pub walk-headers : (ending : Ending) (index at : ℕ) (ms : List Model)
       → HeadersWalked ending index at ms (walk read ending index at ms)
   walk-headers ending index at [] = headers-end ending index at

@@ -1,4 +1,4 @@
--- The answer of listing and the list behind it, by what decides them.
+-- The answer of listing and the output list after it, by what decides them.
 use mathlib.Core.Path.{_≡_, refl, sym, ap, _∙_}
 use mathlib.Core.List.{List}
 use Prim.Native.Nat.{ℕ, _*_, _/_, _≤_, _<_}
@@ -10,7 +10,7 @@ use Rattle.listing.specs.Listing.{recordWidth, Answer, refused, listed, 
 use Rattle.listing.specs.InternalContracts.{WalkFits}
 use Rattle.listing.proofs.ListingCases.{with-capacity}
 
--- What is told and what the list is then are those of an answer.
+-- The result t and the output list out′ are those of the answer a.
 abbrev pub Answered : Answer → List ℕ → Result → List ℕ → Type 0
 Answered a out t out′ = (t ≡ result a) × (out′ ≡ stored a out)
 
@@ -37,7 +37,7 @@ module _ (out : List ℕ) where
       let over : length out < recordWidth * length rs = omega arith in
       rw (lt-ltb (length out) (recordWidth * length rs) over, withCapacity, n, k) (refused-answered out 30 (length rs) following)
 
-  -- It has as many: all fits, and nothing else is refused.
+  -- It has at least 10 × points entries: the records fit, and the answer stays.
   pub has-capacity : (a : Answer) (points headers : ℕ) → listedResult points headers ≡ result a → points ≤ length out / recordWidth
       → WalkFits a out × (withCapacity (length out) a ≡ a)
   unfolding withCapacity
@@ -47,7 +47,7 @@ module _ (out : List ℕ) where
       let fits : recordWidth * length rs ≤ length out = omega arith in
       (fits, with-capacity (length out) rs following fits)
 
-  -- A refusal at a header comes first.
+  -- A refusal by another number comes before 30.
   pub before-capacity : (a : Answer) (number place headers : ℕ) → refusedResult number place headers 0 ≡ result a
       → Answered (withCapacity (length out) a) out (refusedResult number place headers 0) out
   unfolding withCapacity stored

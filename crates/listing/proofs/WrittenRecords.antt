@@ -1,4 +1,4 @@
--- What the walk writes into a list: consecutive records, ten numbers each.
+-- The output list while the walk writes it: consecutive records, ten numbers each.
 use mathlib.Core.Path.{_≡_, refl, ap, _∙_}
 use mathlib.Core.List.{List, [], _∷_, _++_, map, append-assoc, map-append}
 use Prim.Native.Nat.{ℕ, suc, _+_, _*_, _<_}
@@ -14,7 +14,7 @@ use Rattle.listing.specs.declared.records.Visit.{Visit}
 
 -- ---- Runs of stores
 
--- Storing a ++ b is storing a, and then b behind it.
+-- Storing a ++ b is storing a, and then b after it.
 pub sets-append : (l : List ℕ) (i : ℕ) (a b : List ℕ) → sets l i (a ++ b) ≡ sets (sets l i a) (i + length a) b
 sets-append l i [] b = rw add-zero
 sets-append l i (x ∷ a) b =
@@ -52,7 +52,7 @@ module _ (visit : Visit) (k : ℕ) where
   unfolding entries
   written-none out = refl
 
-  -- Of one point its record is written.
+  -- Writing one point is storing the numbers of its record.
   pub written-one : (p : ModelPoint) (out : List ℕ)
       → sets out (recordWidth * k) (recordNumbers (recordAt visit p)) ≡ written visit k (p ∷ []) out
   unfolding entries recordNumbers
@@ -61,7 +61,7 @@ module _ (visit : Visit) (k : ℕ) where
   pub written-length : (ps : List ModelPoint) (out : List ℕ) → length (written visit k ps out) ≡ length out
   written-length ps out = length-sets out (recordWidth * k) (entries (map (recordAt visit) ps))
 
-  -- Writing ps ++ qs is writing ps, and then qs behind them.
+  -- Writing ps ++ qs is writing ps, and then qs after them.
   pub written-append : (ps qs : List ModelPoint) (out : List ℕ)
       → written visit k (ps ++ qs) out ≡ written visit (k + length ps) qs (written visit k ps out)
   written-append ps qs out =

@@ -1,4 +1,4 @@
--- A call of `list`: what its contract says of it, and the records in its output list.
+-- A call of `list`: the equations of its contract, and how to read the records in its output list.
 use mathlib.Core.Path.{_≡_}
 use mathlib.Core.List.{List, [], _∷_, _++_}
 use Prim.Native.Nat.{ℕ, zero, suc}
@@ -8,7 +8,8 @@ use Rattle.listing.specs.Listing.{Result, refusedResult, listedResult, l
 use Rattle.listing.specs.declared.Listing as Code
 use Rattle.listing.specs.CodeTypes.{toSpecListing}
 
--- A call of `list` that found an output list `before`, returned `returned` and left `after`: the two equations of its contract.
+-- A call of `list` whose output list was `before`, which returned `returned` and left the list `after`: the two equations of its
+-- contract for the result and the list.
 pub record ListCall (catalog map before : List ℕ) (returned : Code.Listing) (after : List ℕ) : Type 0 where
   pub result : toSpecListing returned ≡ Listing.result (listing catalog map (length before))
   pub list : after ≡ stored (listing catalog map (length before)) before
@@ -28,7 +29,7 @@ unfoldable pub consecutive : List (List ℕ) → List ℕ
 consecutive [] = []
 consecutive (numbers ∷ records) = numbers ++ consecutive records
 
--- A model's index, its id and a point's address among the ten numbers of a record (document 01: the first, second and seventh).
+-- The model's index, its id and the point's address in a record's ten numbers (document 01: the first, second and seventh).
 abbrev pub indexIn : List ℕ → ℕ
 indexIn numbers = getD numbers 0 0
 

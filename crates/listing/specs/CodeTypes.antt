@@ -1,4 +1,4 @@
--- What the code's types stand for.
+-- The code's types as values of the definitions: what `list` and `find` return, and the results of private functions.
 use mathlib.Core.Path.{_≡_}
 use mathlib.Core.Option.{Option, none, some}
 use mathlib.Core.List.{List}
@@ -18,17 +18,17 @@ use Rattle.listing.specs.declared.frames.Found.{Found}
 use Rattle.listing.specs.declared.surveys.Survey.{Survey}
 use Rattle.listing.specs.declared.locating.Located.{Located}
 
--- What `list` returns. The case of a refusal stands for the count 0 too.
+-- What `list` returns. A refusal has no field for the count of points: it means count 0.
 abbrev pub toSpecListing : Code.Listing → Listing.Result
 toSpecListing (Code.Listing.Listed points headers) = Listing.listedResult points headers
 toSpecListing (Code.Listing.Refused number place headers) = Listing.refusedResult number place headers 0
 
--- Document 01, "Listing": the headers of a map that is walked to its end marker are models + 1, and at most (registers − 1) / 3.
+-- Document 01, "Listing": a walk to the end marker counts models + 1 headers, at most (registers − 1) / 3.
 pub record AllHeaders (map : List ℕ) (headers : ℕ) : Type 0 where
   pub counted : headers ≡ length (scan map .models) + 1
   pub bounded : headers ≤ (length map - 1) / 3
 
--- The headers that `list` returns are these on acceptance and on 30.
+-- On acceptance and on 30 `list` returns this number of headers.
 abbrev pub HeadersCounted : List ℕ → Code.Listing → Type 0
 HeadersCounted map (Code.Listing.Listed points headers) = AllHeaders map headers
 HeadersCounted map (Code.Listing.Refused number place headers) = number ≡ 30 → AllHeaders map headers
@@ -37,24 +37,24 @@ HeadersCounted map (Code.Listing.Refused number place headers) = number ≡ 30 �
 abbrev pub toSpecTarget : Target → Finding.Target
 toSpecTarget t = record { address = t .address; definition = toSpecPoint (t .point); raw = t .raw }
 
--- The answer of `find`.
+-- What `find` returns.
 abbrev pub toSpecFinding : CodeFinding.Finding → Finding.Result
 toSpecFinding (CodeFinding.Finding.Found t) = Finding.foundResult (toSpecTarget t)
 toSpecFinding CodeFinding.Finding.Nothing = Finding.nothingResult
 toSpecFinding (CodeFinding.Finding.Refused number place) = Finding.refusedResult number place
 
--- The top group of a definition that was found.
+-- Internal: the top group of the definition that `find_model` found, if any.
 abbrev pub toSpecFound : List ℕ → Found → Option Content
 toSpecFound ws (Found.At i) = some (contentFrom ws i)
 toSpecFound ws Found.Nothing = none
 
--- What a survey answers.
+-- Internal: the result of a survey.
 abbrev pub toSpecSurvey : Survey → Surveyed
 toSpecSurvey Survey.Unknown = surveyedUnknown
 toSpecSurvey (Survey.Refused number) = surveyedRefused number
 toSpecSurvey (Survey.Points first points fill) = surveyedPoints points
 
--- A point that was located, if one was.
+-- Internal: the point that was located, if any.
 abbrev pub toSpecLocated : Located → Option Locating.Located
 toSpecLocated (Located.At l) = some (record { offset = l .offset; definition = toSpecPoint (l .point) })
 toSpecLocated Located.Nothing = none

@@ -12,19 +12,19 @@ use Rattle.register_map.specs.Scan.{Model, sizeOf, Ending, marked, broken, scan
 use Rattle.layout.specs.Points.{ModelPoint}
 use Rattle.layout.specs.Reading.{Reading, unknown, faulty, points, faultNumber, reading}
 
--- A record: the model's index (unknown models counted), its id, the point's address (0 is that of the register 5375), and the
--- point.
+-- A record (document 01, "Listing"): the model's place from 0 (unknown models counted), its id, the point's address (0 is that of
+-- the register 5375), and the point.
 pub record Record : Type 0 where
   pub index : ℕ
   pub id : ℕ
   pub address : ℕ
   pub point : ModelPoint
 
--- How many numbers a record has.
+-- A record has ten numbers.
 abbrev pub recordWidth : ℕ
 recordWidth = 10
 
--- The ten numbers of a record, in order.
+-- The ten numbers of a record, in document 01's order.
 unfoldable pub recordNumbers : Record → List ℕ
 recordNumbers r =
     r .index
@@ -39,22 +39,22 @@ recordNumbers r =
     ∷ r .point .scale
     ∷ []
 
--- The record of a point, in the model with an index and an id whose header has an address.
+-- The record of point p of model `index`, whose id is `id` and whose header has address `at`.
 abbrev pub recordOf : ℕ → ℕ → ℕ → ModelPoint → Record
 recordOf index at id p = record { index = index; id = id; address = at + 2 + p .offset; point = p }
 
--- What listing finds: a refusal with its number, its place and the headers before it; or the records and the headers.
+-- The answer of listing: a refusal's number, its place and the number of headers before it; or the records and the headers' number.
 pub data Answer : Type 0 where
   refused : ℕ → ℕ → ℕ → Answer
   listed : List Record → ℕ → Answer
 
--- Records in front of those of an answer.
+-- An answer with the records rs before its own. A refusal stays.
 abbrev pub withRecords : List Record → Answer → Answer
 withRecords rs (refused number place headers) = refused number place headers
 withRecords rs (listed ss headers) = listed (rs ++ ss) headers
 
--- From the model with an index, at an address, on: header by header, the first fault decides. At the end the headers are the
--- models and the end marker.
+-- The walk over models, the first of which is model `index` at address `at`: the first fault decides, with its header's address as
+-- place and its index as headers. So does a header refused by 22 to 26. At the end marker the headers are models + 1.
 unfoldable pub walk : (Model → Reading) → Ending → ℕ → ℕ → List Model → Answer
 walk read marked index at [] = listed [] (index + 1)
 walk read (broken number) index at [] = refused number at index
@@ -65,15 +65,15 @@ walk read ending index at (m ∷ ms) =
       | points ps ↦ withRecords (map (recordOf index at (m .id)) ps) (walk read ending (index + 1) (at + sizeOf m) ms)
     ]
 
--- The map's models by how they are read.
+-- The walk over a map from its first header, at address 2. `read` says what the catalog makes of a model.
 abbrev pub walked : (Model → Reading) → List ℕ → Answer
 walked read map = walk read (scan map .ending) 0 2 (scan map .models)
 
--- The map by how its models are read: 20 and 21 first.
+-- 20 and 21 (place 0, 0 headers), else the walk over the map.
 unfoldable pub recordsBy : (Model → Reading) → List ℕ → Answer
 recordsBy read map = elim (opening map) [ some number ↦ refused number 0 0 | none ↦ walked read map ]
 
--- 1 to 29, or all records of a map by a catalog, whatever the room for them: 1 to 11 first.
+-- 1 to 11 (the frame as place, 0 headers), then 20 to 29, else all records of the map, with no limit from the output list.
 unfoldable pub allRecords : List ℕ → List ℕ → Answer
 allRecords catalog map =
     elim (Checking.checked catalog) [
@@ -81,35 +81,35 @@ allRecords catalog map =
       | Checking.accepted models ↦ recordsBy (reading (definitions catalog)) map
     ]
 
--- 30: the list has fewer than ten entries a point; its place is the number of points.
+-- 30: the list has fewer than 10 × points entries. Its place is the number of points needed, its headers are models + 1.
 unfoldable pub withCapacity : ℕ → Answer → Answer
 withCapacity capacity (refused number place headers) = refused number place headers
 withCapacity capacity (listed rs headers) =
     elim (ltb capacity (recordWidth * length rs)) [ true ↦ refused 30 (length rs) headers | false ↦ listed rs headers ]
 
--- Listing a map by a catalog, into a list of so many entries: 30 last.
+-- Listing a map by a catalog, into a list of `capacity` entries: 30 last.
 unfoldable pub listing : List ℕ → List ℕ → ℕ → Answer
 listing catalog map capacity = withCapacity capacity (allRecords catalog map)
 
--- ---- The answer and the output list
+-- ---- What a call returns and leaves in its output list
 
--- The points counted: 0 on a refusal.
+-- The count of points: 0 on a refusal.
 abbrev pub pointCount : Answer → ℕ
 pointCount (refused number place headers) = 0
 pointCount (listed rs headers) = length rs
 
--- The numbers of records, one behind the other.
+-- The numbers of consecutive records.
 unfoldable pub entries : List Record → List ℕ
 entries [] = []
 entries (r ∷ rs) = recordNumbers r ++ entries rs
 
--- The output list behind an answer: the records' numbers and the rest as it was; on a refusal all as it was.
+-- The output list after the call: the records' numbers, then the entries that were there; on a refusal the list as it was.
 unfoldable pub stored : Answer → List ℕ → List ℕ
 stored (refused number place headers) out = out
 stored (listed rs headers) out = entries rs ++ drop (recordWidth * length rs) out
 
--- What a call of listing returns: the count of points and the headers; or a refusal's number and place, the headers before it, and
--- the count, which document 01 sets to 0 on a refusal.
+-- What a call returns: the count of points and the number of headers; or a refusal's number, its place, the number of headers
+-- before it and the count of points, which document 01 sets to 0.
 pub data Result : Type 0 where
   refusedResult : (number place headers count : ℕ) → Result
   listedResult : (count headers : ℕ) → Result

@@ -1,4 +1,4 @@
-// How many registers and points a model takes by its definition, before anything is written.
+// The number of registers and points of a model by its definition, computed before anything is written.
 use catalog::FILL;
 use catalog::Head;
 use definition_frames::GroupOr;
@@ -13,13 +13,13 @@ ghost use Rattle.catalog_frames.specs.CodeTypes.{toSpecHead};
 ghost use Rattle.layout.specs.InternalWalks.{contentFrom, pastEnd, scopeIn, IsTable, AtGroups};
 ghost use Rattle.listing.specs.InternalContracts.{ExtentOf, SameExtent, WithGroup};
 
-// Nested counts can make a size of more than 64 bits. No map has more registers than this, so sizes and
-// numbers of points are capped at it.
+// A size with nested counts may need more than 64 bits. No map has more registers than CAP, so sizes and numbers
+// of points are capped at it.
 pub(crate) const CAP: usize = 65536;
 
-// Groups side by side: their registers and points, those of a fill group left out; the registers and points of
-// an instance of the fill group, 0 where there is none; whether a count point is unimplemented; and the
-// frame behind the end frame of the group that they stand in.
+// Sibling groups: their registers and points, without those of a fill group; the registers and points of one
+// instance of the fill group, 0 if there is none; whether a count point is unimplemented; and the frame after
+// the end frame of the group that contains them.
 pub(crate) struct Extent {
     pub(crate) size: usize,
     pub(crate) points: usize,
@@ -29,7 +29,7 @@ pub(crate) struct Extent {
     pub(crate) next: usize,
 }
 
-// The groups from frame `first` on, in a group that may hold groups of so many levels. Each frame is met once.
+// The extent of the groups from frame `first` on, in a group that may hold `levels` further levels. Reads each frame once.
 pub(crate) fn groups_extent(catalog: &[u16], table: &[u16], levels: usize, first: usize) -> Extent
     requires { ⌜ AtGroups (now catalog) first levels ⌝ }
     requires { ⌜ IsTable (now table) ⌝ }
@@ -63,7 +63,7 @@ pub(crate) fn groups_extent(catalog: &[u16], table: &[u16], levels: usize, first
     at_end(sum)
 }
 
-// Past the end frame.
+// The same extent, with `next` past the end frame.
 fn at_end(sum: Extent) -> Extent
     requires { ⌜ sum .next ≤ 65536 ⌝ }
     ensures { λ r. ⌜ SameExtent sum r × (r .next ≡ sum .next + 1) ⌝ }
@@ -78,7 +78,7 @@ fn at_end(sum: Extent) -> Extent
     }
 }
 
-// The groups so far and one more, by its head, its points and the groups in it.
+// The extent `sum` and one more group: its head, its points and the groups in it.
 fn with_group(sum: Extent, table: &[u16], head: Head, run: Run, inside: Extent) -> Extent
     requires { ⌜ IsTable (now table) ⌝ }
     requires { ⌜ (sum .size ≤ 65536) × (sum .points ≤ 65536) × (inside .size ≤ 65536) × (inside .points ≤ 65536) ⌝ }
@@ -99,7 +99,7 @@ fn with_group(sum: Extent, table: &[u16], head: Head, run: Run, inside: Extent) 
     }
 }
 
-// A sum and count times a size more, capped.
+// sum + count × size, capped.
 fn grown(sum: usize, count: usize, size: usize) -> usize
     requires { ⌜ (sum ≤ 268435456) × (count ≤ 65535) × (size ≤ 65536) ⌝ }
     ensures { λ r. ⌜ r ≡ min (sum + count * size) 65536 ⌝ }

@@ -1,4 +1,4 @@
-// Where the definition of a model is among the frames of a catalog.
+// Searches a catalog for the definition of a model.
 use catalog::Frame;
 use catalog::read_frame;
 ghost use mathlib.Core.Path.{_≡_};
@@ -9,13 +9,13 @@ ghost use Rattle.layout.specs.InternalWalks.{Accepted, isModelOf};
 ghost use Rattle.listing.specs.CodeTypes.{toSpecFound};
 ghost use Rattle.listing.specs.InternalContracts.{FoundParses};
 
-// Where a definition begins: the frame behind its model frame. Or the catalog lacks it.
+// The frame where a definition begins, right after its model frame; or that the catalog lacks it.
 pub(crate) enum Found {
     At(usize),
     Nothing,
 }
 
-// Where the definition of an id begins, if the catalog has it. The search takes the frames in order.
+// Where the definition of `id` begins, if the catalog has it. Searches the frames in order.
 pub(crate) fn find_model(catalog: &[u16], id: u16) -> Found
     requires { ⌜ Accepted (now catalog) ⌝ }
     ensures { λ r. ⌜ toSpecFound (now (catalog .entry)) r ≡ topOf id (definitions (now (catalog .entry))) ⌝ }
@@ -32,7 +32,7 @@ pub(crate) fn find_model(catalog: &[u16], id: u16) -> Found
     Found::Nothing
 }
 
-// Is frame i the model frame of an id?
+// Is frame i the model frame of `id`?
 fn is_model(catalog: &[u16], i: usize, id: u16) -> bool
     ensures { λ r. ⌜ r ≡ isModelOf id (frameIn (now (catalog .entry)) i) ⌝ }
 {

@@ -39,8 +39,8 @@ ghost use Rattle.listing.specs.Listing as Listings;
 ghost use Rattle.listing.specs.CodeTypes.{toSpecListing, HeadersCounted};
 ghost use Rattle.listing.specs.InternalContracts.{written, bodyAt, WalkFits};
 
-// What `list` answers: the points and the headers; or the number of a refusal, its place and the headers
-// before it.
+// What `list` returns: the count of points and the number of headers; or a refusal's number, its place and the
+// number of headers before it.
 pub enum Listing {
     Listed {
         points: usize,
@@ -54,9 +54,9 @@ pub enum Listing {
 }
 
 // Lists the points of a map into `out`, ten numbers a record. All refusals and the count of points are decided
-// before anything is written. Beside checking the catalog, the time grows at most with the registers of the map
-// times the frames of the catalog: each model's id is searched for in the catalog, each instance takes the
-// frames of its group anew, and nothing is searched for each point.
+// before anything is written. In addition to checking the catalog, the time is at most proportional to the map's
+// registers times the catalog's frames: each model searches the catalog for its id, each instance reads the frames
+// of its group again, and no point needs a search.
 pub fn list(catalog: &[u16], map: &[u16], out: &mut [u64]) -> Listing
     ensures { λ r. ⌜ toSpecListing r ≡ Listings.result (Listings.listing (now (catalog .entry)) (now (map .entry)) (length (now (out .entry)))) ⌝ }
     ensures { λ _. ⌜ now (out .exit) ≡ Listings.stored (Listings.listing (now (catalog .entry)) (now (map .entry)) (length (now (out .entry)))) (now (out .entry)) ⌝ }
@@ -80,7 +80,7 @@ pub fn list(catalog: &[u16], map: &[u16], out: &mut [u64]) -> Listing
     }
 }
 
-// 1 to 29, or the points of all known models and the headers: a walk over the headers that writes nothing.
+// 1 to 29, or the count of points of all known models and the number of headers. Walks over the headers and writes nothing.
 fn survey_plant(catalog: &[u16], map: &[u16], table: &mut [u16]) -> Listing
     requires { ⌜ IsTable (now table) ⌝ }
     ensures { λ r. ⌜ toSpecListing r ≡ Listings.result (Listings.allRecords (now (catalog .entry)) (now (map .entry))) ⌝ }
@@ -93,7 +93,7 @@ fn survey_plant(catalog: &[u16], map: &[u16], table: &mut [u16]) -> Listing
     }
 }
 
-// The same by a catalog that was accepted.
+// The same for a catalog that was accepted: 20 and 21, then the walk.
 fn survey_checked(catalog: &[u16], map: &[u16], table: &mut [u16]) -> Listing
     requires { ⌜ Accepted (now catalog) ⌝ }
     requires { ⌜ IsTable (now table) ⌝ }
@@ -107,7 +107,7 @@ fn survey_checked(catalog: &[u16], map: &[u16], table: &mut [u16]) -> Listing
     }
 }
 
-// The refusals at the headers, or the points of all known models and the headers.
+// 22 to 29 at the headers, or the count of points of all known models and the number of headers.
 fn survey_map(catalog: &[u16], map: &[u16], table: &mut [u16]) -> Listing
     requires { ⌜ Accepted (now catalog) ⌝ }
     requires { ⌜ opening (now map) ≡ none ⌝ }
@@ -155,7 +155,7 @@ fn after_model(at: usize, length: u16) -> usize
     body_address(at as u32, length as u32)
 }
 
-// A refusal.
+// A refusal, with count 0.
 fn refused(number: u16, place: usize, headers: usize) -> Listing
     ensures { λ r. ⌜ toSpecListing r ≡ Listings.refusedResult number place headers 0 ⌝ }
 {
@@ -196,7 +196,7 @@ fn put_map(catalog: &[u16], map: &[u16], table: &mut [u16], out: &mut [u64])
     }
 }
 
-// Writes the records of a model that the catalog knows, and skips another; returns the number of records written so far.
+// Writes the records of a model that the catalog knows; skips an unknown one. Returns the number of records written so far.
 fn put_known(
     catalog: &[u16],
     map: &[u16],

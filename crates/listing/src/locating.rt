@@ -25,7 +25,7 @@ ghost use Rattle.layout.specs.Locating.{locatedAmong, locatedOwn, locatedIn};
 ghost use Rattle.listing.specs.CodeTypes.{toSpecLocated};
 ghost use Rattle.listing.specs.InternalContracts.{ModelAsks, locatedWithin, LocateAsks, ShapeOf};
 
-// What is searched for in a model: a point's number and its instance path.
+// The search key: a point's number and its instance path.
 pub(crate) struct Key {
     pub(crate) number: u16,
     pub(crate) path: InstancePath,
@@ -37,7 +37,7 @@ pub(crate) struct Location {
     pub(crate) point: Point,
 }
 
-// The point searched for, or that there is none.
+// The point with the search key, or that there is none.
 pub(crate) enum Located {
     At(Location),
     Nothing,
@@ -49,8 +49,8 @@ pub(crate) struct Position {
     pub(crate) offset: usize,
 }
 
-// Looks for the point in a model whose definition begins at frame `first` and whose top points are in the table; `length`
-// is that of its body. A pad that is left out begins at the end of the body, so it is not found.
+// Looks for the point in a model with a body of `length` registers, whose definition begins at frame `first` and whose top
+// points are in the table. A pad that is left out begins at the end of the body, so it is not found.
 pub(crate) fn locate_model(
     catalog: &[u16],
     table: &[u16],
@@ -79,8 +79,8 @@ pub(crate) fn locate_model(
     locate_groups(catalog, table, fill, LOWER_LEVELS, groups, key)
 }
 
-// A group: its instances, the registers of its own points and of a whole instance, the frame of the groups in it, and the
-// frame past its end.
+// A group: the number of its instances, the registers of one instance's own points and of one whole instance, the frame of the
+// groups in it, and the frame after its end frame.
 struct Shape {
     count: usize,
     own_size: usize,
@@ -89,8 +89,8 @@ struct Shape {
     next: usize,
 }
 
-// Looks for the point in sibling groups from a frame on, in a group that may hold groups of `levels` levels. Of each group
-// only the instance with the path's number can have it: among its own points, or in the groups in it.
+// Looks for the point in sibling groups from `start` on, in a group that may hold `levels` further levels. Of each group only
+// the instance with the path's number can have it: among its own points, or in the groups in it.
 fn locate_groups(
     catalog: &[u16],
     table: &[u16],
@@ -140,7 +140,7 @@ fn locate_groups(
     Located::Nothing
 }
 
-// The group at frame `frame`, by its head and what it holds.
+// The shape of the group at frame `frame`, by its head, its points and the groups in it.
 fn shape_of(
     catalog: &[u16],
     table: &[u16],
@@ -165,8 +165,8 @@ fn shape_of(
     }
 }
 
-// Looks for the point among the own points of an instance that may hold groups of `levels` levels. They have the instance
-// number 0 at every deeper level.
+// Looks for the point among the own points of an instance that may hold `levels` further levels. Their path has number 0 at
+// every deeper level.
 fn locate_own(catalog: &[u16], start: Position, limit: usize, levels: usize, key: Key) -> Located
     requires { ⌜ ParsesAt (now catalog) (start .frame) × (length (now catalog) / 8 ≤ 4096) ⌝ }
     requires { ⌜ (limit ≤ 65536) × (levels ≤ 3) × (length (key .path .instances) ≡ 3) ⌝ }
@@ -178,7 +178,7 @@ fn locate_own(catalog: &[u16], start: Position, limit: usize, levels: usize, key
     Located::Nothing
 }
 
-// Looks for the point with a number among the points from a frame on. Ends at offset `limit`, so that a pad that is
+// Looks for the point with number `number` among the points from `start` on. Ends at offset `limit`, so that a pad that is
 // left out is not found.
 fn locate_run(catalog: &[u16], start: Position, limit: usize, number: u16) -> Located
     requires { ⌜ ParsesAt (now catalog) (start .frame) × (length (now catalog) / 8 ≤ 4096) ⌝ }

@@ -1,4 +1,4 @@
-// The walk over the points of one model: their records, written into the output list.
+// Walks over the points of one model and writes their records into the output list.
 use catalog::Point;
 use definition_frames::GroupOr;
 use definition_frames::PointOr;
@@ -27,37 +27,36 @@ ghost use Rattle.layout.specs.InternalWalks.{contentFrom, Accepted, levelOf, sc
 ghost use Rattle.listing.specs.Listing.{recordWidth};
 ghost use Rattle.listing.specs.InternalContracts.{written, PointFits, RunAsks, AfterRun, GroupsAsk, AfterGroups};
 
-// The numbers of a record.
+// The number of entries that a record takes.
 pub const WIDTH: usize = 10;
 
-// A model that is walked: its index, its id, and the address of its header.
+// The visited model: its index, its id, and the address of its header.
 pub(crate) struct Visit {
     pub(crate) index: usize,
     pub(crate) id: u16,
     pub(crate) address: usize,
 }
 
-// An instance of a group that is walked: its path. What is in its scope is in the table.
+// An instance of a group: its path. The points in its scope are in the table.
 struct Instance {
     path: InstancePath,
 }
 
-// A model whose groups are walked: the visit, and the count of its fill group.
+// The visited model and the count of its fill group.
 struct Model {
     visit: Visit,
     fill: usize,
 }
 
-// How far the walk has come: the points met, which is the number of the next record, the offset in the body, and
-// the frame.
+// The progress of the walk: the number of records written, the offset in the body, and the frame.
 pub(crate) struct Progress {
     pub(crate) records: usize,
     pub(crate) offset: usize,
     pub(crate) frame: usize,
 }
 
-// Walks a model whose definition begins at frame `first`, and answers how many points were met then; the table holds
-// its top group.
+// Writes the records of a model whose definition begins at frame `first` and whose top points are in the table. Returns
+// the number of records written so far.
 pub(crate) fn put_model(
     catalog: &[u16],
     table: &mut [u16],
@@ -105,7 +104,7 @@ pub(crate) fn put_model(
     end.records
 }
 
-// Walks the points of an instance. Ends where the body does, so that a pad that is left out has no record.
+// Writes the points of an instance. Ends at the end of the body, so that a pad that is left out has no record.
 fn put_run(
     catalog: &[u16],
     table: &[u16],
@@ -138,8 +137,8 @@ fn put_run(
     at
 }
 
-// Walks the groups side by side from a frame on, in a group that may hold groups of so many levels: each
-// instance's own points first, then the groups in it. An instance takes the frames of its group anew.
+// Writes sibling groups from `start` on, in a group that may hold `levels` further levels: for each instance its own
+// points first, then the groups in it. Each instance reads the frames of its group again.
 fn put_groups(
     catalog: &[u16],
     table: &mut [u16],
@@ -180,7 +179,7 @@ fn put_groups(
     at
 }
 
-// Records the points of an instance in the table and walks them; they are after the group frame.
+// Records the own points of an instance, which begin after the group frame, in the table, and then writes them.
 fn put_own(
     catalog: &[u16],
     table: &mut [u16],
@@ -206,7 +205,7 @@ fn put_own(
     put_run(catalog, table, out, visit, body, instance, first)
 }
 
-// As far as before, but at another frame.
+// The same progress at frame `frame`.
 fn at_frame(at: Progress, frame: usize) -> Progress
     ensures { λ r. ⌜ r ≡ record { records = at .records; offset = at .offset; frame = frame } ⌝ }
 {
@@ -217,7 +216,7 @@ fn at_frame(at: Progress, frame: usize) -> Progress
     }
 }
 
-// Instance j of a group that may hold groups of levels - 1 levels, within an instance.
+// Instance j of a group in the instance `around`, which may hold `levels` further levels.
 fn enter(around: Instance, levels: usize, j: u16) -> Instance
     requires { ⌜ (1 ≤ levels) × (levels ≤ 3) ⌝ }
     requires { ⌜ length (around .path .instances) ≡ 3 ⌝ }
@@ -261,7 +260,7 @@ fn put_record(
     put(out, WIDTH * at.records, &numbers);
 }
 
-// Writes numbers into a list, one behind the other.
+// Writes `numbers` into consecutive entries of `out`, from entry `at` on.
 fn put(out: &mut [u64], at: usize, numbers: &[u64])
     requires { ⌜ at + length (now numbers) ≤ length (now out) ⌝ }
     ensures { λ _. ⌜ now (out .exit) ≡ sets (now (out .entry)) at (now (numbers .entry)) ⌝ }

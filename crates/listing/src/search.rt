@@ -1,4 +1,4 @@
-// Finds one point of a register map, by the index of its model, its number and its path.
+// Finds one point of a register map by its model's index, its number and its instance path.
 use crate::Listing;
 use crate::after_model;
 use crate::locating::Key;
@@ -33,21 +33,21 @@ ghost use Rattle.listing.specs.Finding as Findings;
 ghost use Rattle.listing.specs.CodeTypes.{toSpecTarget, toSpecFinding};
 ghost use Rattle.listing.specs.InternalContracts.{targetAt, resultAt, IsListed};
 
-// A point: its address, its definition in the catalog, and its raw value (0 if it takes over four registers).
+// A point: its address, its definition in the catalog, and its raw value (0 if it has over four registers).
 pub struct Target {
     pub address: usize,
     pub point: Point,
     pub raw: u64,
 }
 
-// What `find` returns: the point, that there is none, or a refusal of listing with its place.
+// What `find` returns: the point, that there is no such point, or a refusal of listing (1 to 29) with its place.
 pub enum Finding {
     Found(Target),
     Nothing,
     Refused { number: u16, place: usize },
 }
 
-// Finds a point. All refusals are decided before, as for listing; then the point is located in its model.
+// Finds a point. All refusals are decided first, as for listing; then the point is located in its model.
 pub fn find(catalog: &[u16], map: &[u16], model: usize, point: u16, path: InstancePath) -> Finding
     ensures { λ r. ⌜ toSpecFinding r ≡ Findings.result (Findings.finding (now (catalog .entry)) (now (map .entry)) model point (path .instances)) ⌝ }
 {
@@ -65,7 +65,7 @@ pub fn find(catalog: &[u16], map: &[u16], model: usize, point: u16, path: Instan
     }
 }
 
-// Looks for the point in the model with an index, in a map that was surveyed without a refusal.
+// Looks for the point in model `model` of a map that was surveyed without a refusal.
 fn search_map(catalog: &[u16], map: &[u16], table: &mut [u16], model: usize, key: Key) -> Finding
     requires { ⌜ Accepted (now catalog) ⌝ }
     requires { ⌜ opening (now map) ≡ none ⌝ }
@@ -93,7 +93,7 @@ fn search_map(catalog: &[u16], map: &[u16], table: &mut [u16], model: usize, key
     Finding::Nothing
 }
 
-// Looks for the point in the model with an id and a body, whose header is at address `at`.
+// Looks for the point in one model: its id, its body and the address `at` of its header.
 fn search_model(
     catalog: &[u16],
     table: &mut [u16],
@@ -125,7 +125,7 @@ fn search_model(
     }
 }
 
-// A point that was located in a body, in the model whose header is at address `at`.
+// The result for a point that was located in `body`, in the model whose header is at address `at`.
 fn target_at(at: usize, body: &[u16], location: Location) -> Target
     requires { ⌜ (at ≤ 65536) × (location .offset ≤ 65536) ⌝ }
     ensures { λ r. ⌜ toSpecTarget r ≡ targetAt at (now (body .entry)) (record { offset = location .offset; definition = toSpecPoint (location .point) }) ⌝ }

@@ -1,4 +1,4 @@
-// What a catalog says of one model, before anything is written: 27 to 29, or how many points it has.
+// Surveys one model by a catalog before anything is written: 27 to 29, or the number of its points.
 use crate::extents::Extent;
 use crate::extents::groups_extent;
 use crate::frames::Found;
@@ -20,8 +20,8 @@ ghost use Rattle.layout.specs.InternalWalks.{contentFrom, ParsesAt, Accepted, I
 ghost use Rattle.listing.specs.CodeTypes.{toSpecSurvey};
 ghost use Rattle.listing.specs.InternalContracts.{ReadyBy, fittedBy};
 
-// What a catalog says of a model: nothing where it lacks the id; a refusal (27 to 29); or the frame where its
-// definition begins, the number of its points and the count of its fill group.
+// The result of a survey: the catalog lacks the model's id; a refusal (27 to 29); or the frame where the definition
+// begins, the number of points and the count of the fill group.
 pub(crate) enum Survey {
     Unknown,
     Refused(u16),
@@ -32,7 +32,7 @@ pub(crate) enum Survey {
     },
 }
 
-// Surveys a model. Where it has points, the table holds those of its top group.
+// Surveys a model. If the result is `Points`, the table holds the points of its top group.
 pub(crate) fn survey_model(catalog: &[u16], table: &mut [u16], id: u16, body: &[u16]) -> Survey
     requires { ⌜ Accepted (now catalog) ⌝ }
     requires { ⌜ IsTable (now table) × (length (now body) ≤ 65535) ⌝ }
@@ -76,8 +76,8 @@ fn survey_known(catalog: &[u16], table: &mut [u16], id: u16, body: &[u16], first
     fitted(first, run, groups, body.len())
 }
 
-// 29 by the sizes, or the points: the length is the size; with a fill group it is not below the rest and leaves
-// no remainder.
+// 29 unless `length` is the model's size; with a fill group, 29 if it is below the rest or leaves a remainder. Else the
+// number of points.
 fn fitted(first: usize, run: Run, groups: Extent, length: usize) -> Survey
     requires { ⌜ (run .size ≤ length) × (length ≤ 65535) × (run .points ≤ 4096) ⌝ }
     requires { ⌜ (groups .size ≤ 65536) × (groups .points ≤ 65536) × (groups .«fill_points» ≤ 65536) ⌝ }

@@ -1,4 +1,4 @@
--- `listing::list` meets its contract: the survey refuses or counts, then comes 30, then the records are written.
+-- `listing::list` meets its contract: the survey refuses or counts, then 30 is decided, then the records are written.
 use mathlib.Core.Path.{_≡_, sym, ap, subst, _∙_}
 use mathlib.Core.List.{List}
 use Prim.Native.Nat.{ℕ, _/_, _≤_}
@@ -18,7 +18,7 @@ use Rattle.listing.proofs.list.Statement.{statement}
 use Rattle.listing.proofs.list.Tie as tie
 use borrow.Author.Needs.{needs}
 
--- A survey that counts points comes from a walk, whose records fit a list with room for as many.
+-- A survey that counts points comes from a walk; its records fit a list with capacity for this count.
 survey-walk : (catalog registers out : List ℕ) (points headers : ℕ) → listedResult points headers ≡ result (allRecords catalog registers)
     → points ≤ length out / recordWidth
     → (Walks catalog registers (allRecords catalog registers))

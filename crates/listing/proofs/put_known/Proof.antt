@@ -1,4 +1,4 @@
--- `listing::put_known` meets its contract: a model's records by its survey, and none where it has none.
+-- `listing::put_known` meets its contract: the survey decides whether the model has records to write.
 use mathlib.Core.Path.{_≡_, sym, ap, subst, _∙_}
 use mathlib.Core.List.{List}
 use Prim.Native.Nat.{ℕ, _+_, _*_, _≤_}
@@ -17,7 +17,7 @@ use Rattle.listing.proofs.MapRecords.{nothing-written}
 use Rattle.listing.proofs.put_known.Statement.{statement}
 use Rattle.listing.proofs.put_known.Tie as tie
 
--- The model by a body, and the body's length.
+-- The reading of the model with a body, and the body's length.
 abbrev read : tie.Start → List ℕ → Reading
 read s body = readIn (s .args .catalog .now) (s .args .visit .id) body
 

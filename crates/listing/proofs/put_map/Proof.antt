@@ -1,4 +1,4 @@
--- `listing::put_map` meets its contract: at each header, what is left leads to the list after the whole.
+-- `listing::put_map` meets its contract: at each header, writing the remaining models gives the list that the contract requires.
 use mathlib.Core.Path.{sym, ap, subst, _∙_}
 use mathlib.Core.List.{List}
 use Prim.Native.Nat.{ℕ, _+_, _-_}

@@ -1,4 +1,4 @@
--- `listing::survey_checked` meets its contract: 20 and 21 come next.
+-- `listing::survey_checked` meets its contract: 20 and 21 come before the walk.
 use mathlib.Core.Path.{sym, ap, _∙_}
 use Rattle.model_definitions.specs.Definitions.{definitions}
 use Rattle.register_map.specs.CodeTypes.{toSpecOpening}

@@ -1,4 +1,4 @@
--- `listing::survey_map` meets its contract: from each header on, with the points so far, what is left decides as the whole.
+-- `listing::survey_map` meets its contract: at each header, the points so far and the remaining models give the whole result.
 use mathlib.Core.Path.{sym, ap, subst, _∙_}
 use mathlib.Core.Logic.{⊎-elim}
 use Prim.Native.Nat.{ℕ, _+_, _-_}

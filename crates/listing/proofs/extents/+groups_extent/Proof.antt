@@ -1,4 +1,4 @@
--- `listing::extents::groups_extent` meets its contract: the groups summed up and those from there on are those of the group.
+-- `listing::extents::groups_extent` meets its contract: the groups summed up and those that remain are all groups of the group.
 use mathlib.Core.Path.{_≡_, refl, sym, ap, subst, _∙_}
 use Prim.Native.Nat.{ℕ, _+_, _-_, _/_, _<_}
 use native.Mathlib.Omega.{arith}
@@ -24,7 +24,7 @@ use borrow.Author.Needs.{needs}
 use borrow.Fn.Kinds.{In}
 use borrow.Fn.PlainCycle.{Measures, is, falls, and}
 
--- The levels fall.
+-- The recursion ends, since the number of levels falls.
 abbrev μ : Measures 2 kinds.ps ℕ
 μ κs a = a .1 .1 .0
 
@@ -64,7 +64,7 @@ module _ (t : ℕ) where
       let none-visited = steps.none-visited (scopeIn (a .table .now)) all _ refl refl refl refl refl in
       (record { position = p .0; few = p .1 .1; end = refl; summed = none-visited }, refl)
 
-  -- The run is the points of the group that begins here.
+  -- The run is that of the points of the group at this frame.
   own-run : (c : lts.After-run-extent (known t) (asked t) reads.Post Inv-loop μ-loop)
       → RunOf (c .before .before .before .before .before .before .before .before .before .before .args .catalog .now)
       (c .before .before .before .before .before .before .before .loop .sum .next + 1) (c .run-extent .result)
@@ -119,7 +119,7 @@ module _ (t : ℕ) where
         ),
       )
 
-  -- A step over a group.
+  -- The step over a group.
   on-step : (c : lts.After-with-group (known t) (asked t) reads.Post Inv-loop μ-loop)
       → let a = c .before .before .before .before .before .before .before .before .before .before .before .before .args in
       walks.Walked (a .catalog .now) (scopeIn (a .table .now)) (a .levels) (a .first) (c .with-group .result)

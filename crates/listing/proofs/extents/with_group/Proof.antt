@@ -9,20 +9,20 @@ use Rattle.lists.proofs.TestOutcomes.{clash}
 use Rattle.listing.proofs.extents.with_group.Statement.{statement}
 use Rattle.listing.proofs.extents.with_group.Tie as tie
 
--- What is added is the count × the size of an instance.
+-- The sum grows by count × the size of an instance.
 present : (sum count run inside c size r : ℕ) → size ≡ min (run + 1 * inside) 65536 → c ≡ count → r ≡ min (sum + c * size) 65536
     → r ≡ min (sum + count * min (run + inside) 65536) 65536
 present sum count run inside c size r s q e =
     let z : min (run + 1 * inside) 65536 ≡ min (run + inside) 65536 = omega arith in
     e ∙ ap (λ n. min (sum + n) 65536) (ap (λ n. n * size) q ∙ ap (λ n. count * n) (s ∙ z))
 
--- The size of an instance is taken where the group fills.
+-- The fill size of a fill group is the size of its instance.
 taken : (fills : Bool) (run inside old size t : ℕ) → size ≡ min (run + 1 * inside) 65536 → fills ≡ true → t ≡ size
     → t ≡ elim fills [ true ↦ min (run + inside) 65536 | false ↦ old ]
 taken true run inside old size t s b e = omega arith
 taken false run inside old size t s b e = clash (sym b)
 
--- What was there is kept where it does not.
+-- Another group leaves the fill size as it was.
 kept : (fills : Bool) (new old t : ℕ) → fills ≡ false → t ≡ old → t ≡ elim fills [ true ↦ new | false ↦ old ]
 kept true new old t b e = clash b
 kept false new old t b e = e

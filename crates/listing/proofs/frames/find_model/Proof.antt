@@ -1,4 +1,4 @@
--- `listing::frames::find_model` meets its contract: the definition stands at the frame or behind, or there is none.
+-- `listing::frames::find_model` meets its contract: the definition is at the current frame, at a later one, or nowhere.
 use mathlib.Core.Path.{_≡_, refl, sym, _∙_}
 use Prim.Native.Nat.{_-_}
 use native.Mathlib.Omega.{arith}

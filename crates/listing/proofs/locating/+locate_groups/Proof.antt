@@ -1,4 +1,4 @@
--- `listing::locating::locate_groups` meets its contract: at each group, the instance or what is past the group decides as all do.
+-- `listing::locating::locate_groups` meets its contract: at each group the result is the instance's, else that past the group.
 use mathlib.Core.Path.{_≡_, refl, sym, ap, _∙_}
 use mathlib.Core.Logic.{⊎-elim}
 use Prim.Native.Nat.{ℕ, _-_, _/_, _<_}
@@ -27,7 +27,7 @@ use Rattle.listing.proofs.locating.shape_of.Reads as shape-of-reads
 use Rattle.listing.proofs.locating.+locate_groups.{statement}
 use Rattle.listing.proofs.locating.+locate_groups.Tie.{close}
 
--- The levels fall.
+-- The recursion ends, since the number of levels falls.
 abbrev μ : Measures 2 kinds.ps ℕ
 μ κs a = a .1 .1 .1 .0
 
@@ -64,7 +64,7 @@ abbrev μ-loop : lts.MeasureT-loop
 μ-loop catalog table fill levels key frames at₀ at = frames - at .frame
 
 module _ (t : ℕ) where
-  -- The places at which the group's shape and the path's number are known.
+  -- The program points at which the group's shape and the path's number are known.
   abbrev AtShape : Type 0
   AtShape = lts.After-shape-of (known t) (asked t) reads.Post Inv-loop μ-loop
 
@@ -100,7 +100,7 @@ module _ (t : ℕ) where
   sub-number-at : lts.Need-sub-number-at (known t) (asked t) reads.Post Inv-loop μ-loop
   sub-number-at c = omega (arith, c .before .before .before .before .before .before .before .loop .inv .0 .atMost3)
 
-  -- The levels count down, the places of a path up.
+  -- The levels count down while the positions in a path count up.
   at-number : (c : AtNumber)
       → c .number-at .result
       ≡ getD (c .before .before .before .before .before .before .before .before .before .before .before .args .key .path .instances)

@@ -14,7 +14,7 @@ use Rattle.listing.specs.InternalContracts.{RunOf, LocateAsks}
 use Rattle.listing.proofs.locating.locate_model.Statement.{statement}
 use Rattle.listing.proofs.locating.locate_model.Tie as tie
 
--- What locating in the groups results in, by the offset where they begin.
+-- The result of locating in the groups, by the offset where they begin.
 abbrev lower : tie.Start → ℕ → Groups → Option Located
 lower s =
     let a = s .args in
@@ -30,7 +30,7 @@ returns c =
 enum-told : tie.Need-enum-told
 enum-told c = search needs
 
--- The run is the top points.
+-- The run is that of the top points.
 top-run : (c : tie.After-run-extent) → RunOf (c .before .before .before .before .before .before .args .catalog .now)
     (c .before .before .before .before .before .before .args .first) (c .run-extent .result)
 top-run c =

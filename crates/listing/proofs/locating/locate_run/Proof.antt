@@ -1,4 +1,4 @@
--- `listing::locating::locate_run` meets its contract: looking among the points that are left gives what looking among all gives.
+-- `listing::locating::locate_run` meets its contract: the result among the remaining points is the result among all.
 use mathlib.Core.Path.{_≡_, refl, sym, ap, _∙_}
 use mathlib.Core.List.{List}
 use Prim.Native.Nat.{_+_, _-_, _/_}

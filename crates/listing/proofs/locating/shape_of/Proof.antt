@@ -19,7 +19,7 @@ add-run-extent c =
     let at = s .pre .0 in
     omega (arith, position.parses-within (s .args .catalog .now) (s .args .frame) (at .parses), at .few)
 
--- The run is the points of the group.
+-- The run is that of the points of the group.
 own-run : (c : tie.After-run-extent)
     → RunOf (c .before .before .before .args .catalog .now) (c .before .before .before .args .frame + 1) (c .run-extent .result)
 own-run c =

@@ -1,4 +1,5 @@
--- `listing::records::put_groups` meets its contract: instance by instance, writing what is left gives what is asked for.
+-- `listing::records::put_groups` meets its contract: at each instance, writing what remains gives the list that the contract
+-- requires.
 use borrow.Author.Needs.{needs}
 use native.Mathlib.Omega.{arith}
 use mathlib.Core.Path.{_≡_, refl, sym, ap, subst, _∙_}

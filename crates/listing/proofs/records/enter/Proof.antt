@@ -1,4 +1,4 @@
--- `listing::records::enter` meets its contract: the levels count down, the places of a path up.
+-- `listing::records::enter` meets its contract: the levels count down while the positions in a path count up.
 use borrow.Author.Needs.{needs}
 use mathlib.Core.Path.{_≡_, ap, _∙_}
 use Prim.Native.Nat.{_-_}

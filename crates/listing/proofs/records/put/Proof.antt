@@ -1,4 +1,4 @@
--- `listing::records::put` meets its contract: storing the numbers that are left gives what storing all gives.
+-- `listing::records::put` meets its contract: storing the remaining numbers gives what storing all gives.
 use mathlib.Core.Path.{_≡_, refl, _∙_}
 use Prim.Native.Nat.{_+_, _-_, _≤_}
 use native.Mathlib.Nat.{add-zero}

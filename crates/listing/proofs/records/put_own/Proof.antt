@@ -1,4 +1,4 @@
--- `listing::records::put_own` meets its contract: the points are noted, and then written by the table.
+-- `listing::records::put_own` meets its contract: the points are recorded in the table, and then written by it.
 use mathlib.Core.Path.{_≡_, sym, ap, subst, _∙_}
 use mathlib.Core.List.{List}
 use Prim.Native.Nat.{ℕ, _+_, _<_}
@@ -21,7 +21,7 @@ add-inside c =
     let s = c .before .before .before .before .before in
     omega (arith, parses-within (s .args .catalog .now) (s .args .at .frame + 1) (s .pre .1 .parses), s .pre .1 .few)
 
--- The progress in front of the points.
+-- The progress before the points.
 abbrev start : tie.Start → Progress
 start s = record { records = s .args .at .records; offset = s .args .at .offset; frame = s .args .at .frame + 1 }
 
@@ -37,10 +37,10 @@ all-are-present s = present-all (length (s .args .body .now)) (s .args .at .offs
 
 put-run-requires : tie.Need-put-run-requires
 put-run-requires c κs =
-    let noting = c .before .before .before .before in
-    let s = noting .before .before .before .before .before .before .before in
+    let recording = c .before .before .before .before in
+    let s = recording .before .before .before .before .before .before .before in
     let a = s .args in
-    let isTable = ap length (noting .record-run .ensures) ∙ table-with-length _ _ _ _ ∙ s .pre .0 .0 in (
+    let isTable = ap length (recording .record-run .ensures) ∙ table-with-length _ _ _ _ ∙ s .pre .0 .0 in (
       (isTable, s .pre .0 .1),
       subst (λ (ps : List Point). RunAsks (a .catalog .now) (a .body .now) (a .out .now) (a .visit) (start s) ps)
           (sym (all-are-present s)) (s .pre .1),
@@ -50,18 +50,18 @@ returns : tie.Need-returns
 returns c =
     let at-before = c .before .before .before .before .before .before in
     let put = c .before .before .put-run in
-    let noting = at-before .before in
-    let known = noting .before .before .before .before .before .before in
+    let recording = at-before .before in
+    let known = recording .before .before .before .before .before .before in
     let s = known .before in
     let a = s .args in
     let body = a .body .now in
     let all = all-are-present s in
-    let filled = noting .record-run .ensures
+    let filled = recording .record-run .ensures
     ∙ content-recorded (a .catalog .now) (a .at .frame + 1) (s .pre .1 .parses) body (a .at .offset) (a .table .now) in
     let words : (k : ℕ) → getD (a .catalog .now) k 0 < 65536 = λ k. omega (arith, known .shared-slice-known .given k) in
     let numbers = numbers-in-table (a .catalog .now) words (a .at .frame + 1) (s .pre .1 .parses) in
     let points = own-points body (a .at .offset) (own s) (a .table .now) (a .instance .path .instances)
-    (noting .record-run .last .1 .1 .1 .1 .0)
+    (recording .record-run .last .1 .1 .1 .1 .0)
     (s .pre .0 .0) numbers all filled in (
       subst (λ (ps : List Point). AfterRun (start s) ps (put .result)) all (put .ensures .0),
       (

@@ -1,4 +1,4 @@
--- `listing::records::put_run` meets its contract: writing the points that are left gives what writing all gives.
+-- `listing::records::put_run` meets its contract: writing the remaining points gives what writing all gives.
 use mathlib.Core.Path.{sym, ap, _∙_}
 use Prim.Native.Nat.{_-_, _/_}
 use native.Mathlib.Omega.{arith}

@@ -1,4 +1,4 @@
--- `listing::search::search_map` meets its contract: from each header on, what is left decides as the whole.
+-- `listing::search::search_map` meets its contract: at each header, the remaining models give the result of the whole map.
 use mathlib.Core.Path.{sym, ap, _∙_}
 use mathlib.Core.List.{List}
 use Prim.Native.Nat.{ℕ, _-_}

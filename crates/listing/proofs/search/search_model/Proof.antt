@@ -18,11 +18,11 @@ use Rattle.listing.proofs.LocatedModels as model
 use Rattle.listing.proofs.search.search_model.Statement.{statement}
 use Rattle.listing.proofs.search.search_model.Tie as tie
 
--- The model as it is read.
+-- The reading of the model.
 abbrev read : tie.Start → Reading
 read s = readIn (s .args .catalog .now) (s .args .id) (s .args .body .now)
 
--- Without points none is found.
+-- In a model without points nothing is found.
 nothing-found : (s : tie.Start) {ps : List ModelPoint} → ps ≡ []
     → nothingResult ≡ resultAt (s .args .at) (firstWith (isPoint (s .args .key .number) (s .args .key .path .instances)) ps)
 unfolding firstWith
@@ -31,7 +31,7 @@ nothing-found s e = sym (ap (λ qs. resultAt (s .args .at) (firstWith (isPoint (
 enum-told : tie.Need-enum-told
 enum-told c = search needs
 
--- Where the survey finds points, the model is ready.
+-- If the survey counts points, the model is ready to be searched.
 words : (c : tie.After-survey-model) → (k : ℕ) → getD (c .before .before .before .before .before .args .catalog .now) k 0 < 65536
 words c k = omega (arith, c .before .before .before .before .shared-slice-known .given k)
 

@@ -1,4 +1,4 @@
--- `listing::surveys::fitted` meets its contract: the count of the fill group decides, and no number is too large.
+-- `listing::surveys::fitted` meets its contract: the count of the fill group decides, and no sum overflows.
 use mathlib.Core.Path.{sym, ap, _∙_}
 use Prim.Native.Nat.{_+_, _*_, _≤_}
 use native.Mathlib.Nat.{mul-le-mul}
@@ -11,7 +11,7 @@ use Rattle.listing.specs.InternalContracts.{surveyedBy}
 use Rattle.listing.proofs.surveys.fitted.Statement.{statement}
 use Rattle.listing.proofs.surveys.fitted.Tie as tie
 
--- The points of the fill group: the count is at most the length.
+-- The number of the fill group's points is bounded, since its count is at most the length.
 few : (c : tie.After-filled) → c .filled .given .0 .0 * c .before .before .before .before .before .before .before .args .groups .«fill_points» ≤ 65535 * 65536
 few c =
     let a = c .before .before .before .before .before .before .before .args in

@@ -1,4 +1,4 @@
--- `listing::surveys::survey_known` meets its contract: what the definition says, by the frames and the table.
+-- `listing::surveys::survey_known` meets its contract: frames and table give the survey by the definition.
 use mathlib.Core.Path.{_≡_, sym, _∙_}
 use Prim.Native.Nat.{ℕ, _≤_, _<_}
 use native.Mathlib.Omega.{arith}
@@ -18,7 +18,7 @@ use Rattle.listing.proofs.surveys.survey_known.Statement.{statement}
 use Rattle.listing.proofs.surveys.survey_known.Tie as tie
 use borrow.Author.Needs.{needs}
 
--- Where the definition is found, the run is the points of its top group.
+-- The run is that of the points of the definition's top group.
 top-run : (c : tie.After-run-extent) → RunOf (c .before .before .before .before .args .catalog .now)
     (c .before .before .before .before .args .first) (c .run-extent .result)
 top-run c =
@@ -27,7 +27,7 @@ top-run c =
     content-run (a .catalog .now) (a .first) (b .pre .1 .1 .0) (accepted-few (a .catalog .now) (b .pre .0)) (c .run-extent .result)
     (c .run-extent .ensures)
 
--- So the test of the pad is that of the definition.
+-- So the code's test for a left-out pad is the definition's.
 pad-test : (c : tie.After-is-pad-left-out) → let a = c .before .before .before .before .before .args in
     c .is-pad-left-out .result ≡ padLeftOut (a .id) (contentFrom (a .catalog .now) (a .first)) (length (a .body .now))
 pad-test c =
@@ -37,7 +37,7 @@ pad-test c =
     ∙ content-pad (a .catalog .now) (a .first) (b .pre .1 .1 .0) (c .before .run-extent .result) (top-run (c .before)) (a .id)
     (length (a .body .now))
 
--- Where the definition is found, the points recorded are those of its top group.
+-- The points recorded in the table are those of the definition's top group.
 top-recorded : (b : tie.Start) → let a = b .args in
     tableWith (a .body .now) 0 (presentWithin (length (a .body .now)) 0 (run (onward (a .catalog .now) (a .first)))) (a .table .now)
     ≡ tableWith (a .body .now) 0 (presentPoints (a .catalog .now) (a .body .now) 0 (a .first)) (a .table .now)
