@@ -1,4 +1,4 @@
--- The answer for a lengthened map, by the walk over its models: room for its records, and which models move them.
+-- The answer for a lengthened map, by the walk over its models: the capacity for its records, and which models move them.
 use mathlib.Core.Path.{_≡_, refl, sym, ap, _∙_}
 use mathlib.Core.Bool.{Bool, true, false}
 use mathlib.Core.List.{List, map}
@@ -40,7 +40,7 @@ walk-refusals read index at ms = marked-refusals index at ms (walk read marked i
 -- ---- The answer
 
 module _ (n : ℕ) (gaps : List (List Model)) where
-  -- 27 to 29 are moved as the walk's refusals are, and 1 to 11 stay.
+  -- 27 to 29 are moved like the walk's refusals, and 1 to 11 stay.
   moved-model : (number place headers : ℕ) → Between 27 29 number
       → movedAnswer n gaps (refused number place headers) ≡ movedWalk gaps n (refused number place headers)
   unfolding movedAnswer
@@ -56,7 +56,7 @@ module _ (n : ℕ) (gaps : List (List Model)) where
       let below : number < 27 = omega arith in
       simp (movedAnswer, ne-eqb number 30 other, lt-leb 27 number below)
 
-  -- There is room for the moved records just where there is for the records.
+  -- The list has capacity for the moved records if and only if it has capacity for the records.
   pub moved-with-capacity : (capacity : ℕ) (a : Answer) → By27To29 a
       → withCapacity capacity (movedWalk gaps n a) ≡ movedAnswer n gaps (withCapacity capacity a)
   unfolding withCapacity movedAnswer
@@ -77,10 +77,10 @@ module _ (n : ℕ) (gaps : List (List Model)) where
       by-capacity true = refl
       by-capacity false = refl
 
--- ---- What moves it
+-- ---- Which models move it
 
 module _ (ms : List Model) (gaps : List (List Model)) where
-  -- The models of the gaps in front of a model are those inserted before what lies in it.
+  -- The models in the gaps before model `index` are exactly the inserted ones with addresses lower than an address in that model.
   lower-in-model : (index address : ℕ) → InModel 2 ms index address → AreLower (placed ms gaps) gaps index address
   lower-in-model index address i =
       let inserted = totalSize (gapsBefore (length (i .preceding)) gaps) in

@@ -93,7 +93,7 @@ module _ (map : List ℕ) (whole : MadeOfWholeModels map) where
       → length (lengthened map gaps) ≡ length map + totalSize (gapsBefore (length (scan map .models)) gaps)
   lengthened-by gaps = lengthened-length map (whole-ends map whole) gaps
 
-  -- It has as many models more as are inserted.
+  -- It has the models of the map and the inserted ones.
   pub models-more : (gaps : List (List Model)) → Each (Each WellFormed) gaps
       → length (scan (lengthened map gaps) .models)
       ≡ length (scan map .models) + length (gapsBefore (length (scan map .models)) gaps)

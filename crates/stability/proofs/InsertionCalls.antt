@@ -1,6 +1,7 @@
--- Insertion, of two calls of `list`: for every catalog, every map made of whole models, all unknown models in its gaps and every output
--- list, where the lengthened map is within 65,536 registers, the call for it returns the result for the map, moved, and leaves the list
--- that the call for the map leaves, moved. It is one claim over all inserted models, read off the two results and lists.
+-- Insertion, stated of two calls of `list` with lists of the same length and contents: for every catalog, every map made of whole
+-- models, every list of well-formed unknown models for each of its gaps, and every output list: if the lengthened map has at most
+-- 65,536 registers, the call for it returns the result of the call for the map, moved, and leaves the output list of that call,
+-- moved. It is one claim over all inserted models.
 use mathlib.Core.Path.{_≡_, refl, sym, ap, subst, _∙_}
 use mathlib.Core.Bool.{Bool, true, false, _&&_}
 use mathlib.Core.List.{List, [], _∷_, _++_, map}
@@ -55,7 +56,7 @@ result-moved n gaps (refused number place headers) = go (eqb number 30) (leb 27 
     go false true = refl
     go false false = refl
 
--- The entries of records that are shifted are the moved numbers.
+-- The entries of shifted records are the moved numbers of the records.
 entries-moved : (gaps : List (List Model)) (rs : List Record)
     → entries (map (λ r. shifted (gapsBefore (r .index) gaps) r) rs) ≡ consecutive (map (movedNumbers gaps) (map recordNumbers rs))
 unfolding entries consecutive recordNumbers
@@ -78,13 +79,13 @@ list-moved n gaps (refused number place headers) out =
     let P : Answer → Type 0 = λ a. stored a out ≡ out in
     by-test P (eqb number 30) (λ t. refl) (λ t. by-test P (leb 27 number && leb number 29) (λ u. refl) (λ u. refl))
 
--- The index and the address of a record are among its numbers.
+-- The index and the address of a record, taken from its ten numbers.
 numbers-lower : (ps : List Placed) (gaps : List (List Model)) (rs : List Record) → Each (λ r. AreLower ps gaps (r .index) (r .address)) rs
     → Each (λ r. AreLower ps gaps (indexIn (recordNumbers r)) (addressIn (recordNumbers r))) rs
 unfolding recordNumbers
 numbers-lower ps gaps rs m = m
 
--- What moves the records and the refused header, read off the list and the result.
+-- Which models move the records and the refused header, stated of the output list and the result.
 records-lower : (ps : List Placed) (gaps : List (List Model)) (a : Answer) (out : List ℕ) → MovedByLower ps gaps a
     → Each (λ numbers. AreLower ps gaps (indexIn numbers) (addressIn numbers)) (recordsIn (pointsIn (Listing.result a)) (stored a out))
 unfolding MovedByLower stored recordsIn

@@ -1,4 +1,4 @@
--- Insertion on an example.
+-- Insertion on an example: a map with models 1 and 7, two unknown models inserted after model 1 and one after model 7.
 use mathlib.Core.Path.{_≡_, refl, sym, ap, _∙_}
 use mathlib.Core.List.{List, [], _∷_}
 use Prim.Native.Nat.{ℕ, _≤_}
@@ -38,7 +38,7 @@ catalog =
     ∷ 4 ∷ 0 ∷ 0 ∷ 0 ∷ 0 ∷ 0 ∷ 0 ∷ 0
     ∷ []
 
--- Models 1 and 7, the marker and a register after it.
+-- A map with models 1 and 7, the end marker and a register after it.
 abbrev plant : List ℕ
 plant = 0x5375 ∷ 0x6E53 ∷ 1 ∷ 1 ∷ 40 ∷ 7 ∷ 1 ∷ 50 ∷ 0xFFFF ∷ 0 ∷ 77 ∷ []
 
@@ -109,7 +109,7 @@ new =
     ∙ (insertion catalog plant gaps 20 whole unknown short .0
     ∙ (ap (λ a. movedAnswer (length (scan plant .models)) gaps a) old ∙ expected))
 
--- What moves each record are the inserted models with lower addresses.
+-- Each record is moved by exactly the inserted models with lower addresses.
 pub lower : MovedByLower (placed (scan plant .models) gaps) gaps (listing catalog plant 20)
 lower = insertion catalog plant gaps 20 whole unknown short .1
 
@@ -118,7 +118,7 @@ lower = insertion catalog plant gaps 20 whole unknown short .1
 abbrev out : List ℕ
 out = replicate 21 9
 
--- The call for the map as it was.
+-- The output list of the call for the map as it was.
 abbrev firstList : List ℕ
 firstList = 0 ∷ 1 ∷ 1 ∷ 0 ∷ 0 ∷ 0 ∷ 4 ∷ 0 ∷ 40 ∷ 0 ∷ 1 ∷ 7 ∷ 1 ∷ 0 ∷ 0 ∷ 0 ∷ 7 ∷ 0 ∷ 50 ∷ 0 ∷ 9 ∷ []
 
@@ -130,7 +130,8 @@ unfolding rows rowAmong registersOf join shownRaw tooWide inRange classOf classi
     recordNumbers entries stored
 first-call = record { result = refl; list = refl }
 
--- Whatever the call for the lengthened map returns and leaves: model 7's record has index 3 and address 14, and nothing else changes.
+-- Every call for the lengthened map returns 2 points and 6 headers. In its output list only the index (3) and the address (14) of
+-- model 7's record differ.
 pub second-list : (second : Code.Listing) (secondList : List ℕ) → ListCall catalog (lengthened plant gaps) out second secondList
     → (toSpecListing second ≡ listedResult 2 6)
     × (secondList ≡ 0 ∷ 1 ∷ 1 ∷ 0 ∷ 0 ∷ 0 ∷ 4 ∷ 0 ∷ 40 ∷ 0 ∷ 3 ∷ 7 ∷ 1 ∷ 0 ∷ 0 ∷ 0 ∷ 14 ∷ 0 ∷ 50 ∷ 0 ∷ 9 ∷ [])

@@ -17,7 +17,7 @@ use Rattle.listing.specs.Listing.{Record, listed, listing}
 use Rattle.listing.proofs.ListingInversion.{listed-walks}
 use Rattle.listed_records.proofs.WalkedModels.{record-of-model}
 
--- A model of which points are read has the id of a definition.
+-- If a model is read as points, its id is that of a definition.
 known-model : (ds : List Definition) (m : Model) (ps : List ModelPoint) → reading ds m ≡ points ps → (b : Bool)
     → among (m .id) (idsOf ds) ≡ b → b ≡ true
 known-model ds m ps e true a = refl

@@ -7,15 +7,15 @@ pub mod RefusalsAfterRemoval
 pub mod RemovalById
 pub mod InsertionExample
 pub mod RemovalExample
--- With models inserted
+-- Lemmas on models inserted into a map
 pub mod RaisedWalks
 pub mod WalkMoved
 pub mod RecordPlaces
 pub mod WholeMaps
 pub mod AnswerMoved
 pub mod ListingMoved
--- With definitions removed
-pub mod ReadingLeft
+-- Lemmas on definitions removed from a catalog
+pub mod ReadingAfterRemoval
 pub mod KnownRecords
-pub mod WalkLeft
-pub mod WalksLeft
+pub mod WalkAfterRemoval
+pub mod MapWalkAfterRemoval

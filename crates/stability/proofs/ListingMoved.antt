@@ -24,19 +24,19 @@ use Rattle.stability.proofs.RecordPlaces.{walk-in-models}
 use Rattle.stability.proofs.AnswerMoved.{walk-refusals, moved-catalog, moved-with-capacity, lower-with-capacity, lower-catalog}
 use Rattle.stability.proofs.WholeMaps.{HasModels}
 
--- The answer for a map with these models becomes the answer for another map, by the models of the gaps in between.
+-- The answer for the map `new` is the answer for `map`, which has the models ms, moved by the models in the gaps.
 abbrev pub Moved : List ℕ → ℕ → List ℕ → List ℕ → List Model → List (List Model) → Type 0
 Moved catalog capacity map new ms gaps =
     (listing catalog new capacity ≡ movedAnswer (length ms) gaps (listing catalog map capacity))
     × MovedByLower (placed ms gaps) gaps (listing catalog map capacity)
 
--- A model is unknown to the definitions of a catalog where no model frame has its id.
+-- If no model frame of a catalog has a model's id, the catalog's definitions read the model as unknown.
 model-unknown : (catalog : List ℕ) (m : Model) → UnknownModel catalog m → reading (definitions catalog) m ≡ unknown
 model-unknown catalog m u =
     unknown-left [] (definitions catalog) m (ap (among (m .id)) (ids-of-model-frames catalog) ∙ u .notKnown)
 
 module _ (catalog : List ℕ) (capacity : ℕ) where
-  -- By an accepted catalog a map is listed by the walk over its models.
+  -- With an accepted catalog, listing a map is the walk over its models.
   listing-models : (map : List ℕ) (ms : List Model) (n : ℕ) → HasModels map ms → checked catalog ≡ accepted n
       → listing catalog map capacity ≡ withCapacity capacity (walk (reading (definitions catalog)) marked 0 2 ms)
   listing-models map ms n h e =

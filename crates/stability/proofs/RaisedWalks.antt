@@ -1,4 +1,4 @@
--- A walk that begins at a higher index and address finds the same, raised.
+-- A walk that begins at a higher index and address yields the same answer, raised.
 use mathlib.Core.Path.{_≡_, refl, sym, ap, _∙_}
 use mathlib.Core.List.{List, [], _∷_, map, map-append}
 use Prim.Native.Nat.{ℕ, _+_}
@@ -9,23 +9,23 @@ use Rattle.layout.specs.Reading.{Reading, unknown, faulty, points}
 use Rattle.listing.specs.Listing.{Record, recordOf, Answer, refused, listed, withRecords, walk}
 use Rattle.listing.proofs.WalkSteps.{withModel}
 
--- A record whose index is higher by n and whose address is higher by d.
+-- A record with its index raised by n and its address by d.
 abbrev pub raised : ℕ → ℕ → Record → Record
 raised n d r = record { index = r .index + n; id = r .id; address = r .address + d; point = r .point }
 
--- The same of an answer: of its records, or its place, and of its headers.
+-- An answer with all its records raised, or its place raised by d, and its headers raised by n.
 abbrev pub raisedAnswer : ℕ → ℕ → Answer → Answer
 raisedAnswer n d (refused number place headers) = refused number (place + d) (headers + n)
 raisedAnswer n d (listed rs headers) = listed (map (raised n d) rs) (headers + n)
 
 module _ (n d : ℕ) where
-  -- Records in front of an answer are raised with it.
+  -- Records added before an answer are raised with it.
   raised-prepended : (rs : List Record) (a : Answer)
       → raisedAnswer n d (withRecords rs a) ≡ withRecords (map (raised n d) rs) (raisedAnswer n d a)
   raised-prepended rs (refused number place headers) = refl
   raised-prepended rs (listed ss headers) = ap (λ ts. listed ts (headers + n)) (map-append (raised n d) rs ss)
 
-  -- The records of a model whose index and address are higher.
+  -- The records of a model at a higher index and address are the raised ones.
   raised-records : (index at : ℕ) (m : Model) (ps : List ModelPoint)
       → map (recordOf (index + n) (at + d) (m .id)) ps ≡ map (raised n d) (map (recordOf index at (m .id)) ps)
   raised-records index at m [] = refl
@@ -33,7 +33,7 @@ module _ (n d : ℕ) where
       let e : at + d + 2 + p .offset ≡ at + 2 + p .offset + d = omega arith in
       rw (e, raised-records index at m ps)
 
-  -- The answer from such a model on.
+  -- The answer from such a model on is the raised one.
   raised-model : (r : Reading) (index at : ℕ) (m : Model) (a : Answer)
       → withModel r (index + n) (at + d) m (raisedAnswer n d a) ≡ raisedAnswer n d (withModel r index at m a)
   raised-model unknown index at m a = refl

@@ -1,4 +1,4 @@
--- Each record of a walk to the end marker is in its model, and so is the header of a refusal.
+-- The address of each record of a walk to the end marker is in its model, and so is the place of a refusal.
 use mathlib.Core.Path.{_≡_, refl, ap}
 use mathlib.Core.List.{List, [], _∷_, _++_}
 use mathlib.Core.Logic.{⊎-elim}
@@ -17,7 +17,7 @@ use Rattle.listing.specs.Listing.{Record, Answer, refused, listed, walk}
 use Rattle.listing.proofs.WalkHeaders.{HeadersWalked, walk-headers}
 use Rattle.listed_records.proofs.WalkedModels.{record-of-model}
 
--- An address lies in the model with an index, of models from address `at` on, or right behind it.
+-- `address` is in model `index` of the models ms, which begin at address `at`, or right after that model.
 pub record InModel (at : ℕ) (ms : List Model) (index address : ℕ) : Type 0 where
   pub preceding : List Model
   pub own : Model
@@ -31,7 +31,7 @@ abbrev pub AllInModels : ℕ → List Model → Answer → Type 0
 AllInModels at ms (listed rs headers) = Each (λ r. InModel at ms (r .index) (r .address)) rs
 AllInModels at ms (refused number place headers) = InModel at ms headers place
 
--- The models before one of a list, and it.
+-- A list split into its first n models, the next one and the rest.
 split-at : (n : ℕ) (ms : List Model) → n < length ms
     → (own : Model) × (rest : List Model) × (ms ≡ take n ms ++ own ∷ rest) × (length (take n ms) ≡ n)
 split-at n [] h = absurd (omega arith)
@@ -40,7 +40,7 @@ split-at (suc n) (m ∷ ms) h =
     let r = split-at n ms (omega arith) in
     (r .0, r .1, ap {B = List Model} (λ ns. m ∷ ns) (r .2), omega (arith, r .3))
 
--- Each record is in the model that it is of, and a refusal is at a model's header.
+-- Each record's address is in its own model, and a refusal's place is a model's header.
 pub walk-in-models : (read : Model → Reading) → Inside read → (at : ℕ) (ms : List Model)
     → AllInModels at ms (walk read marked 0 at ms)
 walk-in-models read inside at ms = go (walk read marked 0 at ms) refl (walk-headers read marked 0 at ms)

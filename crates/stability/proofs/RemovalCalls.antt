@@ -1,6 +1,6 @@
--- Removal, of two calls of `list` with lists of the same length and contents: a map that the catalog accepts is accepted by what is left
--- of it. The second list has exactly the first call's records of the models left, in their order and with all their numbers. There is
--- always capacity for them.
+-- Removal, stated of two calls of `list` with lists of the same length and contents: a map that the catalog accepts is accepted by
+-- the remaining catalog. The second list has exactly the first call's records of the remaining models, in their order and with all
+-- their numbers. It always has the capacity for them.
 use mathlib.Core.Path.{_≡_, refl, sym, ap, subst, _∙_}
 use mathlib.Core.Bool.{Bool, true, false}
 use mathlib.Core.List.{List, [], _∷_, _++_, map}
@@ -17,11 +17,11 @@ use Rattle.listing.specs.CodeTypes.{toSpecListing}
 use Rattle.listing.specs.Calls.{ListCall, recordsIn, consecutive, idIn}
 use Rattle.listing.proofs.ResultCases.{result-listed}
 use Rattle.listing.proofs.OutputRecords.{entries-consecutive, records-back}
-use Rattle.stability.specs.Removed.{keepsId, recordsLeft}
+use Rattle.stability.specs.Removed.{keepsId, remainingRecords}
 use Rattle.stability.specs.TwoCalls.{keptRecords, RemovalKeeps}
 use Rattle.stability.proofs.Removal.{removal}
 
--- Selected of images are the images of those selected.
+-- Selecting from a mapped list is mapping the selected elements.
 pub selected-map : {A B : Type 0} (f : A → B) (test : B → Bool) (xs : List A)
     → selected test (map f xs) ≡ map f (selected (λ x. test (f x)) xs)
 unfolding selected
@@ -34,9 +34,9 @@ selected-map {A} {B} f test (x ∷ xs) = go (test (f x)) (selected-map f test xs
     go true h = ap {B = List B} (λ zs. f x ∷ zs) h
     go false h = h
 
--- The records left, as numbers, are those kept of the numbers.
+-- The kept records among the numbers are the numbers of the remaining records.
 kept-numbers : (choice : List Bool) (ds : List Definition) (rs : List Record)
-    → keptRecords choice ds (map recordNumbers rs) ≡ map recordNumbers (recordsLeft choice ds rs)
+    → keptRecords choice ds (map recordNumbers rs) ≡ map recordNumbers (remainingRecords choice ds rs)
 unfolding recordNumbers
 kept-numbers choice ds rs = selected-map recordNumbers (λ numbers. keepsId choice ds (idIn numbers)) rs
 
@@ -50,12 +50,12 @@ removal-calls choice catalog map out points headers firstList one second secondL
     let l = result-listed (listing catalog map (length out)) points headers (one .result) in
     let rs = l .records in
     let rest = drop (recordWidth * length rs) out in
-    let left = recordsLeft choice ds rs in
+    let left = remainingRecords choice ds rs in
     let kept = Lists.map recordNumbers left in
     let answer = removal choice catalog map (length out) rs headers (l .is) in
     let decoded = ap (λ n. recordsIn n firstList) (l .count)
-        ∙ ap (recordsIn (length rs)) (one .list ∙ ap (λ a. stored a out) (l .is))
-        ∙ records-back rs rest in
+    ∙ ap (recordsIn (length rs)) (one .list ∙ ap (λ a. stored a out) (l .is))
+    ∙ records-back rs rest in
     let count : length kept ≡ length left = length-map left recordNumbers in
     record {
       kept = kept;

@@ -1,4 +1,4 @@
--- Removal on an example: a catalog of models 1 and 7, a map with both and an unknown one between them.
+-- Removal on an example: a catalog of models 1 and 7, and a map with both and an unknown model between them.
 use mathlib.Core.Path.{_≡_, refl, ap, _∙_}
 use mathlib.Core.List.{List, [], _∷_, _++_}
 use Prim.Native.Nat.{ℕ, _*_}
@@ -20,7 +20,7 @@ use Rattle.layout.specs.Reading.{endsWithPad, readFull, readBy, topOf, reading}
 use Rattle.listing.specs.Listing.{Record, recordNumbers, listed, walk, recordsBy, allRecords, withCapacity, listing, entries, stored}
 use Rattle.listing.specs.declared.Listing as Code
 use Rattle.listing.specs.Calls.{ListCall, recordsIn, consecutive}
-use Rattle.stability.specs.Removed.{keepsId, recordsLeft}
+use Rattle.stability.specs.Removed.{keepsId, remainingRecords}
 use Rattle.stability.proofs.Removal.{removal}
 use Rattle.stability.proofs.RemovalCalls.{removal-calls}
 
@@ -35,11 +35,11 @@ catalog =
     ∷ 4 ∷ 0 ∷ 0 ∷ 0 ∷ 0 ∷ 0 ∷ 0 ∷ 0
     ∷ []
 
--- Models 1, 9 and 7.
+-- A map with models 1, 9 and 7.
 abbrev plant : List ℕ
 plant = 0x5375 ∷ 0x6E53 ∷ 1 ∷ 1 ∷ 40 ∷ 9 ∷ 2 ∷ 0 ∷ 0 ∷ 7 ∷ 1 ∷ 50 ∷ 0xFFFF ∷ 0 ∷ []
 
--- A point of these models with its value.
+-- The point of these models, with raw value `raw`.
 abbrev point : ℕ → ModelPoint
 point raw =
     record {
@@ -59,7 +59,7 @@ model1 = record { index = 0; id = 1; address = 4; point = point 40 }
 abbrev model7 : Record
 model7 = record { index = 2; id = 7; address = 11; point = point 50 }
 
--- What the whole catalog lists.
+-- The listing by the whole catalog.
 pub both-listed : listing catalog plant 20 ≡ listed (model1 ∷ model7 ∷ []) 4
 unfolding rows rowAmong registersOf join shownRaw tooWide inRange classOf classified
     frameOf framesFrom isSizeOf checkFrom checked parsed opening scanFrom scan
@@ -67,15 +67,15 @@ unfolding rows rowAmong registersOf join shownRaw tooWide inRange classOf classi
     endsWithPad readFull readBy topOf reading walk recordsBy allRecords withCapacity listing
 both-listed = refl
 
--- What is left of it without model 1.
-pub model7-left : recordsLeft (allButOne 0) (definitions catalog) (model1 ∷ model7 ∷ []) ≡ model7 ∷ []
+-- The remaining records without model 1.
+pub model7-remains : remainingRecords (allButOne 0) (definitions catalog) (model1 ∷ model7 ∷ []) ≡ model7 ∷ []
 unfolding frameOf framesFrom parsed keepsId selected
-model7-left = refl
+model7-remains = refl
 
--- What the catalog without model 1 lists.
+-- The listing by the catalog without model 1.
 pub model7-listed : listing (keeping (allButOne 0) catalog) plant 20 ≡ listed (model7 ∷ []) 4
 model7-listed =
-    removal (allButOne 0) catalog plant 20 (model1 ∷ model7 ∷ []) 4 both-listed ∙ ap (λ ss. listed ss 4) model7-left
+    removal (allButOne 0) catalog plant 20 (model1 ∷ model7 ∷ []) 4 both-listed ∙ ap (λ ss. listed ss 4) model7-remains
 
 -- ---- Two calls, each with a list of 21 entries, all 9
 
@@ -94,7 +94,7 @@ unfolding rows rowAmong registersOf join shownRaw tooWide inRange classOf classi
     recordNumbers entries stored
 first-call = record { result = refl; list = refl }
 
--- Whatever the call by the catalog without model 1 returns and leaves: it has the record of model 7, and the other entries stay.
+-- Every call by the catalog without model 1 leaves the record of model 7 in its output list, and the other entries as they were.
 pub second-list : (second : Code.Listing) (secondList : List ℕ)
     → ListCall (keeping (allButOne 0) catalog) plant out second secondList
     → secondList ≡ 2 ∷ 7 ∷ 1 ∷ 0 ∷ 0 ∷ 0 ∷ 11 ∷ 0 ∷ 50 ∷ 0 ∷ replicate 11 9

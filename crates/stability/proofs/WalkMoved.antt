@@ -1,4 +1,4 @@
--- The walk over the models of a lengthened map is the walk over those that were there, moved by the models of the gaps.
+-- The walk over the models of a lengthened map yields the answer of the walk over the map's models, moved by those in the gaps.
 use mathlib.Core.Path.{_≡_, refl, sym, ap, _∙_}
 use mathlib.Core.List.{List, [], _∷_, _++_, map, map-append}
 use Prim.Native.Nat.{ℕ, suc, _+_}
@@ -20,7 +20,7 @@ use Rattle.stability.proofs.RaisedWalks.{raised, raisedAnswer, walk-rai
 -- ---- Over unknown models
 
 module _ (read : Model → Reading) (ending : Ending) (a : ℕ) where
-  -- A walk steps over models that it does not know.
+  -- A walk skips unknown models: the answer for the models after them is raised.
   walk-over : (n d : ℕ) (gap ms : List Model) → Each (λ m. read m ≡ unknown) gap
       → walk read ending n (a + d) (gap ++ ms) ≡ raisedAnswer (n + length gap) (d + totalSize gap) (walk read ending 0 a ms)
   walk-over n d [] ms u = simp add-zero (simp zero-add at (walk-raised n d read ending 0 a ms))
@@ -33,7 +33,7 @@ module _ (read : Model → Reading) (ending : Ending) (a : ℕ) where
       ∙ walk-over (n + 1) (d + sizeOf m) gap ms (u .1)
       ∙ rw (e′, e″)
 
-  -- The first model, with unknown ones behind it, in front of a walk.
+  -- A first model and the unknown models of its gap, before other models.
   pub walk-first : (m : Model) (gap ms : List Model) → Each (λ m. read m ≡ unknown) gap
       → walk read ending 0 a (m ∷ gap ++ ms)
       ≡ withModel (read m) 0 a m (raisedAnswer (1 + length gap) (sizeOf m + totalSize gap) (walk read ending 0 a ms))
@@ -42,15 +42,14 @@ module _ (read : Model → Reading) (ending : Ending) (a : ℕ) where
 
 -- ---- Moved answers
 
--- The answer of a walk over n models, with the models of the gaps in between: each record, and the header of a refusal, is moved
--- by the models of the gaps in front of it.
+-- The moved answer of a walk over n models: each record, and the header of a refusal, is moved by the models in the gaps before it.
 abbrev pub movedWalk : List (List Model) → ℕ → Answer → Answer
 movedWalk gaps n (listed rs headers) =
     listed (map (λ r. shifted (gapsBefore (r .index) gaps) r) rs) (headers + length (gapsBefore n gaps))
 movedWalk gaps n (refused number place headers) =
     refused number (place + totalSize (gapsBefore headers gaps)) (headers + length (gapsBefore headers gaps))
 
--- With no gaps nothing moves.
+-- Without gaps nothing moves.
 nothing-shifted : (rs : List Record) → map (λ r. shifted (gapsBefore (r .index) []) r) rs ≡ rs
 nothing-shifted [] = refl
 nothing-shifted (r ∷ rs) = rw (no-gaps (r .index), nothing-shifted rs) (simp add-zero)
@@ -59,9 +58,9 @@ nothing-moved : (n : ℕ) (a : Answer) → movedWalk [] n a ≡ a
 nothing-moved n (listed rs headers) = rw (nothing-shifted rs, no-gaps n) (simp add-zero)
 nothing-moved n (refused number place headers) = rw (no-gaps headers) (simp add-zero)
 
--- A first model and the gap behind it, in front of other models and their gaps.
+-- A first model and its gap, before other models and their gaps.
 module _ (gap : List Model) (gaps : List (List Model)) where
-  -- In front of a later model stands this gap, too.
+  -- This gap is before every later model.
   after-gap : (n : ℕ) → gapsBefore (n + 1) (gap ∷ gaps) ≡ gap ++ gapsBefore n gaps
   unfolding gapsBefore
   after-gap n = rw (add-one n)
@@ -74,7 +73,7 @@ module _ (gap : List Model) (gaps : List (List Model)) where
       → a + d + totalSize (gapsBefore (n + 1) (gap ∷ gaps)) ≡ a + totalSize (gapsBefore n gaps) + (d + totalSize gap)
   address-after n a d = let e = ap totalSize (after-gap n) ∙ size-append gap (gapsBefore n gaps) in omega arith
 
-  -- So what is found behind the first model is moved by this gap, too.
+  -- So the records after the first model are moved by this gap, too.
   shifted-after : (d : ℕ) (rs : List Record)
       → map (λ r. shifted (gapsBefore (r .index) (gap ∷ gaps)) r) (map (raised 1 d) rs)
       ≡ map (raised (1 + length gap) (d + totalSize gap)) (map (λ r. shifted (gapsBefore (r .index) gaps) r) rs)

@@ -1,4 +1,4 @@
--- A map made of whole models is not refused as a whole, and its models end at the end marker. So it is of the lengthened map.
+-- A map made of whole models is not refused as a whole, and its models end at the end marker. The same holds after insertion.
 use mathlib.Core.Path.{_≡_, ap, _∙_}
 use mathlib.Core.List.{List, []}
 use mathlib.Core.Option.{none}
@@ -13,7 +13,7 @@ use Rattle.register_map.proofs.Lengthened.{lengthened-begins, lengthened-scan}
 use Rattle.listing.proofs.ListingInversion.{headers-walked, listed-walks}
 use Rattle.stability.specs.Stability.{MadeOfWholeModels}
 
--- A map that is not refused as a whole, with these models up to its end marker.
+-- A map that is not refused as a whole, and has the models ms before its end marker.
 pub record HasModels (map : List ℕ) (ms : List Model) : Type 0 where
   pub opens : opening map ≡ none
   pub scanned : scan map ≡ record { models = ms; ending = marked }

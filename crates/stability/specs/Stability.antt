@@ -1,4 +1,4 @@
--- What models inserted into a map change of its listing (document 01, "The map", on models put in).
+-- How models inserted into a map change its listing (document 01, "The map", on models put in).
 use mathlib.Core.Path.{_≡_}
 use mathlib.Core.Bool.{true, false, _&&_}
 use mathlib.Core.List.{List, [], map}
@@ -14,24 +14,25 @@ use Rattle.register_map.specs.Scan.{Model, totalSize, WellFormed}
 use Rattle.register_map.specs.Insertion.{Placed, before, gapsBefore}
 use Rattle.listing.specs.Listing.{Record, Answer, refused, listed, listing}
 
--- Whole models make up the map: listing it by an empty catalog meets none of 20 to 26.
+-- The map is made of whole models: listing it by an empty catalog refuses with none of 20 to 26. (It has no records, so no 30.)
 unfoldable pub MadeOfWholeModels : List ℕ → Type 0
 MadeOfWholeModels map = (headers : ℕ) × (listing [] map 0 ≡ listed [] headers)
 
--- A well-formed unknown model: no model frame of the catalog has its id.
+-- A well-formed unknown model: an id of 1 to 65534, a length of 1 or more, and no model frame of the catalog has its id.
 pub record UnknownModel (catalog : List ℕ) (m : Model) : Type 0 where
   pub wellFormed : WellFormed m
   pub notKnown : among (m .id) (modelIds (frames catalog)) ≡ false
 
--- A record behind inserted models: its model's index rises by their number, its address by the sum of 2 + length over them. Its
--- id and its point (number, instances, status, raw value and scale) stay.
+-- A record after the inserted models ms: its model's index rises by their number, its address by the sum of 2 + length over them.
+-- Its id and its point (number, instances, status, raw value and scale) stay.
 abbrev pub shifted : List Model → Record → Record
 shifted ms r =
     record { index = r .index + length ms; id = r .id; address = r .address + totalSize ms; point = r .point }
 
 -- The answer for the lengthened map, by the answer for the map, which has n models. Acceptance: each record is shifted by the
--- models inserted before it, and the headers rise by the number inserted. 30: so do its headers, and its place stays. 27 to 29:
--- the headers rise by the number inserted before that header, the place by the registers of these. Else both stay.
+-- models inserted before it, and the headers rise by the number inserted. 30: the headers rise likewise, and the place stays.
+-- 27 to 29: the headers rise by the number inserted before that header, the place by the sum of 2 + length over these. On any other
+-- number (1 to 11) both stay.
 unfoldable pub movedAnswer : ℕ → List (List Model) → Answer → Answer
 movedAnswer n gaps (listed rs headers) =
     listed (map (λ r. shifted (gapsBefore (r .index) gaps) r) rs) (headers + length (gapsBefore n gaps))
@@ -44,12 +45,12 @@ movedAnswer n gaps (refused number place headers) =
       ]
     ]
 
--- What lay at an address, in the model with an index, has before it in the lengthened map (document 01: with lower addresses)
--- just the models of the gaps in front of that model.
+-- What was at `address` in model `index` is moved by the models in the gaps before that model. In the lengthened map these are
+-- exactly the inserted models with lower addresses (document 01's "before").
 abbrev pub AreLower : List Placed → List (List Model) → ℕ → ℕ → Type 0
 AreLower ps gaps index address = before 2 ps (address + totalSize (gapsBefore index gaps)) ≡ gapsBefore index gaps
 
--- So it is of each record of an answer, and of the header refused by 27 to 29.
+-- This holds for each record of an answer, and for a header refused by 27 to 29.
 unfoldable pub MovedByLower : List Placed → List (List Model) → Answer → Type 0
 MovedByLower ps gaps (listed rs headers) = Each (λ r. AreLower ps gaps (r .index) (r .address)) rs
 MovedByLower ps gaps (refused number place headers) =

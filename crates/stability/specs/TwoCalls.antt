@@ -1,5 +1,5 @@
--- Two calls of `list` compared (document 01, "The map"): what inserted and removed models change of the result and of the output list.
--- The records of a call are decoded from the entries of its own output list.
+-- Two calls of `list` compared (document 01, "The map"): how inserted or removed models change the result and the output list. The
+-- records of a call are decoded from its own output list.
 use mathlib.Core.Path.{_≡_}
 use mathlib.Core.Bool.{Bool, true, false, _&&_}
 use mathlib.Core.List.{List, _++_, map}
@@ -20,8 +20,8 @@ use Rattle.stability.specs.Removed.{keepsId}
 
 -- ---- Models inserted into the map
 
--- A record's ten numbers, moved by the models inserted before its model: the index rises by their number, the address by the sum of
--- 2 + length over them. The other eight numbers stay.
+-- A record's ten numbers, moved by the models inserted before its model: the index rises by their number, the address by the sum
+-- of 2 + length over them. The other eight numbers stay.
 abbrev pub movedNumbers : List (List Model) → List ℕ → List ℕ
 movedNumbers gaps numbers =
     let before : List Model = gapsBefore (indexIn numbers) gaps in
@@ -31,8 +31,9 @@ movedNumbers gaps numbers =
 abbrev pub movedList : List (List Model) → ℕ → List ℕ → List ℕ
 movedList gaps n list = consecutive (map (movedNumbers gaps) (recordsIn n list)) ++ drop (recordWidth * n) list
 
--- A result moved, of a map with n models. Acceptance and 30: the headers rise by the number inserted. 27 to 29: the headers rise by the
--- number inserted before that header, the place by the sum of 2 + length over these. Nothing else changes.
+-- The moved result for a map with n models. Acceptance and 30: the headers rise by the number inserted, 30's place stays. 27 to 29:
+-- the headers rise by the number inserted before that header, the place by the sum of 2 + length over these. On any other number
+-- (1 to 11) both stay. Number and count never change.
 unfoldable pub movedResult : ℕ → List (List Model) → Result → Result
 movedResult n gaps (listedResult count headers) = listedResult count (headers + length (gapsBefore n gaps))
 movedResult n gaps (refusedResult number place headers count) =
@@ -45,14 +46,14 @@ movedResult n gaps (refusedResult number place headers count) =
       ]
     ]
 
--- What moves a header that is refused by 27 to 29 are exactly the inserted models with lower addresses.
+-- A header refused by 27 to 29 is moved by exactly the inserted models with lower addresses.
 abbrev pub HeaderByLower : List Placed → List (List Model) → Result → Type 0
 HeaderByLower ps gaps (listedResult count headers) = Unit {0}
 HeaderByLower ps gaps (refusedResult number place headers count) =
     leb 27 number && leb number 29 ≡ true → AreLower ps gaps headers place
 
--- The second call listed the lengthened map, the first the map: its result and its output list are the first ones, moved; and what moves
--- a record or a refused header are exactly the inserted models with lower addresses.
+-- The first call listed the map, the second the lengthened map. The second's result and output list are the first's, moved; each
+-- record and each header refused by 27 to 29 is moved by exactly the inserted models with lower addresses.
 pub record InsertionMoves (map : List ℕ) (gaps : List (List Model)) (first : Code.Listing) (firstList : List ℕ)
     (second : Code.Listing) (secondList : List ℕ) : Type 0 where
   pub result : toSpecListing second ≡ movedResult (length (scan map .models)) gaps (toSpecListing first)
@@ -63,13 +64,13 @@ pub record InsertionMoves (map : List ℕ) (gaps : List (List Model)) (first : C
 
 -- ---- Models removed from the catalog
 
--- The records whose definitions the choice keeps, by the ids among their numbers.
+-- The records, as ten numbers each, of the models whose definitions are kept.
 abbrev pub keptRecords : List Bool → List Definition → List (List ℕ) → List (List ℕ)
 keptRecords choice ds = selected (λ numbers. keepsId choice ds (idIn numbers))
 
--- The second call listed by what is left of the catalog, into the list `out`; the first accepted the map and returned these points and
--- headers. The second accepts it too, with the same headers; its output list has the kept records of the first, in their order and with
--- all their numbers, and then what was in it; and its count is the number of these records.
+-- The first call accepted the map and returned `points` and `headers`. The second listed it by the remaining catalog, into the list
+-- `out`: it accepts the map too, with the same headers; its output list has the kept records of the first call, in their order and
+-- with all their numbers, and then the entries of `out`; its count is the number of these records.
 pub record RemovalKeeps (choice : List Bool) (catalog out : List ℕ) (points headers : ℕ) (firstList : List ℕ) (second : Code.Listing)
     (secondList : List ℕ) : Type 0 where
   pub kept : List (List ℕ)

@@ -1,2 +1,2 @@
-// How listings change with the plant and the catalog: models inserted into a map, models removed from a catalog. It has
-// theorems only, and no functions.
+// How a listing changes when models are inserted into the map or removed from the catalog. This crate has theorems only, and
+// no functions.

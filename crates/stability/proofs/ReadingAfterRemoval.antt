@@ -1,4 +1,4 @@
--- What the definitions left say of a model: what all of them say, if the choice keeps its definition, else nothing.
+-- The reading of a model by the remaining definitions: the same as by all of them if its definition is kept, else unknown.
 use mathlib.Core.Path.{_≡_, refl, sym, ap, _∙_}
 use mathlib.Core.Bool.{Bool, true, false}
 use mathlib.Core.List.{List, [], _∷_}
@@ -13,20 +13,20 @@ use Rattle.layout.specs.Reading.{Reading, unknown, readBy, reading}
 use Rattle.layout.proofs.ReadingSteps.{reading-first, unknown-left}
 use Rattle.stability.specs.Removed.{keepsId}
 
--- What the choice leaves of a reading.
+-- A reading if the definition is kept, else unknown.
 abbrev pub readingIf : Bool → Reading → Reading
 readingIf true r = r
 readingIf false r = unknown
 
--- The definitions left read a model as all of them do, if the choice keeps the definition of its id; else it is unknown.
-pub reading-left : (choice : List Bool) (ds : List Definition) (m : Model) → Distinct (idsOf ds)
+-- The remaining definitions read a model as all of them do if the definition of its id is kept; else it is unknown.
+pub reading-after-removal : (choice : List Bool) (ds : List Definition) (m : Model) → Distinct (idsOf ds)
     → reading (keptBy choice ds) m ≡ readingIf (keepsId choice ds (m .id)) (reading ds m)
 unfolding keepsId
-reading-left [] ds m distinct = refl
-reading-left (c ∷ choice) [] m distinct = refl
-reading-left (true ∷ choice) (d ∷ ds) m distinct =
+reading-after-removal [] ds m distinct = refl
+reading-after-removal (c ∷ choice) [] m distinct = refl
+reading-after-removal (true ∷ choice) (d ∷ ds) m distinct =
     reading-first d (keptBy choice ds) m
-    ∙ go (eqb (d .id) (m .id)) (reading-left choice ds m (distinct .1))
+    ∙ go (eqb (d .id) (m .id)) (reading-after-removal choice ds m (distinct .1))
     ∙ sym (ap (readingIf (keepsId (true ∷ choice) (d ∷ ds) (m .id))) (reading-first d ds m))
   where
     go : (b : Bool) → reading (keptBy choice ds) m ≡ readingIf (keepsId choice ds (m .id)) (reading ds m)
@@ -35,8 +35,8 @@ reading-left (true ∷ choice) (d ∷ ds) m distinct =
         (elim b [ true ↦ readBy (m .id) (d .top) (m .body) | false ↦ reading ds m ])
     go true h = refl
     go false h = h
-reading-left (false ∷ choice) (d ∷ ds) m distinct =
-    go (eqb (d .id) (m .id)) refl (reading-left choice ds m (distinct .1))
+reading-after-removal (false ∷ choice) (d ∷ ds) m distinct =
+    go (eqb (d .id) (m .id)) refl (reading-after-removal choice ds m (distinct .1))
     ∙ sym (ap (readingIf (keepsId (false ∷ choice) (d ∷ ds) (m .id))) (reading-first d ds m))
   where
     go : (b : Bool) → eqb (d .id) (m .id) ≡ b
