@@ -12,8 +12,8 @@ use Rattle.register_map.specs.Scan.{Model, sizeOf, Ending, marked, broken, scan
 use Rattle.layout.specs.Points.{ModelPoint}
 use Rattle.layout.specs.Reading.{Reading, unknown, faulty, points, faultNumber, reading}
 
--- A record (document 01, "Listing"): the model's place from 0 (unknown models counted), its id, the point's address (0 is that of
--- the register 5375), and the point.
+-- A record (document 01, "Listing"): the model's index (its place from 0, unknown models counted), its id, the point's address (0 is
+-- that of the register 5375), and the point.
 pub record Record : Type 0 where
   pub index : ℕ
   pub id : ℕ
@@ -43,7 +43,7 @@ recordNumbers r =
 abbrev pub recordOf : ℕ → ℕ → ℕ → ModelPoint → Record
 recordOf index at id p = record { index = index; id = id; address = at + 2 + p .offset; point = p }
 
--- The answer of listing: a refusal's number, its place and the number of headers before it; or the records and the headers' number.
+-- The answer of listing: a refusal's number, place and number of headers before it; or the records and the number of headers.
 pub data Answer : Type 0 where
   refused : ℕ → ℕ → ℕ → Answer
   listed : List Record → ℕ → Answer

@@ -18,7 +18,7 @@ use Rattle.listing.specs.Listing.{Record, Answer, refused, listed, listing}
 unfoldable pub MadeOfWholeModels : List ℕ → Type 0
 MadeOfWholeModels map = (headers : ℕ) × (listing [] map 0 ≡ listed [] headers)
 
--- A well-formed unknown model: an id of 1 to 65534, a length of 1 or more, and no model frame of the catalog has its id.
+-- A well-formed unknown model: its id is neither 0 nor the end marker's, its length is 1 or more, and no model frame has its id.
 pub record UnknownModel (catalog : List ℕ) (m : Model) : Type 0 where
   pub wellFormed : WellFormed m
   pub notKnown : among (m .id) (modelIds (frames catalog)) ≡ false
