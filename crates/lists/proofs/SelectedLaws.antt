@@ -1,7 +1,7 @@
 -- The elements that a test selects.
 use mathlib.Core.Path.{_≡_, refl, sym, ap}
 use mathlib.Core.Bool.{Bool, true, false}
-use mathlib.Core.List.{List, [], _∷_, _++_}
+use mathlib.Core.List.{List, [], _∷_, _++_, map}
 use Prim.Native.Nat.{suc, _≤_}
 use native.Mathlib.Omega.{arith}
 use lib.ListN.{length}
@@ -55,3 +55,16 @@ module _ {A : Type 0} (test : A → Bool) where
       go false false same rest = rest
       go true false same rest = clash same
       go false true same rest = clash (sym same)
+
+-- Selecting from a mapped list is mapping the selected elements.
+pub selected-map : {A B : Type 0} (f : A → B) (test : B → Bool) (xs : List A)
+    → selected test (map f xs) ≡ map f (selected (λ x. test (f x)) xs)
+unfolding selected
+selected-map f test [] = refl
+selected-map {A} {B} f test (x ∷ xs) = go (test (f x)) (selected-map f test xs)
+  where
+    go : (b : Bool) → selected test (map f xs) ≡ map f (selected (λ y. test (f y)) xs)
+        → _≡_ {A = List B} (elim b [ true ↦ f x ∷ selected test (map f xs) | false ↦ selected test (map f xs) ])
+        (map f (elim b [ true ↦ x ∷ selected (λ y. test (f y)) xs | false ↦ selected (λ y. test (f y)) xs ]))
+    go true h = ap {B = List B} (λ zs. f x ∷ zs) h
+    go false h = h

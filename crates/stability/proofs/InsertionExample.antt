@@ -19,7 +19,7 @@ use Rattle.register_map.specs.Insertion.{placed, lengthened, gapsBefore}
 use Rattle.layout.specs.Points.{ModelPoint, pointAt}
 use Rattle.layout.specs.Layout.{within, measured, fillMeasured, countUnimplemented, fits, fillOf, pointsAt, groupsBy, entered, contentAt}
 use Rattle.layout.specs.Reading.{endsWithPad, readFull, readBy, topOf, reading}
-use Rattle.listing.specs.Listing.{Record, recordNumbers, listed, walk, recordsBy, allRecords, withCapacity, listing, entries, stored, listedResult}
+use Rattle.listing.specs.Listing.{Record, recordNumbers, listed, walk, recordsBy, allRecords, withCapacity, listing, entries, stored, listedResult, refusedResult}
 use Rattle.listing.specs.declared.Listing as Code
 use Rattle.listing.specs.CodeTypes.{toSpecListing}
 use Rattle.listing.specs.Calls.{ListCall, recordsIn, consecutive}
@@ -137,5 +137,12 @@ pub second-list : (second : Code.Listing) (secondList : List ℕ) → ListCall c
     × (secondList ≡ 0 ∷ 1 ∷ 1 ∷ 0 ∷ 0 ∷ 0 ∷ 4 ∷ 0 ∷ 40 ∷ 0 ∷ 3 ∷ 7 ∷ 1 ∷ 0 ∷ 0 ∷ 0 ∷ 14 ∷ 0 ∷ 50 ∷ 0 ∷ 9 ∷ [])
 unfolding scanFrom scan gapsBefore movedResult recordsIn consecutive
 second-list second secondList call =
-    let m = insertion-calls catalog plant gaps out whole unknown short _ firstList first-call second secondList call in
+    let m = insertion-calls catalog plant gaps whole unknown short out out refl _ firstList first-call second secondList call in
     (m .result, m .list)
+
+-- Refusals, moved: 28 at model 7 rises by what was inserted before it, 30 keeps its place, and a refusal of the catalog stays.
+pub refusals-moved : (movedResult 2 gaps (refusedResult 28 5 1 0) ≡ refusedResult 28 12 3 0)
+    × (movedResult 2 gaps (refusedResult 30 2 3 0) ≡ refusedResult 30 2 6 0)
+    × (movedResult 2 gaps (refusedResult 7 4 0 0) ≡ refusedResult 7 4 0 0)
+unfolding gapsBefore movedResult
+refusals-moved = (refl, refl, refl)

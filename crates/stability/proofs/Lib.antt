@@ -14,6 +14,7 @@ pub mod RecordPlaces
 pub mod WholeMaps
 pub mod AnswerMoved
 pub mod ListingMoved
+pub mod ResultsMoved
 -- Lemmas on definitions removed from a catalog
 pub mod ReadingAfterRemoval
 pub mod KnownRecords

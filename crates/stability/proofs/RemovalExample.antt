@@ -7,7 +7,7 @@ use Rattle.registers.specs.Registers.{join, shownRaw, tooWide}
 use Rattle.point_types.specs.Rows.{rows, rowAmong, registersOf}
 use Rattle.values.specs.Classes.{inRange, classOf, classified}
 use Rattle.lists.specs.Tests.{selected}
-use Rattle.catalog_frames.specs.Frames.{frameOf, framesFrom}
+use Rattle.catalog_frames.specs.Frames.{frameOf, framesFrom, wordsOfAll}
 use Rattle.frame_rules.specs.FrameTests.{isSizeOf}
 use Rattle.catalog.specs.Checking.{checkFrom, checked}
 use Rattle.model_definitions.specs.Definitions.{parsed, definitions}
@@ -98,7 +98,7 @@ first-call = record { result = refl; list = refl }
 pub second-list : (second : Code.Listing) (secondList : List ℕ)
     → ListCall (keeping (allButOne 0) catalog) plant out second secondList
     → secondList ≡ 2 ∷ 7 ∷ 1 ∷ 0 ∷ 0 ∷ 0 ∷ 11 ∷ 0 ∷ 50 ∷ 0 ∷ replicate 11 9
-unfolding frameOf framesFrom parsed keepsId selected recordsIn consecutive
+unfolding frameOf framesFrom wordsOfAll parsed keeping selected recordsIn consecutive
 second-list second secondList call =
-    let r = removal-calls (allButOne 0) catalog plant out 2 4 firstList first-call second secondList call in
+    let r = removal-calls (allButOne 0) catalog plant out out refl 2 4 firstList first-call second secondList call in
     r .list ∙ ap (λ ks. consecutive ks ++ drop (10 * length ks) out) (r .are)
