@@ -21,7 +21,8 @@ use Rattle.catalog.specs.State as check
 use Rattle.catalog.specs.State.{OpenGroup, start, next}
 use Rattle.catalog.specs.Rules.{run, noModel, inTop, afterGroup, isMalformed, rules, fault}
 use Rattle.catalog.specs.InternalScans.{framesOnward, isModel, isNumbered, numbersBefore}
-use Rattle.catalog.specs.InternalTracking.{codeStart, Within, Tracks, Opens, DepthAllows, upcomingRunAt, numbersSoFar, withOpened, withEnded, stateOf}
+use Rattle.catalog.specs.InternalTracking.{codeStart, Within, Tracks, Opens, DepthAllows, upcomingRunAt}
+use Rattle.catalog.specs.InternalTracking.{numbersSoFar, withOpened, withEnded, stateOf}
 use Rattle.catalog.specs.declared.state.State.{State}
 use Rattle.catalog.proofs.FrameWords.{eight-back}
 use Rattle.catalog.proofs.OpenGroups.{one-deeper}
@@ -295,8 +296,10 @@ module _ (ws used : List ℕ) (i : ℕ) (c : State) (s : check.State) (t : Track
       }
   may-follow malformed upcomingRun n = impossible (cc)
 
-  pub depth-allows : (f : Frame) (upcomingRun : List Point) → frameAt ws i ≡ f → fault s f upcomingRun ≡ none → DepthAllows (word ws i 0) c
-  depth-allows f upcomingRun e n = rw (kind-here ws i f e (none-broken (rules s f upcomingRun) .0 n .0)) (may-follow f upcomingRun n)
+  pub depth-allows : (f : Frame) (upcomingRun : List Point) → frameAt ws i ≡ f → fault s f upcomingRun ≡ none
+      → DepthAllows (word ws i 0) c
+  depth-allows f upcomingRun e n =
+      rw (kind-here ws i f e (none-broken (rules s f upcomingRun) .0 n .0)) (may-follow f upcomingRun n)
 
 -- After a frame that breaks no rule.
 module _ (ws used : List ℕ) (i : ℕ) (c : State) (s : check.State) (t : Tracks ws used i c s) (used' : List ℕ)
