@@ -38,7 +38,7 @@ abbrev joined : List (List ℕ) → List ℕ
 joined [] = []
 joined (w ∷ ws) = w ++ joined ws
 
--- A case for each clause, and for each reading chosen where a clause is open.
+-- A case for each clause, and for each reading chosen where a clause can be read in two ways.
 unfoldable pub cases : List Case
 cases =
     ([], accepted 0)
@@ -89,8 +89,8 @@ cases =
     ∷ (model 1 ∷ scaled 1 2 9 ∷ point 9 8 1 ∷ end ∷ [], accepted 1)  -- a scale factor later in the run
     ∷ (model 1 ∷ scaled 1 2 9 ∷ point 9 8 2 ∷ [], refused 7 2)  -- the scale factor's fault is at its own frame
     ∷ (model 1 ∷ scaled 1 2 9 ∷ point 9 1 1 ∷ [], refused 8 1)  -- not a sunssf point
-    ∷ (model 1 ∷ point 9 8 1 ∷ groupBy 2 0 1 ∷ scaled 1 2 9 ∷ end ∷ end ∷ [], accepted 1)  -- of an enclosing group
-    ∷ (model 1 ∷ groupBy 2 0 1 ∷ point 9 8 1 ∷ end ∷ groupBy 3 0 1 ∷ scaled 1 2 9 ∷ [], refused 8 5)  -- of another group
+    ∷ (model 1 ∷ point 9 8 1 ∷ groupBy 2 0 1 ∷ scaled 1 2 9 ∷ end ∷ end ∷ [], accepted 1)  -- in an enclosing group
+    ∷ (model 1 ∷ groupBy 2 0 1 ∷ point 9 8 1 ∷ end ∷ groupBy 3 0 1 ∷ scaled 1 2 9 ∷ [], refused 8 5)  -- in a sibling group
     ∷ (model 1 ∷ scaled 1 2 9 ∷ (5 ∷ 0 ∷ 0 ∷ 0 ∷ 0 ∷ 0 ∷ 0 ∷ 0 ∷ []) ∷ point 9 8 1 ∷ [], refused 8 1)  -- past the end of the run
     ∷ (model 1 ∷ (3 ∷ 1 ∷ 4 ∷ 1 ∷ 2 ∷ 9 ∷ 0 ∷ 0 ∷ []) ∷ point 9 8 1 ∷ [], refused 8 1)  -- an enum16 may not be scaled
     ∷ (model 1 ∷ groupBy 2 0 1 ∷ scaled 1 2 9 ∷ end ∷ point 9 8 1 ∷ [], refused 8 2)  -- and not 4 at frame 4

@@ -54,7 +54,7 @@ eight-words malformed = refl
 after-first : (f : Frame) (ws : List ℕ) → drop 8 (wordsOf f ++ ws) ≡ ws
 after-first f ws = rw (eight-words f) at (drop-append-seam (wordsOf f) ws)
 
--- The words of frames are eight times their number.
+-- n frames have 8 * n words.
 pub length-words : (fs : List Frame) → length (wordsOfAll fs) ≡ 8 * length fs
 unfolding wordsOfAll
 length-words [] = refl

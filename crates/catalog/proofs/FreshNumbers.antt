@@ -27,7 +27,7 @@ pub record Fresh (s : State) : Type 0 where
 pub fresh-start : Fresh start
 fresh-start = record { inUse = λ n e. clash (sym e); apart = tt }
 
--- If one of two tests holds, so does their `||`, and the other way round.
+-- `a || b` holds if `b` does, and only if `a` or `b` does.
 right-of : (a b : Bool) → b ≡ true → a || b ≡ true
 right-of true b e = refl
 right-of false b e = e

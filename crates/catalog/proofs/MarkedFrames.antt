@@ -58,7 +58,7 @@ runs-kept ws firsts d v (suc k) h =
 
 module _ (ws used numbers scales : List ℕ) (u i : ℕ) (c : State) (s : check.State) (t : Tracks ws used i c s)
     (x : Indexed ws numbers scales u i c) where
-  -- At a model frame no group is open, so that no scale factor is in scope.
+  -- At a model frame no group is open, so no scale factor is in scope.
   module _ (id : ℕ) (e : firstBroken (modelRules used c id) ≡ none) where
     none-open : c .depth ≡ 0
     none-open = eqb-true (c .depth) 0 (not-false (eqb (c .depth) 0) (none-broken (modelRules used c id) .0 e .0))
@@ -185,7 +185,7 @@ module _ (ws used numbers scales : List ℕ) (u i : ℕ) (c : State) (s : check.
       some-open : 1 ≤ c .depth
       some-open = let n = eqb-false (c .depth) 0 (none-broken (endRules ws c) .0 ok .0) in omega (arith, n)
 
-      -- No scale factor of the group that ends has the number of one around it.
+      -- No scale factor of the group that ends has the same number as one of the groups around it.
       ends-apart : (n : ℕ) → hasScaleFactor n (runIn ws c (c .depth - 1)) ≡ true
           → hasScaleFactor n (runsOf ws (c .firsts) (c .depth - 1)) ≡ false
       ends-apart n = go (s .openGroups) refl (fresh .apart)

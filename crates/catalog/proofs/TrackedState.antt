@@ -66,7 +66,7 @@ module _ (ws : List ℕ) (first n i : ℕ) (e : first + n ≡ i) where
   unfolding numbersBefore
   nothing-added h = let g = rw (← e) at h in simp (numbersBefore, g)
 
--- The eight words of frame i. If it is not malformed, `wordsOf` gives them back.
+-- The eight words of frame i. Unless the frame is malformed, `wordsOf` gives them back.
 abbrev pub eightWords : List ℕ → ℕ → List ℕ
 eightWords ws i =
     word ws i 0 ∷ word ws i 1 ∷ word ws i 2 ∷ word ws i 3 ∷ word ws i 4 ∷ word ws i 5 ∷ word ws i 6 ∷ word ws i 7 ∷ []

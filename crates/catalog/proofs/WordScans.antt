@@ -97,7 +97,7 @@ has-either such (p ∷ ps) qs = go (such p) (has-either such ps qs)
     go false e = e
 
 module _ (ws firsts : List ℕ) (n k m : ℕ) (e : k ≡ m + 1) where
-  -- The scale factors of the runs of k groups are those of group k and those of the groups around it.
+  -- The scale factors of m + 1 runs are those of the last run and those of the first m.
   pub scope-more : hasScaleFactor n (runsOf ws firsts k)
       ≡ hasScaleFactor n (run (framesOnward ws (getD firsts m 0))) || hasScaleFactor n (runsOf ws firsts m)
   unfolding runsOf

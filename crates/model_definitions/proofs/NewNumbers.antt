@@ -49,7 +49,7 @@ new-numbers used (n ∷ ns) =
       λ w. (w .1 .0, rest .1 (w .0 .1, more .1 (w .0 .0, w .1 .1))),
     )
 
--- No number is among none.
+-- No number is in the empty list.
 none-used : (ns : List ℕ) → Each (λ n. among n [] ≡ false) ns
 none-used [] = tt
 none-used (n ∷ ns) = (refl, none-used ns)

@@ -15,7 +15,7 @@ use Rattle.model_definitions.specs.Definitions.{Groups, Definition, defi
 use Rattle.model_definitions.specs.Soundness.{SoundPoint, EachLowerGroup, ScaleResolves, CountResolves}
 use Rattle.model_definitions.proofs.EveryGroup.{of-lower-groups, of-models}
 
--- If the test finds a point in the list, here is the point.
+-- If `hasPoint` holds, such a point is in the list.
 point-found : (such : Point → Bool) (ps : List Point) → hasPoint such ps ≡ true → (p : Point) × (In p ps) × (such p ≡ true)
 point-found such [] e = clash (sym e)
 point-found such (p ∷ ps) e = go (such p) refl e (point-found such ps)

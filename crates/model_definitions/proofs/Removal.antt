@@ -79,7 +79,7 @@ removal choice ws n e =
     let ds = keptBy choice (definitions ws) in
     (sound-is-accepted ds (sound-kept choice (definitions ws) (accepted-is-sound ws n e .0)), definitions-back ds)
 
--- A choice that keeps every model keeps all.
+-- A choice without false entries keeps the whole list.
 all-kept : {A : Type 0} (choice : List Bool) (xs : List A) → Each (λ c. c ≡ true) choice → keptBy choice xs ≡ xs
 all-kept [] xs e = refl
 all-kept (c ∷ choice) [] e = refl

@@ -133,7 +133,7 @@ rewritten : {B : Type 0} (filled : Bool) (ls : List OpenGroup) {fs gs : List Fra
     → KeepsRulesBut6 filled ls gs ↔ B → KeepsRulesBut6 filled ls fs ↔ B
 rewritten {B = B} filled ls e h = subst (λ x. KeepsRulesBut6 filled ls x ↔ B) (sym e) h
 
--- The same for a group and the groups after it, given it for those in it and those after it.
+-- If this holds for the groups in a group and for those after it, it holds for the group and those after it.
 group-accepted : (h : Head) (ps : List Point) (inside following : Groups) → GroupsAccepted inside → GroupsAccepted following
     → GroupsAccepted (group h ps inside following)
 group-accepted h ps inside following accepted-inside accepted-after = λ filled l ls fs.
