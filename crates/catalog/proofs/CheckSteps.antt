@@ -1,4 +1,4 @@
--- Checking step by step: where it starts, one frame, the end.
+-- Checking step by step: the start, one frame, the end.
 use mathlib.Core.Path.{_≡_, ap}
 use mathlib.Core.Bool.{Bool, true, false}
 use mathlib.Core.List.{List, [], _∷_}
@@ -16,7 +16,7 @@ use Rattle.catalog.specs.Checking.{Verdict, accepted, refused, checkFrom
 use Rattle.catalog.specs.InternalScans.{framesOnward}
 
 module _ (ws : List ℕ) where
-  -- 1 and 2 come before any frame.
+  -- Rules 1 and 2 come before any frame.
   pub not-whole : (length ws % 8 ≡ 0 → ⊥) → checked ws ≡ refused 1 0
   unfolding checked
   not-whole n = simp (checked, ne-eqb (length ws % 8) 0 n)
@@ -36,15 +36,15 @@ module _ (ws : List ℕ) where
 
 module _ (s : State) (i : ℕ) (f : Frame) (fs rest : List Frame) (e : rest ≡ f ∷ fs) where
   -- A frame that breaks no rule, and one that does.
-  pub goes-on : fault s f (run rest) ≡ none → checkFrom s i rest ≡ checkFrom (next s f) (i + 1) fs
+  pub continues : fault s f (run rest) ≡ none → checkFrom s i rest ≡ checkFrom (next s f) (i + 1) fs
   unfolding checkFrom
-  goes-on n = let m = rw e at n in rw (e, checkFrom, m, add-one i)
+  continues n = let m = rw e at n in rw (e, checkFrom, m, add-one i)
 
   pub is-refused : (r : ℕ) → fault s f (run rest) ≡ some r → checkFrom s i rest ≡ refused r i
   unfolding checkFrom
   is-refused r n = let m = rw e at n in rw (e, checkFrom, m)
 
--- The end, with a model open or not.
+-- The result at the end, with a model open or not.
 module _ (s : State) (i : ℕ) (rest : List Frame) (e : rest ≡ []) where
   atEnd : Bool → Verdict
   atEnd b = elim b [ true ↦ accepted (length (s .ids)) | false ↦ refused 11 i ]

@@ -1,4 +1,4 @@
--- One frame of the code's loop: what is left to check, with the state so far, decides as the whole does.
+-- One frame of the code's loop: checking the remaining frames from the current state gives the result for the whole catalog.
 use mathlib.Core.Path.{_≡_, refl, sym, ap, _∙_}
 use mathlib.Core.Bool.{Bool, true, false}
 use mathlib.Core.List.{List, _∷_}
@@ -17,7 +17,7 @@ use Rattle.catalog.specs.Rules.{run, noModel, rules, fault}
 use Rattle.catalog.specs.Checking.{accepted, refused, checkFrom, framesChecked}
 use Rattle.catalog.specs.CodeTypes.{IdFits}
 use Rattle.catalog.specs.InternalScans.{framesOnward, hasNumber}
-use Rattle.catalog.specs.InternalTracking.{Tracks, Capacity, codeRules, stateOf}
+use Rattle.catalog.specs.InternalTracking.{Tracks, DepthAllows, codeRules, stateOf}
 use Rattle.catalog.specs.InternalMarks.{AfterModelFrame, BlankAtModel, Indexed, ScalesAfter}
 use Rattle.catalog.specs.declared.state.State.{State}
 use Rattle.catalog.proofs.WordScans.{frames-more, frames-none}
@@ -25,15 +25,16 @@ use Rattle.catalog.proofs.CheckSteps as steps
 use Rattle.catalog.proofs.FreshNumbers.{Fresh, fresh-next}
 use Rattle.catalog.proofs.MarkedFrames as marked
 use Rattle.catalog.proofs.TrackedRules.{same-fault, none-open}
-use Rattle.catalog.proofs.TrackedState.{tracks-next, has-capacity, state-here}
+use Rattle.catalog.proofs.TrackedState.{tracks-next, depth-allows, state-here}
 
--- Before frame i the code's state and set of ids agree with a state from which the rest decides.
+-- Before frame i, the code's state and set of ids agree with a state of the definition, and checking the remaining frames from
+-- that state gives the result for the whole catalog.
 pub record Decides (ws used : List ℕ) (i : ℕ) (c : State) : Type 0 where
   pub state : check.State
   pub tracks : Tracks ws used i c state
   pub rest : checkFrom state i (framesOnward ws i) ≡ framesChecked ws
 
--- The same, with all that the code keeps of the frames so far.
+-- The same, with everything else that the code records of the frames so far.
 pub record Holds (ws used numbers scales : List ℕ) (u i : ℕ) (c : State) : Type 0 where
   pub decides : Decides ws used i c
   pub fresh : Fresh (decides .state)
@@ -61,20 +62,20 @@ module _ (ws used numbers scales : List ℕ) (u i : ℕ) (c : State) (d : Holds 
     unbroken : fault (d .decides .state) (frameAt ws i) (run (framesOnward ws i)) ≡ none
     unbroken = sym (n ∙ fault-here)
 
-    pub capacity-here : Capacity (word ws i 0) c
-    capacity-here =
-        has-capacity ws used i c (d .decides .state) (d .decides .tracks) (frameAt ws i) (run (framesOnward ws i)) refl unbroken
+    pub depth-allows-here : DepthAllows (word ws i 0) c
+    depth-allows-here =
+        depth-allows ws used i c (d .decides .state) (d .decides .tracks) (frameAt ws i) (run (framesOnward ws i)) refl unbroken
 
     pub blank-here : BlankAtModel ws i scales
     blank-here =
         let e = d .decides in
         marked.blank-here ws used numbers scales u i c (e .state) (e .tracks) (d .indexed) (frameAt ws i) refl (sym n)
 
-    pub holds-on : (used' numbers' numbers'' scales' scales'' : List ℕ) (u' inner : ℕ)
+    pub holds-next : (used' numbers' numbers'' scales' scales'' : List ℕ) (u' inner : ℕ)
         → inner ≡ getD (c .firsts) (c .depth - 1) 0 → AfterModelFrame ws i inner u u' used used' numbers numbers' scales scales'
         → Marks numbers' numbers'' (λ n. hasNumber ws n i) true → ScalesAfter ws i inner scales' scales''
         → Holds ws used' numbers'' scales'' u' (i + 1) (stateOf (word ws i 0) (word ws i 3) i c)
-    holds-on used' numbers' numbers'' scales' scales'' u' inner top b m r =
+    holds-next used' numbers' numbers'' scales' scales'' u' inner top b m r =
         let s = d .decides .state in
         let t = d .decides .tracks in
         let f = frameAt ws i in
@@ -84,14 +85,14 @@ module _ (ws used numbers scales : List ℕ) (u i : ℕ) (c : State) (d : Holds 
             state = check.next s f;
             tracks = tracks-next ws used i c s t used' (b .used) f refl frames-here unbroken;
             rest =
-                sym (steps.goes-on s i f (framesOnward ws (i + 1)) (framesOnward ws i) frames-here unbroken) ∙ d .decides .rest;
+                sym (steps.continues s i f (framesOnward ws (i + 1)) (framesOnward ws i) frames-here unbroken) ∙ d .decides .rest;
           };
           fresh = fresh-next s f (run (framesOnward ws i)) unbroken (d .fresh);
           indexed = marked.indexed-next ws used numbers scales u i c s t (d .indexed) used' numbers' numbers'' scales' scales''
               u' inner h top b m r (d .fresh) f fits refl frames-here (sym n);
         }
 
--- At the end.
+-- After the last frame.
 module _ (ws used : List ℕ) (i : ℕ) (c : State) (d : Decides ws used i c) (h : length ws / 8 ≤ i) where
   none-left : (b : Bool) → eqb (c .depth) 0 ≡ b → noModel (d .state .openGroups) ≡ b
   none-left b e = sym (none-open (c .depth) (d .state .openGroups) (d .tracks .depth)) ∙ e

@@ -1,4 +1,4 @@
--- Document 01, "Checking", clause by clause: catalogs that show each clause and what checking answers, computed together.
+-- Document 01, "Checking", clause by clause: a catalog for each clause and what checking returns, computed together.
 use mathlib.Core.Path.{_≡_, refl}
 use mathlib.Core.List.{List, [], _∷_, _++_, map}
 use Prim.Native.Nat.{ℕ}
@@ -29,16 +29,16 @@ scaled number scaleKind scale = 3 ∷ number ∷ 1 ∷ 1 ∷ scaleKind ∷ scale
 abbrev end : List ℕ
 end = 4 ∷ 0 ∷ 0 ∷ 0 ∷ 0 ∷ 0 ∷ 0 ∷ 0 ∷ []
 
--- The frames of a catalog, and the answer.
+-- The frames of a catalog, and the expected result.
 abbrev Case : Type 0
 Case = List (List ℕ) × Verdict
 
--- The words of frames.
+-- The words of all these frames.
 abbrev joined : List (List ℕ) → List ℕ
 joined [] = []
 joined (w ∷ ws) = w ++ joined ws
 
--- A case for each clause, and for what was decided where a clause leaves it open.
+-- A case for each clause, and for each reading chosen where a clause can be read in two ways.
 unfoldable pub cases : List Case
 cases =
     ([], accepted 0)
@@ -66,7 +66,7 @@ cases =
     ∷ (model 0 ∷ [], refused 6 0)
     ∷ (model 65535 ∷ [], refused 6 0)
     ∷ (model 1 ∷ point 1 1 1 ∷ end ∷ model 2 ∷ point 1 1 1 ∷ end ∷ model 1 ∷ [], refused 6 6)
-    ∷ (model 1 ∷ point 1 1 1 ∷ end ∷ model 2 ∷ point 1 1 1 ∷ end ∷ [], accepted 2)  -- numbers are a model's own
+    ∷ (model 1 ∷ point 1 1 1 ∷ end ∷ model 2 ∷ point 1 1 1 ∷ end ∷ [], accepted 2)  -- each model has its own numbers
     ∷ (model 1 ∷ point 0 1 1 ∷ [], refused 6 1)
     ∷ (model 1 ∷ groupBy 0 0 1 ∷ [], refused 6 1)
     ∷ (model 1 ∷ point 1 1 1 ∷ groupBy 1 0 1 ∷ [], refused 6 2)
@@ -82,24 +82,24 @@ cases =
     -- 8
     ∷ (model 1 ∷ scaled 1 3 0 ∷ [], refused 8 1)
     ∷ (model 1 ∷ scaled 1 0 1 ∷ [], refused 8 1)  -- and not 3
-    ∷ (model 1 ∷ (3 ∷ 1 ∷ 4 ∷ 1 ∷ 1 ∷ 0 ∷ 0 ∷ 0 ∷ []) ∷ [], refused 8 1)  -- an enum16 carries none
+    ∷ (model 1 ∷ (3 ∷ 1 ∷ 4 ∷ 1 ∷ 1 ∷ 0 ∷ 0 ∷ 0 ∷ []) ∷ [], refused 8 1)  -- an enum16 may not be scaled
     ∷ (model 1 ∷ scaled 1 1 0xFFF6 ∷ scaled 2 1 10 ∷ end ∷ [], accepted 1)
     ∷ (model 1 ∷ scaled 1 1 0xFFF5 ∷ [], refused 8 1)
     ∷ (model 1 ∷ scaled 1 1 11 ∷ [], refused 8 1)
     ∷ (model 1 ∷ scaled 1 2 9 ∷ point 9 8 1 ∷ end ∷ [], accepted 1)  -- a scale factor later in the run
-    ∷ (model 1 ∷ scaled 1 2 9 ∷ point 9 8 2 ∷ [], refused 7 2)  -- its own fault comes at its own frame
-    ∷ (model 1 ∷ scaled 1 2 9 ∷ point 9 1 1 ∷ [], refused 8 1)  -- no sunssf
-    ∷ (model 1 ∷ point 9 8 1 ∷ groupBy 2 0 1 ∷ scaled 1 2 9 ∷ end ∷ end ∷ [], accepted 1)  -- of an enclosing group
-    ∷ (model 1 ∷ groupBy 2 0 1 ∷ point 9 8 1 ∷ end ∷ groupBy 3 0 1 ∷ scaled 1 2 9 ∷ [], refused 8 5)  -- of another group
+    ∷ (model 1 ∷ scaled 1 2 9 ∷ point 9 8 2 ∷ [], refused 7 2)  -- the scale factor's fault is at its own frame
+    ∷ (model 1 ∷ scaled 1 2 9 ∷ point 9 1 1 ∷ [], refused 8 1)  -- not a sunssf point
+    ∷ (model 1 ∷ point 9 8 1 ∷ groupBy 2 0 1 ∷ scaled 1 2 9 ∷ end ∷ end ∷ [], accepted 1)  -- in an enclosing group
+    ∷ (model 1 ∷ groupBy 2 0 1 ∷ point 9 8 1 ∷ end ∷ groupBy 3 0 1 ∷ scaled 1 2 9 ∷ [], refused 8 5)  -- in a sibling group
     ∷ (model 1 ∷ scaled 1 2 9 ∷ (5 ∷ 0 ∷ 0 ∷ 0 ∷ 0 ∷ 0 ∷ 0 ∷ 0 ∷ []) ∷ point 9 8 1 ∷ [], refused 8 1)  -- past the end of the run
-    ∷ (model 1 ∷ (3 ∷ 1 ∷ 4 ∷ 1 ∷ 2 ∷ 9 ∷ 0 ∷ 0 ∷ []) ∷ point 9 8 1 ∷ [], refused 8 1)  -- an enum16 carries none
+    ∷ (model 1 ∷ (3 ∷ 1 ∷ 4 ∷ 1 ∷ 2 ∷ 9 ∷ 0 ∷ 0 ∷ []) ∷ point 9 8 1 ∷ [], refused 8 1)  -- an enum16 may not be scaled
     ∷ (model 1 ∷ groupBy 2 0 1 ∷ scaled 1 2 9 ∷ end ∷ point 9 8 1 ∷ [], refused 8 2)  -- and not 4 at frame 4
     -- 9
     ∷ (model 1 ∷ groupBy 1 3 1 ∷ [], refused 9 1)
     ∷ (model 1 ∷ groupBy 1 0 0 ∷ [], refused 9 1)
     ∷ (model 1 ∷ point 1 2 1 ∷ groupBy 2 1 1 ∷ point 3 1 1 ∷ end ∷ end ∷ [], accepted 1)
     ∷ (model 1 ∷ (3 ∷ 1 ∷ 2 ∷ 1 ∷ 1 ∷ 1 ∷ 1 ∷ 0 ∷ []) ∷ groupBy 2 1 1 ∷ point 3 1 1 ∷ end ∷ end ∷ [], accepted 1)
-    ∷ (model 1 ∷ point 1 4 1 ∷ groupBy 2 1 1 ∷ [], refused 9 2)  -- no uint16
+    ∷ (model 1 ∷ point 1 4 1 ∷ groupBy 2 1 1 ∷ [], refused 9 2)  -- not a uint16 point
     ∷ (model 1 ∷ (3 ∷ 1 ∷ 2 ∷ 1 ∷ 0 ∷ 0 ∷ 0 ∷ 1 ∷ []) ∷ groupBy 2 1 1 ∷ [], refused 9 2)  -- not R
     ∷ (model 1 ∷ groupBy 2 0 1 ∷ point 1 2 1 ∷ groupBy 3 1 1 ∷ [], refused 9 3)  -- not in the top group
     ∷ (model 1 ∷ groupBy 2 1 1 ∷ point 3 1 1 ∷ end ∷ point 1 2 1 ∷ [], refused 9 1)  -- and not 4 at frame 4
@@ -114,7 +114,7 @@ cases =
     ∷ (model 1 ∷ [], refused 11 1)
     ∷ []
 
--- Every case is answered as it says.
+-- Checking returns the expected result in every case.
 pub clause-by-clause : map (λ (c : Case). checked (joined (c .0))) cases ≡ map (λ (c : Case). c .1) cases
 unfolding cases checkFrom checked framesFrom frameOf isSizeOf rows rowAmong mayScale registersOf twosComplement
 clause-by-clause = refl

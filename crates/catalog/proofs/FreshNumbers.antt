@@ -1,4 +1,4 @@
--- A scale factor's number is there once among the open groups: each number is new when it comes.
+-- No two open groups have a scale factor with the same number, since each number is new in its model.
 use mathlib.Core.Path.{_≡_, refl, sym, ap, _∙_}
 use mathlib.Core.Bool.{Bool, true, false, _||_}
 use mathlib.Core.List.{List, [], _∷_, _++_}
@@ -14,12 +14,12 @@ use Rattle.catalog.specs.State.{OpenGroup, State, start, next, withPoint
 use Rattle.catalog.specs.Rules.{hasScaleFactor, isScaleFactorPoint, pointsOf, rules, fault}
 use Rattle.catalog.proofs.WordScans.{has-either}
 
--- No scale factor of a group has the number of one of the groups around it.
+-- No scale factor of a group has the same number as a scale factor of the groups around it.
 abbrev pub Apart : List OpenGroup → Type 0
 Apart [] = Unit {0}
 Apart (l ∷ ls) = ((n : ℕ) → hasScaleFactor n (l .points) ≡ true → hasScaleFactor n (pointsOf ls) ≡ false) × Apart ls
 
--- And their numbers are used.
+-- The same, and the numbers of all these scale factors are in use.
 pub record Fresh (s : State) : Type 0 where
   pub inUse : (n : ℕ) → hasScaleFactor n (pointsOf (s .openGroups)) ≡ true → among n (s .numbers) ≡ true
   pub apart : Apart (s .openGroups)
@@ -27,7 +27,7 @@ pub record Fresh (s : State) : Type 0 where
 pub fresh-start : Fresh start
 fresh-start = record { inUse = λ n e. clash (sym e); apart = tt }
 
--- One of two, the other way round.
+-- `a || b` holds if `b` does, and only if `a` or `b` does.
 right-of : (a b : Bool) → b ≡ true → a || b ≡ true
 right-of true b e = refl
 right-of false b e = e
@@ -36,7 +36,7 @@ either-of : (a b : Bool) → a || b ≡ true → (X : Type 0) → (a ≡ true �
 either-of true b e X f g = f refl
 either-of false b e X f g = g e
 
--- A test that holds only where another does fails where that one does.
+-- If `a` implies `b` and `b` is false, `a` is false.
 unless : (a b : Bool) → (a ≡ true → b ≡ true) → b ≡ false → a ≡ false
 unless true b f e = clash (sym (f refl) ∙ e)
 unless false b f e = refl
@@ -44,7 +44,7 @@ unless false b f e = refl
 module _ (numbers : List ℕ) (p : Point) (l : OpenGroup) (ls : List OpenGroup)
     (use-of : (n : ℕ) → hasScaleFactor n (pointsOf (l ∷ ls)) ≡ true → among n numbers ≡ true)
     (new : among (p .number) numbers ≡ false) where
-  -- A scale factor of the group with the point: one that it had, or the point.
+  -- A scale factor of the group with the new point is one that it had before, or the new point.
   had-or-new : (n : ℕ) → hasScaleFactor n (l .points ++ (p ∷ [])) ≡ true → (X : Type 0)
       → (hasScaleFactor n (l .points) ≡ true → X) → (p .number ≡ n → X) → X
   had-or-new n e X f g =
@@ -76,7 +76,7 @@ module _ (numbers : List ℕ) (p : Point) (l : OpenGroup) (ls : List OpenGroup)
       (λ r. rw (eq-eqb n (p .number) (sym r))))
       (λ q. kept (split ∙ right-of (hasScaleFactor n (l .points)) (hasScaleFactor n (pointsOf ls)) q))
 
--- Behind a frame that breaks no rule.
+-- It still holds after a frame that breaks no rule.
 pub fresh-next : (s : State) (f : Frame) (upcomingRun : List Point) → fault s f upcomingRun ≡ none → Fresh s → Fresh (next s f)
 fresh-next s (modelFrame id) upcomingRun e x = record { inUse = λ n e. clash (sym e); apart = (λ n e. refl, tt) }
 fresh-next s (groupFrame h) upcomingRun e x = go (s .openGroups) (x .inUse) (x .apart)

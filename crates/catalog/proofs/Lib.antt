@@ -2,7 +2,7 @@
 pub mod ClauseByClause
 -- Laws of the definitions
 pub mod FrameWords
--- What the proofs of the functions cite
+-- Lemmas that the proofs of the functions cite
 pub mod WordScans
 pub mod MarkLaws
 pub mod MarkedRules

@@ -1,4 +1,4 @@
--- Points that a reference names, and the first count that no point gives, step by step.
+-- The points that a reference names, and the search for the first uncounted group, step by step.
 use mathlib.Core.Path.{_≡_, refl, sym, ap, _∙_}
 use mathlib.Core.Bool.{Bool, true, false, _&&_, _||_}
 use mathlib.Core.List.{List, [], _∷_}
@@ -18,7 +18,7 @@ use Rattle.catalog.specs.declared.scans.Target.{Target}
 
 -- ---- Points
 
--- A reference names a point if it has the number and the kind.
+-- A reference names a point if and only if the point has the number and the kind.
 pub target-is : (x : Target) (n : ℕ) (p : Point) → isTarget x n p ≡ eqb (p .number) n && isOfKind x p
 target-is Target.ScaleFactor n p = refl
 target-is Target.CountPoint n p = go (eqb (p .number) n) (eqb (p .typeCode) uint16) (eqb (p .access) readOnly)
@@ -49,7 +49,7 @@ pub same-kind : (x : Target) (n : ℕ) (p : Point) → isOfKind x p ≡ true →
 same-kind x n p e =
     swapped n (p .number) ∙ sym (target-is x n p ∙ ap (λ b. eqb (p .number) n && b) e ∙ and-true (eqb (p .number) n))
 
--- A run that has ended, and one that goes on.
+-- An empty run, and a run with a point.
 module _ (ws : List ℕ) (j : ℕ) (x : Target) (n : ℕ) where
   pub no-run : run (framesOnward ws j) ≡ [] → inRun ws j x n ≡ false
   no-run e = rw e
@@ -78,7 +78,7 @@ module _ (ws counts : List ℕ) (j : ℕ) where
       let e : length ws / 8 - j ≡ suc (length ws / 8 - (j + 1)) = omega arith in
       rw (e, firstStop, s, add-one j)
 
--- Count points marked in an empty set, and the first that is not among them.
+-- If the count points of a run are put into an empty set, the search with this set finds the first uncounted group.
 pub counted-by : (ws before counts : List ℕ) (from u : ℕ) → Blank before
     → Marks before counts (inRun ws from Target.CountPoint) true
     → u ≡ firstStop ws counts from (length ws / 8 - from) → Counted ws u from from
@@ -93,7 +93,7 @@ counted-by ws before counts from u z m e =
     go true s e = refl
     go false s e = e
 
--- The first one is not before the frame where the search begins.
+-- The search never stops before the frame where it begins.
 pub stop-from : (ws counts : List ℕ) (n j : ℕ) → j ≤ firstStop ws counts j n
 unfolding firstStop
 stop-from ws counts zero j = omega arith

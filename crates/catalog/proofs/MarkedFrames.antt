@@ -1,4 +1,4 @@
--- What the code keeps of the frames is what a search would find, from the start and from frame to frame.
+-- What the code records of the frames is what a search would find: at the start, and after each frame.
 use mathlib.Core.Path.{_≡_, refl, sym, ap, subst, _∙_}
 use mathlib.Core.Bool.{true, false, _&&_, _||_, or-false}
 use mathlib.Core.List.{List, [], _∷_, append-nil}
@@ -49,7 +49,7 @@ indexed-start ws =
       counted = λ h. absurd (omega (arith, h));
     }
 
--- The runs of the groups around one that is opened.
+-- Opening a group keeps the runs of the groups around it.
 runs-kept : (ws firsts : List ℕ) (d v k : ℕ) → k ≤ d → runsOf ws (set firsts d v) k ≡ runsOf ws firsts k
 unfolding runsOf
 runs-kept ws firsts d v zero h = refl
@@ -58,7 +58,7 @@ runs-kept ws firsts d v (suc k) h =
 
 module _ (ws used numbers scales : List ℕ) (u i : ℕ) (c : State) (s : check.State) (t : Tracks ws used i c s)
     (x : Indexed ws numbers scales u i c) where
-  -- At a model frame no group is open, so that no scale factor is in scope.
+  -- At a model frame no group is open, so no scale factor is in scope.
   module _ (id : ℕ) (e : firstBroken (modelRules used c id) ≡ none) where
     none-open : c .depth ≡ 0
     none-open = eqb-true (c .depth) 0 (not-false (eqb (c .depth) 0) (none-broken (modelRules used c id) .0 e .0))
@@ -83,7 +83,7 @@ module _ (ws used numbers scales : List ℕ) (u i : ℕ) (c : State) (s : check.
     same-scales : (n : ℕ) → n < 65536 → inSet scales' n ≡ inSet scales n
     same-scales n h = b .kept .has (x .scaleWords) n h
 
-    -- After a group or model frame: the run that begins there, then those that are open.
+    -- After a group or model frame the scale factors in scope are those of the new run and those in scope before.
     scope-opened : (k : ℕ) → word ws i 0 ≡ k → k ≤ 2 → c .depth < 4 → (n : ℕ) → n < 65536
         → inSet scales'' n ≡ hasScaleFactor n (runsOf ws (set (c .firsts) (c .depth) (i + 1)) (c .depth + 1))
     unfolding runsOf
@@ -102,7 +102,7 @@ module _ (ws used numbers scales : List ℕ) (u i : ℕ) (c : State) (s : check.
         opens (suc (suc zero)) e g = now-in scales' scales'' _ scale-words n h (rw e at r)
         opens (suc (suc (suc k))) e g = absurd (omega arith)
 
-    -- After any other frame than a model frame: the number of the frame, if it has one, and those so far.
+    -- After a frame other than a model frame the numbers used are the frame's own, if it has one, and those used before.
     used-more : isModel ws i ≡ false → (n : ℕ) → n < 65536 → inSet numbers'' n ≡ among n (numbersSoFar ws (i + 1) c)
     used-more e n h =
         let f = getD (c .firsts) 0 0 in
@@ -113,10 +113,10 @@ module _ (ws used numbers scales : List ℕ) (u i : ℕ) (c : State) (s : check.
         ∙ ap (λ a. hasNumber ws n i || a) (same ∙ x .used n h)
         ∙ rw more (number-here ws f n (i - f) i (omega arith))
 
-    -- A frame that is no model frame, and no group frame whose count fails.
-    counted-on : isModel ws i ≡ false → (k : Counted ws u (getD (c .firsts) 0 0) i) → stops ws (k .counts) i ≡ false
+    -- A frame where the search does not stop keeps the first uncounted group.
+    counted-next : isModel ws i ≡ false → (k : Counted ws u (getD (c .firsts) 0 0) i) → stops ws (k .counts) i ≡ false
         → Counted ws u' (getD (c .firsts) 0 0) (i + 1)
-    counted-on e k q =
+    counted-next e k q =
         let same : u' ≡ u = subst (λ a. CountsAfter a ws i u u') e (b .counts) in
         record { counts = k .counts; holds = k .holds; is = same ∙ k .is ∙ stop-later ws (k .counts) i here q }
 
@@ -164,7 +164,7 @@ module _ (ws used numbers scales : List ℕ) (u i : ℕ) (c : State) (s : check.
           scaleWords = r .words ∙ scale-words;
           used = λ n g. rw f (used-more (rw kind) n g);
           inScope = λ n g. scope-opened 2 kind (omega arith) shallow n g;
-          counted = λ g. rw f (counted-on (rw kind) k goes);
+          counted = λ g. rw f (counted-next (rw kind) k goes);
         }
 
     after-point : (p : Point) → frameAt ws i ≡ pointFrame p → firstBroken (pointRules ws i c p) ≡ none
@@ -177,7 +177,7 @@ module _ (ws used numbers scales : List ℕ) (u i : ℕ) (c : State) (s : check.
           scaleWords = r .words ∙ scale-words;
           used = λ n g. used-more (rw kind) n g;
           inScope = λ n g. same .has scale-words n g ∙ same-scales n g ∙ x .inScope n g;
-          counted = λ g. counted-on (rw kind) (x .counted g) (rw kind);
+          counted = λ g. counted-next (rw kind) (x .counted g) (rw kind);
         }
 
     module _ (fresh : Fresh s) (e : frameAt ws i ≡ endFrame) (none-upcoming : run (framesOnward ws i) ≡ [])
@@ -185,7 +185,7 @@ module _ (ws used numbers scales : List ℕ) (u i : ℕ) (c : State) (s : check.
       some-open : 1 ≤ c .depth
       some-open = let n = eqb-false (c .depth) 0 (none-broken (endRules ws c) .0 ok .0) in omega (arith, n)
 
-      -- No scale factor of the group that ends has the number of one around it.
+      -- No scale factor of the group that ends has the same number as one of the groups around it.
       ends-apart : (n : ℕ) → hasScaleFactor n (runIn ws c (c .depth - 1)) ≡ true
           → hasScaleFactor n (runsOf ws (c .firsts) (c .depth - 1)) ≡ false
       ends-apart n = go (s .openGroups) refl (fresh .apart)
@@ -214,10 +214,10 @@ module _ (ws used numbers scales : List ℕ) (u i : ℕ) (c : State) (s : check.
             inScope = λ n g.
                 let both = scope-more ws (c .firsts) n (c .depth) (c .depth - 1) (omega (arith, some-open)) in
                 now-out scales' scales'' _ scale-words n g _ out (same-scales n g ∙ x .inScope n g ∙ both) (ends-apart n);
-            counted = λ g. counted-on (rw kind) (x .counted some-open) (rw kind);
+            counted = λ g. counted-next (rw kind) (x .counted some-open) (rw kind);
           }
 
-    -- Whatever the frame.
+    -- After a frame of any kind that breaks no rule.
     pub indexed-next : Fresh s → (f : Frame) → IdFits f → frameAt ws i ≡ f → framesOnward ws i ≡ f ∷ framesOnward ws (i + 1)
         → firstBroken (codeRules ws used i c f) ≡ none → Indexed ws numbers'' scales'' u' (i + 1) (stateBy c i f)
     indexed-next y (modelFrame id) fits e a n = after-model id e n

@@ -1,4 +1,4 @@
--- The tests by the sets are the tests by a search.
+-- The tests that look up the sets agree with the tests that search the frames.
 use mathlib.Core.Path.{_≡_, refl, sym, ap, _∙_}
 use mathlib.Core.Bool.{Bool, true, false, not}
 use mathlib.Core.List.{List}
@@ -18,9 +18,9 @@ use Rattle.catalog.specs.InternalMarks.{Indexed, Counted, stops}
 use Rattle.catalog.specs.declared.state.State.{State}
 use Rattle.catalog.proofs.MarkLaws.{stop-here, stop-later, stop-from}
 use Rattle.catalog.proofs.TrackedState.{word-here}
-use Rattle.catalog.proofs.WordScans.{run-goes, run-ends}
+use Rattle.catalog.proofs.WordScans.{run-continues, run-ends}
 
--- Whether a point gives the count matters only if one is to.
+-- Whether the count point is in the top group matters only if a point gives the count.
 same-counts : (a b direct : Bool) (h : Head) → (h .countKind ≡ countByPoint → a ≡ b)
     → oneHolds (countTests a direct h) ≡ oneHolds (countTests b direct h)
 same-counts a b direct h e = go (eqb (h .countKind) countByPoint) refl
@@ -34,7 +34,7 @@ pub empty-by-first : (ws : List ℕ) (j : ℕ) → j < length ws / 8 → not (eq
 empty-by-first ws j h = go (eqb (word ws j 0) 3) refl
   where
     go : (t : Bool) → eqb (word ws j 0) 3 ≡ t → not t ≡ noPoint (run (framesOnward ws j))
-    go true q = rw (run-goes ws j (word ws j 0) h refl (eqb-true (word ws j 0) 3 q))
+    go true q = rw (run-continues ws j (word ws j 0) h refl (eqb-true (word ws j 0) 3 q))
     go false q = rw (run-ends ws j (word ws j 0) h refl (eqb-false (word ws j 0) 3 q))
 
 module _ (ws numbers scales : List ℕ) (u i : ℕ) (c : State) (x : Indexed ws numbers scales u i c) where
@@ -44,7 +44,7 @@ module _ (ws numbers scales : List ℕ) (u i : ℕ) (c : State) (x : Indexed ws 
   point-tested p h g = rw (x .used (p .number) h, x .inScope (p .scale) g)
 
   module _ (b : i < length ws / 8) (h : Head) (e : groupFrame h ≡ frameAt ws i) (s : h .count < 65536) where
-    -- The first group whose count no point gives is this one, exactly if none gives it.
+    -- This group is the first uncounted one if and only if its count point is not in the top group.
     count-here : 1 ≤ c .depth → h .countKind ≡ countByPoint → not (eqb i u) ≡ hasCountPoint (h .count) (runIn ws c 0)
     count-here d k = go (hasCountPoint (h .count) (runIn ws c 0)) refl
       where

@@ -1,4 +1,4 @@
--- The runs of points of the open groups, as the code finds them by the first frame inside each.
+-- The runs of points of the open groups, which the code finds by the first frame inside each group.
 use mathlib.Core.Path.{_≡_, refl, ap, _∙_}
 use mathlib.Core.Logic.{_≢_}
 use mathlib.Core.Bool.{Bool, true}
@@ -14,13 +14,13 @@ use Rattle.catalog.specs.InternalScans.{framesOnward, runsOf}
 use Rattle.catalog.specs.InternalTracking.{Opens}
 
 module _ (ws firsts : List ℕ) where
-  -- All runs together are the points of the groups.
+  -- All runs together are the points so far of the groups.
   pub runs-points : (b : Bool) (ls : List OpenGroup) → Opens ws firsts b [] ls → runsOf ws firsts (length ls) ≡ pointsOf ls
   unfolding runsOf
   runs-points b [] o = refl
   runs-points b (l ∷ ls) o = rw (o .0, append-nil (l .points), runs-points true ls (o .2))
 
-  -- With what is ahead of the innermost group, they are the points that a scale reference may name.
+  -- With the upcoming points of the innermost group, they are the points that a scale reference may name.
   pub runs-in-scope : (b : Bool) (upcomingRun : List Point) (l : OpenGroup) (ls : List OpenGroup) → Opens ws firsts b upcomingRun (l ∷ ls)
       → runsOf ws firsts (suc (length ls)) ≡ pointsInScope (l ∷ ls) upcomingRun
   unfolding runsOf
@@ -33,7 +33,7 @@ module _ (ws firsts : List ℕ) where
   run-of-top b l [] o = o .0 ∙ append-nil (l .points)
   run-of-top b l (k ∷ ls) o = run-of-top true k ls (o .2)
 
-  -- The first frame inside a further group is stored behind those of the groups around it.
+  -- Storing the first frame of a deeper group changes nothing for the groups around it.
   pub one-deeper : (b : Bool) (upcomingRun : List Point) (ls : List OpenGroup) (d v : ℕ) → length ls ≤ d → Opens ws firsts b upcomingRun ls
       → Opens ws (set firsts d v) b upcomingRun ls
   one-deeper b upcomingRun [] d v h o = tt

@@ -1,4 +1,4 @@
--- The rules as the code asks them find the same fault as the rules of the check.
+-- The rules as the code tests them find the same fault as the rules of the definition.
 use mathlib.Core.Path.{_≡_, refl, sym, ap, subst, _∙_}
 use mathlib.Core.Bool.{Bool, true, false, not, _||_}
 use mathlib.Core.List.{List, [], _∷_, append-nil}
@@ -23,7 +23,7 @@ use Rattle.catalog.specs.InternalTracking.{Tracks, Opens, upcomingRunAt,
 use Rattle.catalog.specs.declared.state.State.{State}
 use Rattle.catalog.proofs.OpenGroups.{runs-in-scope, run-of-top}
 
--- The depth tells whether a model is open, and whether the top group is the innermost open one.
+-- Depth 0 means that no model is open, depth 1 that the top group is the innermost open one.
 pub none-open : (d : ℕ) (ls : List OpenGroup) → d ≡ length ls → eqb d 0 ≡ noModel ls
 none-open d [] e = eq-eqb d 0 e
 none-open d (l ∷ ls) e = ne-eqb d 0 (λ z. omega (arith, e, z))
@@ -32,11 +32,11 @@ one-open : (d : ℕ) (ls : List OpenGroup) → d ≡ suc (length ls) → eqb d 1
 one-open d [] e = eq-eqb d 1 e
 one-open d (l ∷ ls) e = ne-eqb d 1 (λ z. omega (arith, e, z))
 
--- The fault of a model frame by its tests.
+-- The fault of a model frame, given the results of its tests.
 abbrev modelFault : Bool → Bool → Option ℕ
 modelFault placed numbered = firstBroken ((placed, 4) ∷ (numbered, 6) ∷ [])
 
--- The fault of a point frame by its tests, which may be exchanged one by one.
+-- The fault of a point frame, given the results of its tests. Equal results give the same fault.
 abbrev pointFault : Bool → Bool → Bool → Bool → Option ℕ
 pointFault placed numbered typed scaled = firstBroken ((placed, 4) ∷ (numbered, 6) ∷ (typed, 7) ∷ (scaled, 8) ∷ [])
 
@@ -44,13 +44,13 @@ same-tests : (a b d e m x y : Bool) → a ≡ b → d ≡ e → x ≡ y → poin
 same-tests a b d e m x y p q r =
     ap (λ t. pointFault t d m x) p ∙ ap (λ t. pointFault b t m x) q ∙ ap (λ t. pointFault b e m t) r
 
--- Nothing is ahead of the innermost group at a frame that is no point's.
+-- At a frame that is not a point frame no point is upcoming.
 nothing-upcoming : (ws : List ℕ) (i : ℕ) (b : Bool) → run (framesOnward ws i) ≡ [] → upcomingRunAt ws i b ≡ []
 nothing-upcoming ws i true e = refl
 nothing-upcoming ws i false e = e
 
 module _ (ws used : List ℕ) (i : ℕ) (c : State) (s : check.State) (t : Tracks ws used i c s) where
-  -- The open groups, at a frame that is no point's.
+  -- So the runs of the open groups are their points so far.
   pub no-upcoming-point : run (framesOnward ws i) ≡ [] → Opens ws (c .firsts) (c .«has_group») [] (s .openGroups)
   no-upcoming-point e =
       let none-left = nothing-upcoming ws i (c .«has_group») e in
@@ -132,7 +132,7 @@ module _ (ws used : List ℕ) (i : ℕ) (c : State) (s : check.State) (t : Track
           let o = subst (Opens ws (c .firsts) (c .«has_group») []) q (no-upcoming-point e) in
           rw (none-open (c .depth) (l ∷ ls) d, one-open (c .depth) ls d, m, o .0, append-nil (l .points), ← o .1, q)
 
-  -- The same fault, whatever the frame.
+  -- The same fault, for any frame.
   pub same-fault : (f : Frame) (fs : List Frame) → IdFits f → framesOnward ws i ≡ f ∷ fs
       → firstBroken (codeRules ws used i c f) ≡ fault s f (run (f ∷ fs))
   same-fault (modelFrame id) fs h e = model-fault id [] h

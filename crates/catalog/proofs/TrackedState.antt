@@ -1,4 +1,4 @@
--- The code's state simulates that of the check, from the start and from frame to frame.
+-- The code's state simulates the state of the definition: at the start, and after each frame.
 use mathlib.Core.Path.{_≡_, refl, sym, ap, subst, _∙_}
 use mathlib.Core.Bool.{true, false, _&&_, _||_}
 use mathlib.Core.List.{List, [], _∷_, _++_, append-assoc}
@@ -21,13 +21,14 @@ use Rattle.catalog.specs.State as check
 use Rattle.catalog.specs.State.{OpenGroup, start, next}
 use Rattle.catalog.specs.Rules.{run, noModel, inTop, afterGroup, isMalformed, rules, fault}
 use Rattle.catalog.specs.InternalScans.{framesOnward, isModel, isNumbered, numbersBefore}
-use Rattle.catalog.specs.InternalTracking.{codeStart, Within, Tracks, Opens, Capacity, upcomingRunAt, numbersSoFar, withOpened, withEnded, stateOf}
+use Rattle.catalog.specs.InternalTracking.{codeStart, Within, Tracks, Opens, DepthAllows, upcomingRunAt}
+use Rattle.catalog.specs.InternalTracking.{numbersSoFar, withOpened, withEnded, stateOf}
 use Rattle.catalog.specs.declared.state.State.{State}
 use Rattle.catalog.proofs.FrameWords.{eight-back}
 use Rattle.catalog.proofs.OpenGroups.{one-deeper}
 use Rattle.catalog.proofs.TrackedRules.{no-upcoming-point, none-open}
 
--- Of four numbers, all but the first 0, none is over a bound on the first.
+-- If n is at most b, so is each entry of the list n, 0, 0, 0.
 first-alone : (n b : ℕ) → n ≤ b → (k : ℕ) → getD (n ∷ 0 ∷ 0 ∷ 0 ∷ []) k 0 ≤ b
 first-alone n b h zero = h
 first-alone n b h (suc zero) = omega arith
@@ -65,7 +66,7 @@ module _ (ws : List ℕ) (first n i : ℕ) (e : first + n ≡ i) where
   unfolding numbersBefore
   nothing-added h = let g = rw (← e) at h in simp (numbersBefore, g)
 
--- The words of a frame that is not malformed.
+-- The eight words of frame i. Unless the frame is malformed, `wordsOf` gives them back.
 abbrev pub eightWords : List ℕ → ℕ → List ℕ
 eightWords ws i =
     word ws i 0 ∷ word ws i 1 ∷ word ws i 2 ∷ word ws i 3 ∷ word ws i 4 ∷ word ws i 5 ∷ word ws i 6 ∷ word ws i 7 ∷ []
@@ -102,7 +103,7 @@ state-here ws i c (pointFrame p) e m = rw (kind-here ws i (pointFrame p) e m)
 state-here ws i c endFrame e m = rw (kind-here ws i endFrame e m)
 state-here ws i c malformed e m = clash m
 
--- The numbers so far, after a frame of this kind and with this number.
+-- The numbers used after frame i: the same, or with the frame's own number.
 module _ (ws used : List ℕ) (i : ℕ) (c : State) (s : check.State) (t : Tracks ws used i c s) where
   pub numbers-kept : 1 ≤ c .depth → (k : ℕ) → word ws i 0 ≡ k → leb 2 k && leb k 3 ≡ false
       → s .numbers ≡ numbersSoFar ws (i + 1) c
@@ -120,14 +121,14 @@ module _ (ws used : List ℕ) (i : ℕ) (c : State) (s : check.State) (t : Track
       let m : i + 1 - f ≡ suc (i - f) = omega arith in
       rw (m, number-added ws f (i - f) i (omega arith) (rw e h), q) (ap (λ ns. n ∷ ns) (t .numbers d))
 
-  -- The bounds of a state that stays, one frame later.
+  -- If the state does not change, its bounds hold one frame later.
   later : Within (i + 1) c
   later =
       let w = t .within in
       let few = w .few in
       record { few = omega arith; deep = w .deep; four = w .four; passed = λ k. let p = w .passed k in omega arith }
 
--- A store keeps a bound on all entries.
+-- Storing a number that keeps a bound keeps the bound on all entries.
 still-bounded : (xs : List ℕ) (d v b : ℕ) → ((k : ℕ) → getD xs k 0 ≤ b) → v ≤ b → (k : ℕ) → getD (set xs d v) k 0 ≤ b
 still-bounded [] d v b h g k = omega arith
 still-bounded (x ∷ xs) zero v b h g zero = g
@@ -139,7 +140,7 @@ still-bounded (x ∷ xs) (suc d) v b h g (suc k) = still-bounded xs d v b (λ j.
 
 module _ (ws used : List ℕ) (i : ℕ) (c : State) (s : check.State) (t : Tracks ws used i c s) (used' : List ℕ)
     (m : Marks used used' (λ n. isModel ws i && eqb n (word ws i 1)) true) where
-  -- A frame that is no model frame uses no id.
+  -- A frame that is not a model frame adds no id.
   same-ids : isModel ws i ≡ false → Tracks ws used' i c s
   same-ids e =
       record {
@@ -264,10 +265,10 @@ module _ (ws used : List ℕ) (i : ℕ) (c : State) (s : check.State) (t : Track
           openGroups = rw q (o .2);
         }
 
--- ---- Whatever the frame
+-- ---- After any frame
 
 module _ (ws used : List ℕ) (i : ℕ) (c : State) (s : check.State) (t : Tracks ws used i c s) where
-  -- With an open model there is an innermost open group.
+  -- If a model is open, there is an innermost open group.
   inside : (X : Type 0) → noModel (s .openGroups) ≡ false
       → ((l : OpenGroup) (ls : List OpenGroup) → s .openGroups ≡ l ∷ ls → X) → X
   inside X h k = go (s .openGroups) refl h
@@ -276,8 +277,8 @@ module _ (ws used : List ℕ) (i : ℕ) (c : State) (s : check.State) (t : Track
       go [] q g = clash g
       go (l ∷ ls) q g = k l ls q
 
-  -- A frame that breaks no rule opens at most the fourth group, and ends one that is open.
-  may-follow : (f : Frame) (upcomingRun : List Point) → fault s f upcomingRun ≡ none → Capacity (getD (wordsOf f) 0 0) c
+  -- A frame that breaks no rule opens no fifth level, and ends a group only if one is open.
+  may-follow : (f : Frame) (upcomingRun : List Point) → fault s f upcomingRun ≡ none → DepthAllows (getD (wordsOf f) 0 0) c
   may-follow (modelFrame id) upcomingRun n =
       let x = not-false _ (none-broken (rules s (modelFrame id) upcomingRun) .0 n .1 .0) in
       let closed = eqb-true (c .depth) 0 (none-open (c .depth) (s .openGroups) (t .depth) ∙ x) in
@@ -295,8 +296,10 @@ module _ (ws used : List ℕ) (i : ℕ) (c : State) (s : check.State) (t : Track
       }
   may-follow malformed upcomingRun n = impossible (cc)
 
-  pub has-capacity : (f : Frame) (upcomingRun : List Point) → frameAt ws i ≡ f → fault s f upcomingRun ≡ none → Capacity (word ws i 0) c
-  has-capacity f upcomingRun e n = rw (kind-here ws i f e (none-broken (rules s f upcomingRun) .0 n .0)) (may-follow f upcomingRun n)
+  pub depth-allows : (f : Frame) (upcomingRun : List Point) → frameAt ws i ≡ f → fault s f upcomingRun ≡ none
+      → DepthAllows (word ws i 0) c
+  depth-allows f upcomingRun e n =
+      rw (kind-here ws i f e (none-broken (rules s f upcomingRun) .0 n .0)) (may-follow f upcomingRun n)
 
 -- After a frame that breaks no rule.
 module _ (ws used : List ℕ) (i : ℕ) (c : State) (s : check.State) (t : Tracks ws used i c s) (used' : List ℕ)

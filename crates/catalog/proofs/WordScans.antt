@@ -1,4 +1,4 @@
--- The code's searches over frames, step by step.
+-- The code's scans over the frames, step by step.
 use mathlib.Core.Path.{_≡_, refl}
 use mathlib.Core.Bool.{Bool, true, false, _&&_, _||_}
 use mathlib.Core.List.{List, [], _∷_, _++_}
@@ -17,7 +17,7 @@ use Rattle.catalog_frames.proofs.FrameKinds as kinds
 -- ---- Numbers of frames
 
 module _ (ws : List ℕ) (first number : ℕ) where
-  -- One frame more.
+  -- The numbers of m + 1 frames are that of the last frame, if it has one, and those of the first m.
   number-more : (m : ℕ)
       → among number (numbersBefore ws first (suc m))
       ≡ hasNumber ws number (first + m) || among number (numbersBefore ws first m)
@@ -50,7 +50,7 @@ module _ (ws : List ℕ) (first number : ℕ) where
 
 -- ---- Runs of points
 
--- The frames from frame j on: that one and those after it, or none.
+-- The frames from frame j on: frame j and those after it, or none.
 pub frames-more : (ws : List ℕ) (j : ℕ) → j < length ws / 8 → framesOnward ws j ≡ frameAt ws j ∷ framesOnward ws (j + 1)
 unfolding framesFrom
 frames-more ws j h =
@@ -61,12 +61,12 @@ pub frames-none : (ws : List ℕ) (j : ℕ) → length ws / 8 ≤ j → framesOn
 unfolding framesFrom
 frames-none ws j h = let e : length ws / 8 - j ≡ 0 = omega arith in rw (e, framesFrom)
 
--- A frame that begins no run still begins none if it is malformed.
+-- If a frame does not begin a run, it does not begin one as a malformed frame either.
 formed-run : (b : Bool) (f : Frame) (fs : List Frame) → run (f ∷ fs) ≡ [] → run (kinds.formed b f ∷ fs) ≡ []
 formed-run true f fs h = h
 formed-run false f fs h = refl
 
--- A frame of another kind than a point's begins no run of points.
+-- A frame that is not a point frame begins no run.
 no-point-here : (ws : List ℕ) (i k : ℕ) → k ≡ word ws i 0 → (k ≡ 3 → ⊥) → (fs : List Frame) → run (frameAt ws i ∷ fs) ≡ []
 no-point-here ws i k kind n fs =
     kinds.by-kind ws i k kind (λ f. run (f ∷ fs) ≡ [])
@@ -76,17 +76,17 @@ no-point-here ws i k kind n fs =
     (λ e. formed-run (zeroWords ws i 1 7) endFrame fs refl)
     (λ x y z w. refl)
 
--- A run begins with the point of a point frame, and nothing else begins one.
+-- A point frame begins a run with its point; any other frame begins none.
 module _ (ws : List ℕ) (j k : ℕ) (h : j < length ws / 8) (q : k ≡ word ws j 0) where
-  pub run-goes : k ≡ 3 → run (framesOnward ws j) ≡ pointWords ws j ∷ run (framesOnward ws (j + 1))
-  run-goes e = rw (frames-more ws j h, kinds.kind-3 ws j k q e)
+  pub run-continues : k ≡ 3 → run (framesOnward ws j) ≡ pointWords ws j ∷ run (framesOnward ws (j + 1))
+  run-continues e = rw (frames-more ws j h, kinds.kind-3 ws j k q e)
 
   pub run-ends : (k ≡ 3 → ⊥) → run (framesOnward ws j) ≡ []
   run-ends n = rw (frames-more ws j h) (no-point-here ws j k q n (framesOnward ws (j + 1)))
 
 -- ---- The runs of the open groups
 
--- A point stands among these where it stands in one of the two parts.
+-- A list has a point if and only if one of its two parts has it.
 pub has-either : (such : Point → Bool) (ps qs : List Point) → hasPoint such (ps ++ qs) ≡ hasPoint such ps || hasPoint such qs
 has-either such [] qs = refl
 has-either such (p ∷ ps) qs = go (such p) (has-either such ps qs)
@@ -97,7 +97,7 @@ has-either such (p ∷ ps) qs = go (such p) (has-either such ps qs)
     go false e = e
 
 module _ (ws firsts : List ℕ) (n k m : ℕ) (e : k ≡ m + 1) where
-  -- One group more.
+  -- The scale factors of m + 1 runs are those of the last run and those of the first m.
   pub scope-more : hasScaleFactor n (runsOf ws firsts k)
       ≡ hasScaleFactor n (run (framesOnward ws (getD firsts m 0))) || hasScaleFactor n (runsOf ws firsts m)
   unfolding runsOf

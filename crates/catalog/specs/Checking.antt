@@ -1,4 +1,4 @@
--- Checking a catalog (document 01, "Checking"): frame by frame, with 1, 2 and 11 around the rules of a frame.
+-- Checking a catalog (document 01, "Checking"): rules 1 and 2, then 3 to 10 frame by frame, then 11 at the end.
 use mathlib.Core.Bool.{true, false}
 use mathlib.Core.List.{List, [], _∷_}
 use mathlib.Core.Option.{none, some}
@@ -9,23 +9,23 @@ use Rattle.catalog_frames.specs.Frames.{Frame, frames}
 use Rattle.catalog.specs.State.{State, start, next}
 use Rattle.catalog.specs.Rules.{noModel, run, fault}
 
--- What checking answers: the number of models, or a refusal's number and its place: the index of the frame, the number of frames
--- for 11, 0 for 1 and 2.
+-- The result of checking: the number of models, or a refusal's number and its place. The place is the index of the frame, the
+-- number of frames for 11, and 0 for 1 and 2.
 pub data Verdict : Type 0 where
   accepted : ℕ → Verdict
   refused : ℕ → ℕ → Verdict
 
--- At the end of the frames, i of them. 11: a model is still open.
+-- The result after the last of i frames. 11: a model is still open.
 abbrev pub verdictAtEnd : State → ℕ → Verdict
 verdictAtEnd s i = elim (noModel (s .openGroups)) [ true ↦ accepted (length (s .ids)) | false ↦ refused 11 i ]
 
--- Frame by frame, from frame i on: the first fault decides.
+-- The result for the frames from frame i on, in order: the first fault decides.
 unfoldable pub checkFrom : State → ℕ → List Frame → Verdict
 checkFrom s i [] = verdictAtEnd s i
 checkFrom s i (f ∷ fs) =
     elim (fault s f (run (f ∷ fs))) [ none ↦ checkFrom (next s f) (suc i) fs | some n ↦ refused n i ]
 
--- From the first frame on.
+-- The result for all frames.
 abbrev pub framesChecked : List ℕ → Verdict
 framesChecked ws = checkFrom start 0 (frames ws)
 

@@ -1,4 +1,4 @@
--- What the code's searches over frames give, by the words that they read.
+-- Internal: what the code's scans over the frames find, by the words that they read; no public contract cites this file.
 use mathlib.Core.Bool.{Bool, true, false, _&&_}
 use mathlib.Core.List.{List, [], _∷_, _++_}
 use Prim.Native.Nat.{ℕ, zero, suc, _+_, _-_, _/_}
@@ -16,15 +16,15 @@ framesOnward ws i = framesFrom ws i (length ws / 8 - i)
 abbrev pub isModel : List ℕ → ℕ → Bool
 isModel ws j = eqb (word ws j 0) 1
 
--- Is frame j the frame of a group or a point (kind 2 or 3)?
+-- Is frame j a group or point frame (kind 2 or 3)?
 abbrev pub isNumbered : List ℕ → ℕ → Bool
 isNumbered ws j = leb 2 (word ws j 0) && leb (word ws j 0) 3
 
--- Is it one, with this number?
+-- Is frame j a group or point frame with this number?
 abbrev pub hasNumber : List ℕ → ℕ → ℕ → Bool
 hasNumber ws number j = isNumbered ws j && eqb number (word ws j 1)
 
--- The numbers of the groups and points of n frames from frame `first` on, the last first.
+-- The numbers of the groups and points in the n frames from frame `first` on, the last one first.
 unfoldable pub numbersBefore : List ℕ → ℕ → ℕ → List ℕ
 numbersBefore ws first zero = []
 numbersBefore ws first (suc n) =
@@ -33,17 +33,17 @@ numbersBefore ws first (suc n) =
       | false ↦ numbersBefore ws first n
     ]
 
--- Is the point of the kind that the reference names?
+-- Is `p` of the kind of point that the reference names?
 abbrev pub isOfKind : Target → Point → Bool
 isOfKind Target.ScaleFactor p = eqb (p .typeCode) sunssf
 isOfKind Target.CountPoint p = eqb (p .typeCode) uint16 && eqb (p .access) readOnly
 
--- Is it, with this number?
+-- Is `p` a point of this kind with the number n?
 abbrev pub isTarget : Target → ℕ → Point → Bool
 isTarget Target.ScaleFactor n p = isScaleFactorPoint n p
 isTarget Target.CountPoint n p = isCountPoint n p
 
--- The runs of points that begin at the first k of these frames, the last first.
+-- The runs of points that begin at the first k frames of the list `firsts`, the last run first.
 unfoldable pub runsOf : List ℕ → List ℕ → ℕ → List Point
 runsOf ws firsts zero = []
 runsOf ws firsts (suc k) = run (framesOnward ws (getD firsts k 0)) ++ runsOf ws firsts k

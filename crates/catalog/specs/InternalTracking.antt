@@ -1,5 +1,5 @@
--- The code's state between two frames, and the rules as the code tests them. `proofs/TrackedState.antt` and
--- `TrackedRules.antt` show that they agree with the state and the rules of the check.
+-- Internal: the code's state between two frames, and the rules as the code tests them; no public contract cites this file.
+-- `proofs/TrackedState.antt` and `TrackedRules.antt` show that they agree with the state and the rules of the definition.
 use mathlib.Core.Path.{_≡_}
 use mathlib.Core.Bool.{Bool, true, false, _||_}
 use mathlib.Core.List.{List, [], _∷_, _++_}
@@ -17,16 +17,17 @@ use Rattle.catalog.specs.Rules.{run, noPoint, scaleFaults, countFaults}
 use Rattle.catalog.specs.InternalScans.{framesOnward, numbersBefore, runsOf}
 use Rattle.catalog.specs.declared.state.State.{State}
 
--- ---- The tests of `frame_rules` by a search of the catalog, before frame i
+-- ---- The tests of `frame_rules` before frame i, with facts found by a search of the catalog
 
 -- The run of points that begins at the first frame inside the open group at level k + 1.
 abbrev pub runIn : List ℕ → State → ℕ → List Point
 runIn ws c k = run (framesOnward ws (getD (c .firsts) k 0))
 
--- The numbers of the groups and points of the open model.
+-- The numbers of the groups and points of the open model, before frame i.
 abbrev pub numbersSoFar : List ℕ → ℕ → State → List ℕ
 numbersSoFar ws i c = numbersBefore ws (getD (c .firsts) 0 0) (i - getD (c .firsts) 0 0)
 
+-- The tests of a model, a group, a point and an end frame. `used` is the set of the model ids so far.
 abbrev pub modelRules : List ℕ → State → ℕ → List (Bool × ℕ)
 modelRules used c id = modelTests (c .depth) (inSet used id) id
 
@@ -43,7 +44,7 @@ pointRules ws i c p =
 abbrev pub endRules : List ℕ → State → List (Bool × ℕ)
 endRules ws c = endTests (c .depth) (c .«has_group») (noPoint (runIn ws c (c .depth - 1)))
 
--- The rules of a frame, where `used` is the set of the ids so far.
+-- The tests of any frame.
 abbrev pub codeRules : List ℕ → List ℕ → ℕ → State → Frame → List (Bool × ℕ)
 codeRules ws used i c (modelFrame id) = modelRules used c id
 codeRules ws used i c (groupFrame h) = groupRules ws i c h
@@ -60,7 +61,7 @@ codeStart =
 
 -- ---- The code's state after frame i
 
--- With a group opened, which may be the top group of a model.
+-- Frame i opens a group, which may be the top group of a model.
 abbrev pub withOpened : State → ℕ → ℕ → Bool → State
 withOpened c i models hasFill =
     record {
@@ -71,7 +72,7 @@ withOpened c i models hasFill =
       «has_fill» = hasFill;
     }
 
--- With the innermost group ended.
+-- Frame i ends the innermost open group.
 abbrev pub withEnded : State → State
 withEnded c =
     record {
@@ -82,7 +83,7 @@ withEnded c =
       «has_fill» = c .«has_fill»;
     }
 
--- By the kind of the frame and, if it is a group frame, its count kind.
+-- Frame i has this kind and, if it is a group frame, this count kind.
 abbrev pub stateOf : ℕ → ℕ → ℕ → State → State
 stateOf kind countKind i c =
     elim (eqb kind 1) [
@@ -93,26 +94,26 @@ stateOf kind countKind i c =
       ]
     ]
 
--- ---- What the code's state is
+-- ---- What holds of the code's state
 
--- Before frame i the numbers of the state stay within bounds.
+-- The bounds of the code's state before frame i.
 pub record Within (i : ℕ) (c : State) : Type 0 where
   pub few : c .models ≤ i
   pub deep : c .depth ≤ 4
   pub four : length (c .firsts) ≡ 4
   pub passed : (k : ℕ) → getD (c .firsts) k 0 ≤ i
 
--- A frame of this kind, if it opens a group, opens at most the fourth; if it ends one, one is open.
-pub record Capacity (kind : ℕ) (c : State) : Type 0 where
+-- A frame of this kind opens no fifth level, and ends a group only if one is open.
+pub record DepthAllows (kind : ℕ) (c : State) : Type 0 where
   pub opens : kind ≤ 2 → c .depth < 4
   pub ends : kind ≡ 4 → 1 ≤ c .depth
 
--- What is left, from frame i on, of the run of the innermost open group: nothing once a group is in it.
+-- The rest, from frame i on, of the run of points of the innermost open group. It is empty once a group is in that group.
 abbrev pub upcomingRunAt : List ℕ → ℕ → Bool → List Point
 upcomingRunAt ws i hasGroup = elim hasGroup [ true ↦ [] | false ↦ run (framesOnward ws i) ]
 
--- Each open group's run of points is its points so far, followed, for the innermost, by what is ahead. A group is in each of the
--- others, and in the innermost if `hasGroup` holds.
+-- The run that begins at an open group's first frame is its points so far, followed by `upcomingRun` for the innermost group.
+-- The innermost group has a group in it if `hasGroup` holds, the others always.
 abbrev pub Opens : List ℕ → List ℕ → Bool → List Point → List OpenGroup → Type 0
 Opens ws firsts hasGroup upcomingRun [] = Unit {0}
 Opens ws firsts hasGroup upcomingRun (l ∷ ls) =
@@ -120,7 +121,7 @@ Opens ws firsts hasGroup upcomingRun (l ∷ ls) =
     × (l .hasGroup ≡ hasGroup)
     × Opens ws firsts true [] ls
 
--- The code's state and its set of ids agree with a state of the check before frame i.
+-- Before frame i, the code's state `c` and its set `used` of model ids agree with the state `s` of the definition.
 pub record Tracks (ws used : List ℕ) (i : ℕ) (c : State) (s : check.State) : Type 0 where
   pub within : Within i c
   pub models : c .models ≡ length (s .ids)

@@ -1,4 +1,4 @@
--- The rules 3 to 10 of a frame (document 01, "Checking"), in their order: the first that is broken decides.
+-- Rules 3 to 10 for a frame (document 01, "Checking"), in order: the first broken rule decides.
 use mathlib.Core.Bool.{Bool, true, false, not, _&&_, _||_}
 use mathlib.Core.List.{List, [], _∷_, _++_}
 use mathlib.Core.Option.{Option}
@@ -12,7 +12,7 @@ use Rattle.catalog_frames.specs.Frames.{uint16, sunssf, readOnly}
 use Rattle.frame_rules.specs.FrameTests.{hasBadType, scaleTests, countTests}
 use Rattle.catalog.specs.State.{OpenGroup, State}
 
--- ---- What the rules look at (where a rule behind 4 needs an open model, 4 has decided without one)
+-- ---- What the rules look at. Rules after 4 may assume an open model; without one, rule 4 has already refused.
 
 -- No model is open.
 abbrev pub noModel : List OpenGroup → Bool
@@ -24,12 +24,12 @@ abbrev pub inTop : List OpenGroup → Bool
 inTop [] = false
 inTop (l ∷ ls) = noModel ls
 
--- A group stands directly in the innermost open one.
+-- A group is directly in the innermost open one.
 abbrev pub afterGroup : List OpenGroup → Bool
 afterGroup [] = false
 afterGroup (l ∷ ls) = l .hasGroup
 
--- The points of the unbroken run of point frames that begins these frames.
+-- The points of the unbroken run of point frames at the start of these frames.
 abbrev pub run : List Frame → List Point
 run [] = []
 run (modelFrame id ∷ fs) = []
@@ -38,44 +38,44 @@ run (pointFrame p ∷ fs) = p ∷ run fs
 run (endFrame ∷ fs) = []
 run (malformed ∷ fs) = []
 
--- The points of these groups.
+-- The points so far of all these groups.
 abbrev pub pointsOf : List OpenGroup → List Point
 pointsOf [] = []
 pointsOf (l ∷ ls) = l .points ++ pointsOf ls
 
--- The points that a scale reference may name: those of the same unbroken run of point frames, so far and from here on,
+-- The points that a scale reference may name (rule 8): those of the same unbroken run of point frames, earlier and later ones,
 -- and those directly in an enclosing group.
 abbrev pub pointsInScope : List OpenGroup → List Point → List Point
 pointsInScope [] upcomingRun = upcomingRun
 pointsInScope (l ∷ ls) upcomingRun = (l .points ++ upcomingRun) ++ pointsOf ls
 
--- The points of the top group.
+-- The points so far of the top group, which is the last of the open groups.
 abbrev pub topPoints : List OpenGroup → List Point
 topPoints [] = []
 topPoints (l ∷ ls) = elim (noModel ls) [ true ↦ l .points | false ↦ topPoints ls ]
 
--- Is one of these points such a point?
+-- Does one of the points satisfy `such`?
 abbrev pub hasPoint : (Point → Bool) → List Point → Bool
 hasPoint such [] = false
 hasPoint such (p ∷ ps) = such p || hasPoint such ps
 
--- Is this a sunssf point of that number?
+-- Is `p` a sunssf point with the number n?
 abbrev pub isScaleFactorPoint : ℕ → Point → Bool
 isScaleFactorPoint n p = eqb (p .number) n && eqb (p .typeCode) sunssf
 
--- Does a sunssf point of this number stand among these?
+-- Is there a sunssf point with the number n among `ps`?
 abbrev pub hasScaleFactor : ℕ → List Point → Bool
 hasScaleFactor n ps = hasPoint (isScaleFactorPoint n) ps
 
--- Is this a uint16 point of that number with access R?
+-- Is `p` a uint16 point with the number n and access R?
 abbrev pub isCountPoint : ℕ → Point → Bool
 isCountPoint n p = eqb (p .number) n && eqb (p .typeCode) uint16 && eqb (p .access) readOnly
 
--- Does a uint16 point of this number with access R stand among these?
+-- Is there a uint16 point with the number n and access R among `ps`?
 abbrev pub hasCountPoint : ℕ → List Point → Bool
 hasCountPoint n ps = hasPoint (isCountPoint n) ps
 
--- ---- The rules: each says of a frame, in a state, whether it is broken
+-- ---- The rules: does this frame, in this state, break the rule?
 
 -- 3: the kind is not 1–4, or an unnamed word is not zero.
 abbrev pub isMalformed : Frame → Bool
@@ -85,8 +85,8 @@ isMalformed (pointFrame p) = false
 isMalformed endFrame = false
 isMalformed malformed = true
 
--- 4: a model frame inside a model; any other with no model open; a point after a group in the same group; a group directly in the
--- top group after a fill group.
+-- 4: a model frame inside a model; any other frame with no model open; a point after a group in the same group; a group directly
+-- in the top group after a fill group.
 abbrev pub hasBadPlace : State → Frame → Bool
 hasBadPlace s (modelFrame id) = not (noModel (s .openGroups))
 hasBadPlace s (groupFrame h) = noModel (s .openGroups) || inTop (s .openGroups) && s .hasFill
@@ -94,7 +94,7 @@ hasBadPlace s (pointFrame p) = noModel (s .openGroups) || afterGroup (s .openGro
 hasBadPlace s endFrame = noModel (s .openGroups)
 hasBadPlace s malformed = false
 
--- 5: a fifth level; the top group is level 1.
+-- 5: a group that would be at a fifth level. The top group is level 1.
 abbrev pub isTooDeep : State → Frame → Bool
 isTooDeep s (modelFrame id) = false
 isTooDeep s (groupFrame h) = leb 4 (length (s .openGroups))
@@ -110,14 +110,14 @@ hasBadNumber s (pointFrame p) = eqb (p .number) 0 || among (p .number) (s .numbe
 hasBadNumber s endFrame = false
 hasBadNumber s malformed = false
 
--- 7: an unknown type or wrong size; group type, mandatory or access not 0 or 1. It is `hasBadType` of `frame_rules`.
+-- 7: an unknown type or wrong size; group type, mandatory or access not 0 or 1. This is `hasBadType` of `frame_rules`.
 
--- 8, clause by clause, of a point and the points in its reach.
+-- The clauses of rule 8 for point `p`, given the points in scope.
 abbrev pub scaleFaults : List Point → Point → List Bool
 scaleFaults inScope p = scaleTests (hasScaleFactor (p .scale) inScope) p
 
--- 8: a scale kind over 2; no scale factor but word 5 not 0; a scale factor on a type that may not carry one; a fixed one outside
--- −10 to 10; a reference that no sunssf point in reach answers.
+-- 8: a scale kind over 2; kind 0 with word 5 not 0; kind 1 or 2 on a type that may not be scaled; a fixed scale factor outside
+-- −10 to 10; kind 2 that names no sunssf point in scope.
 abbrev pub hasBadScale : State → List Point → Frame → Bool
 hasBadScale s upcomingRun (modelFrame id) = false
 hasBadScale s upcomingRun (groupFrame h) = false
@@ -125,11 +125,11 @@ hasBadScale s upcomingRun (pointFrame p) = oneHolds (scaleFaults (pointsInScope 
 hasBadScale s upcomingRun endFrame = false
 hasBadScale s upcomingRun malformed = false
 
--- 9, clause by clause, of a group: `top` is the points of the top group, `direct` whether the group stands directly in it.
+-- The clauses of rule 9 for a group: `top` is the points of the top group, `direct` says whether the group is directly in it.
 abbrev pub countFaults : List Point → Bool → Head → List Bool
 countFaults top direct h = countTests (hasCountPoint (h .count) top) direct h
 
--- 9: a count kind over 2; a constant 0; a count point that is no uint16 R point directly in the top group; fill outside the top
+-- 9: a count kind over 2; a constant 0; kind 1 that names no uint16 R point directly in the top group; fill outside the top
 -- group, or with word 4 not 0.
 abbrev pub hasBadCount : State → Frame → Bool
 hasBadCount s (modelFrame id) = false
@@ -138,12 +138,12 @@ hasBadCount s (pointFrame p) = false
 hasBadCount s endFrame = false
 hasBadCount s malformed = false
 
--- Has the group no point of its own?
+-- Is there no point?
 abbrev pub noPoint : List Point → Bool
 noPoint [] = true
 noPoint (p ∷ ps) = false
 
--- 10: a lower group ends without a point of its own, or a top group that holds nothing ends.
+-- 10: the end of a lower group with no point of its own, or of a top group with neither point nor group.
 abbrev pub lacksContent : List OpenGroup → Frame → Bool
 lacksContent ls (modelFrame id) = false
 lacksContent ls (groupFrame h) = false
@@ -154,7 +154,7 @@ lacksContent ls malformed = false
 
 -- ---- The rules in order
 
--- The rules of a frame in their order, each with its number. `upcomingRun` is the run of points from the frame on.
+-- Each rule for a frame, in order: whether it is broken, and its number. `upcomingRun` is the run of points from this frame on.
 abbrev pub rules : State → Frame → List Point → List (Bool × ℕ)
 rules s f upcomingRun =
     (isMalformed f, 3)
@@ -167,6 +167,6 @@ rules s f upcomingRun =
     ∷ (lacksContent (s .openGroups) f, 10)
     ∷ []
 
--- The number of the rule that a frame breaks, if it breaks one.
+-- The number of the first rule that the frame breaks, if it breaks one.
 abbrev pub fault : State → Frame → List Point → Option ℕ
 fault s f upcomingRun = firstBroken (rules s f upcomingRun)

@@ -5,13 +5,13 @@ use Prim.Native.Nat.{ℕ}
 use lib.Dec.{eqb}
 use Rattle.catalog_frames.specs.Frames.{Point, Frame, modelFrame, groupFrame, pointFrame, endFrame, malformed, fill}
 
--- An open group: its own points so far, in order, and whether a group stands directly in it.
+-- An open group: its own points so far, in order, and whether a group is directly in it.
 pub record OpenGroup : Type 0 where
   pub points : List Point
   pub hasGroup : Bool
 
--- Between two frames: the ids of the models so far; the numbers used in the open model; whether a fill group stands in its top
--- group; the open groups, the innermost first. No open group: no open model.
+-- The ids of the models so far; the numbers used in the open model; whether a fill group is in its top group; the open groups,
+-- the innermost first. If no group is open, no model is.
 pub record State : Type 0 where
   pub ids : List ℕ
   pub numbers : List ℕ
@@ -22,26 +22,26 @@ pub record State : Type 0 where
 abbrev pub start : State
 start = record { ids = []; numbers = []; hasFill = false; openGroups = [] }
 
--- A group that has just been opened.
+-- A newly opened group.
 abbrev pub opened : OpenGroup
 opened = record { points = []; hasGroup = false }
 
--- The open groups behind a point frame: the innermost has one point more.
+-- The open groups after a point frame: the innermost has one more point.
 abbrev pub withPoint : Point → List OpenGroup → List OpenGroup
 withPoint p [] = []
 withPoint p (l ∷ ls) = record { points = l .points ++ (p ∷ []); hasGroup = l .hasGroup } ∷ ls
 
--- Behind a group frame: a group is open in the innermost, which has a group now.
+-- After a group frame: a new group is open in the innermost one, which now has a group.
 abbrev pub withGroup : List OpenGroup → List OpenGroup
 withGroup [] = []
 withGroup (l ∷ ls) = opened ∷ record { points = l .points; hasGroup = true } ∷ ls
 
--- Behind an end frame: the innermost has ended.
+-- After an end frame: the innermost group is closed.
 abbrev pub closed : List OpenGroup → List OpenGroup
 closed [] = []
 closed (l ∷ ls) = ls
 
--- The state behind a frame that breaks no rule. (A fill group stands in the top group, by rule 9.)
+-- The state after a frame that breaks no rule. (By rule 9, every fill group is directly in the top group.)
 abbrev pub next : State → Frame → State
 next s (modelFrame id) = record { ids = id ∷ s .ids; numbers = []; hasFill = false; openGroups = opened ∷ [] }
 next s (groupFrame h) =

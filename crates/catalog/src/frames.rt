@@ -1,4 +1,4 @@
-// The words of the frames of a catalog.
+// The words of a catalog's frames.
 use catalog_frames::WORDS;
 ghost use mathlib.Core.Path.{_≡_};
 ghost use Prim.Native.Nat.{_/_, _<_};

@@ -1,4 +1,4 @@
-// Checks a catalog of model definitions (refusals 1 to 11). `check` takes any words and writes nothing.
+// Checks a catalog of model definitions (refusals 1 to 11). `check` accepts any words and writes nothing.
 mod frames;
 mod rules;
 mod scans;
@@ -31,7 +31,7 @@ ghost use lib.ListN.{length};
 ghost use Rattle.catalog.specs.Checking.{checked, framesChecked};
 ghost use Rattle.catalog.specs.CodeTypes.{toSpecChecked};
 
-// The most frames of a catalog.
+// The largest number of frames in a catalog.
 const FRAMES: usize = 4096;
 
 // What `check` returns: the number of models, or the number of a refusal (1 to 11) and its place: the index of the
@@ -60,8 +60,8 @@ pub fn check(catalog: &[u16]) -> Checked
     check_frames(catalog)
 }
 
-// Checks the frames in order: the first fault decides, and at the end no model may be open. The work is linear in the
-// frames: each is read once itself, and a few times more with its model, its run of points and its group's end.
+// Checks the frames in order: the first fault decides, and at the end no model may be open. The time is linear in the
+// number of frames: each is read for its own rules, and a few more times with its model, its run of points, its group.
 fn check_frames(catalog: &[u16]) -> Checked
     requires { ⌜ length (now catalog) / 8 ≤ 4096 ⌝ }
     ensures { λ r. ⌜ toSpecChecked r ≡ framesChecked (now (catalog .entry)) ⌝ }

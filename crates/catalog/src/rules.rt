@@ -1,4 +1,4 @@
-// The first rule, 3 to 10, that a frame breaks: each kind of frame has its tests in `frame_rules`.
+// The first rule, 3 to 10, that a frame breaks. `frame_rules` has the tests for each kind of frame.
 use crate::frames::word_of;
 use crate::state::State;
 use crate::state::innermost;
@@ -21,8 +21,8 @@ ghost use Rattle.catalog.specs.InternalTracking.{Within, codeRules};
 ghost use Rattle.catalog.specs.InternalMarks.{Indexed};
 
 // The number of the first rule that frame i breaks, or 0 if it breaks none. `ids` are the model ids so far, `numbers`
-// the numbers used in the open model, `scales` the scale factors in scope, `uncounted` the first group whose count no
-// point gives.
+// the numbers used in the open model, `scales` the scale factors in scope, `uncounted` the first group frame that names
+// a count point that is not in the top group.
 pub(crate) fn fault_at(
     catalog: &[u16],
     ids: &[u64; SET_WORDS],

@@ -1,4 +1,4 @@
-// Walks over frames that mark what they find in a set. Each reads every frame of its part at most once.
+// Scans over the frames that record in a set what they find. A scan reads each frame at most once.
 use crate::frames::word_of;
 use catalog_frames::COUNT_BY_POINT;
 use catalog_frames::END;
@@ -22,7 +22,7 @@ ghost use Rattle.catalog_frames.specs.InternalWords.{pointWords};
 ghost use Rattle.catalog.specs.InternalScans.{hasNumber, isOfKind, isTarget, numbersBefore};
 ghost use Rattle.catalog.specs.InternalMarks.{AfterModelFrame, BlankAtModel, Counted, ScalesAfter, firstStop, inRun, stops, unchanged};
 
-// The points that a reference names.
+// The kind of point that a reference names.
 pub(crate) enum Target {
     ScaleFactor,
     CountPoint,
@@ -30,7 +30,7 @@ pub(crate) enum Target {
 
 // ---- The numbers used in a model
 
-// Marks the number of frame j, if it is the frame of a group or a point.
+// If frame j is a group or point frame: puts its number into the set, or takes it out if not `present`.
 pub(crate) fn mark_number(catalog: &[u16], numbers: &mut [u64; SET_WORDS], j: usize, present: bool)
     requires { ⌜ j < length (now catalog) / 8 ⌝ }
     ensures { λ _. ⌜ Marks (now (numbers .entry)) (now (numbers .exit)) (λ n. hasNumber (now (catalog .entry)) n j) present ⌝ }
@@ -76,7 +76,7 @@ fn is_of_kind(catalog: &[u16], j: usize, target: Target) -> bool
     }
 }
 
-// Marks the number of the point of frame j, if it is of that kind.
+// If the point of frame j is of the kind `target`: puts its number into the set, or takes it out if not `present`.
 fn mark_point(catalog: &[u16], set: &mut [u64; SET_WORDS], j: usize, target: Target, present: bool)
     requires { ⌜ j < length (now catalog) / 8 ⌝ }
     ensures { λ _. ⌜ Marks (now (set .entry)) (now (set .exit)) (λ n. isTarget target n (pointWords (now (catalog .entry)) j)) present ⌝ }
@@ -87,7 +87,7 @@ fn mark_point(catalog: &[u16], set: &mut [u64; SET_WORDS], j: usize, target: Tar
     mark(set, word_of(catalog, j, 1), present)
 }
 
-// Marks the numbers of the points of that kind in the unbroken run of point frames from frame `from` on.
+// Does the same for each point of the unbroken run of point frames from frame `from` on.
 fn mark_run(catalog: &[u16], set: &mut [u64; SET_WORDS], from: usize, target: Target, present: bool)
     ensures { λ _. ⌜ Marks (now (set .entry)) (now (set .exit)) (inRun (now (catalog .entry)) from target) present ⌝ }
 {
@@ -102,8 +102,8 @@ fn mark_run(catalog: &[u16], set: &mut [u64; SET_WORDS], from: usize, target: Ta
     }
 }
 
-// The scale factors in scope after frame i: with those of the run that a model or group begins with, and without those
-// of the group that ends. `inner` is the first frame inside the innermost open group.
+// The scale factors in scope after frame i. A model or group frame adds those of the run of points after it; an end
+// frame removes those of the group that ends. `inner` is the first frame inside the innermost open group.
 pub(crate) fn mark_scales(catalog: &[u16], scales: &mut [u64; SET_WORDS], i: usize, inner: usize)
     requires { ⌜ i < length (now catalog) / 8 ⌝ }
     ensures { λ _. ⌜ ScalesAfter (now (catalog .entry)) i inner (now (scales .entry)) (now (scales .exit)) ⌝ }
@@ -118,9 +118,9 @@ pub(crate) fn mark_scales(catalog: &[u16], scales: &mut [u64; SET_WORDS], i: usi
     mark_run(catalog, scales, i + 1, Target::ScaleFactor, true)
 }
 
-// ---- Counts that are given by a point
+// ---- Groups whose count a point gives
 
-// Is frame j a model frame, or a group frame whose count is given by a point that is not in the set?
+// Is frame j a model frame, or a group frame that names a count point that is not in the set `counts`?
 fn is_stop(catalog: &[u16], counts: &[u64; SET_WORDS], j: usize) -> bool
     requires { ⌜ j < length (now catalog) / 8 ⌝ }
     ensures { λ r. ⌜ r ≡ stops (now (catalog .entry)) (now (counts .entry)) j ⌝ }
@@ -138,7 +138,7 @@ fn is_stop(catalog: &[u16], counts: &[u64; SET_WORDS], j: usize) -> bool
     !is_in(counts, word_of(catalog, j, 4))
 }
 
-// The first such frame from frame `from` on, or the number of frames.
+// The first frame from frame `from` on where `is_stop` holds, or the number of frames.
 fn first_stop(catalog: &[u16], counts: &[u64; SET_WORDS], from: usize) -> usize
     requires { ⌜ from ≤ length (now catalog) / 8 ⌝ }
     ensures { λ r. ⌜ r ≡ firstStop (now (catalog .entry)) (now (counts .entry)) from (length (now (catalog .entry)) / 8 - from) ⌝ }
@@ -154,8 +154,8 @@ fn first_stop(catalog: &[u16], counts: &[u64; SET_WORDS], from: usize) -> usize
     j
 }
 
-// The first group of the model whose top group begins at frame `from` that is counted by a point and by no point of the
-// top group; if it has none, a frame after the model. The set, which is empty, is used and is empty again.
+// The first group frame that names a count point that is not in the top group, in the model whose top group begins at
+// frame `from`. If there is none, a frame past the model. The set is empty before the call and after it.
 fn first_uncounted(catalog: &[u16], set: &mut [u64; SET_WORDS], from: usize) -> usize
     requires { ⌜ from ≤ length (now catalog) / 8 ⌝ }
     requires { ⌜ Blank (now set) ⌝ }
@@ -168,8 +168,8 @@ fn first_uncounted(catalog: &[u16], set: &mut [u64; SET_WORDS], from: usize) -> 
     uncounted
 }
 
-// A model that begins at frame i: its id is used, the numbers of the model before, whose frames begin at `first`, no
-// longer are, and the first uncounted group is that of this model. Any other frame changes nothing.
+// If frame i is a model frame: records its id, removes the numbers of the previous model, whose top group begins at
+// frame `first`, and returns the first uncounted group of the new model. Any other frame changes nothing.
 pub(crate) fn begin_model(
     catalog: &[u16],
     ids: &mut [u64; SET_WORDS],

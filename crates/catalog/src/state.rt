@@ -11,10 +11,11 @@ ghost use Prim.Native.Nat.{_-_, _/_, _<_, _≤_};
 ghost use lib.Dec.{eqb};
 ghost use lib.ListN.{length, getD};
 ghost use Rattle.catalog_frames.specs.Frames.{word, fill};
-ghost use Rattle.catalog.specs.InternalTracking.{Capacity, codeStart, withOpened, withEnded, stateOf};
+ghost use Rattle.catalog.specs.InternalTracking.{DepthAllows, codeStart, withOpened, withEnded, stateOf};
 
-// The number of models so far, an open one included; the number of open groups, and the first frame inside each, that of
-// the top group first; whether a group is directly in the innermost; whether a fill group is in the top group.
+// `models` is the number of models so far, an open one included; `depth` the number of open groups; `firsts` the first
+// frame inside each open group, the top group's first. `has_group` says whether a group is directly in the innermost
+// open group, `has_fill` whether a fill group is in the top group.
 pub(crate) struct State {
     pub(crate) models: usize,
     pub(crate) depth: usize,
@@ -36,7 +37,7 @@ pub(crate) fn at_start() -> State
     }
 }
 
-// The first frame inside the innermost open group. With none open, that of the last top group.
+// The first frame inside the innermost open group. If none is open, the first frame inside the last top group.
 pub(crate) fn innermost(state: State) -> usize
     requires { ⌜ state .depth ≤ 4 ⌝ }
     ensures { λ r. ⌜ r ≡ getD (state .firsts) (state .depth - 1) 0 ⌝ }
@@ -50,7 +51,7 @@ pub(crate) fn innermost(state: State) -> usize
 // The state after frame i, which breaks no rule.
 pub(crate) fn after(catalog: &[u16], i: usize, state: State) -> State
     requires { ⌜ (i < length (now catalog) / 8) × (i < 4096) × (state .models ≤ i) ⌝ }
-    requires { ⌜ Capacity (word (now catalog) i 0) state ⌝ }
+    requires { ⌜ DepthAllows (word (now catalog) i 0) state ⌝ }
     ensures { λ r. ⌜ r ≡ stateOf (word (now (catalog .entry)) i 0) (word (now (catalog .entry)) i 3) i state ⌝ }
 {
     let kind = word_of(catalog, i, 0);
@@ -60,15 +61,15 @@ pub(crate) fn after(catalog: &[u16], i: usize, state: State) -> State
             state,
             i,
             state.models,
-            is_fill_in(state.has_fill, word_of(catalog, i, 3)),
+            has_fill_after(state.has_fill, word_of(catalog, i, 3)),
         ),
         END => ended(state),
         _ => state,
     }
 }
 
-// Is a fill group in the top group, once a group of this count kind is opened?
-fn is_fill_in(has_fill: bool, count_kind: u16) -> bool
+// Is a fill group in the top group after a group frame with this count kind?
+fn has_fill_after(has_fill: bool, count_kind: u16) -> bool
     ensures { λ r. ⌜ r ≡ «has_fill» || eqb «count_kind» fill ⌝ }
 {
     if has_fill {
@@ -77,7 +78,7 @@ fn is_fill_in(has_fill: bool, count_kind: u16) -> bool
     count_kind == FILL
 }
 
-// A group is opened in the innermost open one, or the top group of a model.
+// The state after frame i opens a group: a group in the innermost open one, or the top group of a model.
 fn opened(state: State, i: usize, models: usize, has_fill: bool) -> State
     requires { ⌜ (i < 4096) × (state .depth < 4) ⌝ }
     ensures { λ r. ⌜ r ≡ withOpened state i models «has_fill» ⌝ }
@@ -94,7 +95,7 @@ fn opened(state: State, i: usize, models: usize, has_fill: bool) -> State
     }
 }
 
-// The innermost open group ends, so that a group is in the one around it.
+// The state after the innermost open group ends. The group around it now has a group.
 fn ended(state: State) -> State
     requires { ⌜ 1 ≤ state .depth ⌝ }
     ensures { λ r. ⌜ r ≡ withEnded state ⌝ }

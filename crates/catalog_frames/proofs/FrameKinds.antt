@@ -1,4 +1,4 @@
--- The frame of words by its kind, one law for each way to read it.
+-- Frame i by its kind: one law for each way that the code can read it.
 use mathlib.Core.Path.{_≡_, refl, sym, ap, _∙_}
 use mathlib.Core.Bool.{Bool, true, false, not}
 use mathlib.Core.List.{List}
@@ -12,12 +12,12 @@ use Rattle.catalog_frames.specs.InternalWords.{zeroWords, namedWords, he
 use Rattle.catalog_frames.specs.declared.Head.{Head}
 use Rattle.catalog_frames.specs.declared.Point.{Point}
 
--- `f` if the words that a kind does not name are 0.
+-- `f` if `b` is true (the words that the kind does not name are 0), else malformed.
 abbrev pub formed : Bool → Frame → Frame
 formed b f = elim b [ true ↦ f | false ↦ malformed ]
 
 module _ (ws : List ℕ) (i k : ℕ) (kind : k ≡ word ws i 0) where
-  -- What holds of the frame of each kind holds of the frame.
+  -- A property that holds in the case of each kind holds of frame i.
   pub by-kind : (P : Frame → Type 0) → (k ≡ 1 → P (formed (zeroWords ws i 2 6) (modelFrame (word ws i 1))))
       → (k ≡ 2 → P (formed (zeroWords ws i 5 3) (groupFrame (headWords ws i)))) → (k ≡ 3 → P (pointFrame (pointWords ws i)))
       → (k ≡ 4 → P (formed (zeroWords ws i 1 7) endFrame))
@@ -41,7 +41,7 @@ module _ (ws : List ℕ) (i k : ℕ) (kind : k ≡ word ws i 0) where
   unfolding frameOf
   kind-3 h = rw (← kind, h)
 
-  -- By whether the words that the kind does not name are 0, which is `all-zero`.
+  -- `all-zero` says whether the words that the kind does not name are 0.
   module _ (from : ℕ) (named : from ≡ namedWords k) (all-zero : Bool) (q : all-zero ≡ zeroWords ws i from (8 - from)) where
     pub malformed-here : not all-zero ≡ true → frameAt ws i ≡ malformed
     unfolding zeroWords
@@ -51,7 +51,7 @@ module _ (ws : List ℕ) (i k : ℕ) (kind : k ≡ word ws i 0) where
         (λ x y z w. refl)
 
     module _ (t : not all-zero ≡ false) where
-      -- The frame, if it is formed.
+      -- Frame i is `f` if its unnamed words are 0.
       is-formed : (b : Bool) (f : Frame) → frameAt ws i ≡ formed b f → b ≡ true → frameAt ws i ≡ f
       is-formed b f e z = e ∙ ap (λ b. formed b f) z
 

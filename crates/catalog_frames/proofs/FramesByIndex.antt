@@ -20,12 +20,12 @@ from-beyond ws i zero j h = refl
 from-beyond ws i (suc n) zero h = absurd (omega arith)
 from-beyond ws i (suc n) (suc j) h = from-beyond ws (suc i) n j (omega arith)
 
--- Frame i, where there are more frames than i.
+-- If there is a whole frame i, `frameIn` is that frame.
 pub frame-within : (ws : List ℕ) (i : ℕ) → i < length ws / 8 → frameIn ws i ≡ frameAt ws i
 frame-within ws i h =
     let e : 0 + i ≡ i = omega arith in
     from-within ws 0 (length ws / 8) i h ∙ ap (λ k. frameAt ws k) e
 
--- No frame, where there are not.
+-- If there is none, `frameIn` is malformed.
 pub frame-beyond : (ws : List ℕ) (i : ℕ) → length ws / 8 ≤ i → frameIn ws i ≡ malformed
 frame-beyond ws i h = from-beyond ws 0 (length ws / 8) i h

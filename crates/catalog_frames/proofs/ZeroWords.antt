@@ -1,4 +1,4 @@
--- Words of a frame that are 0, word by word.
+-- `zeroWords` step by step: no word left, a word that is not 0, a word that is 0.
 use mathlib.Core.Path.{_≡_}
 use mathlib.Core.Bool.{true, false}
 use mathlib.Core.List.{List}
@@ -19,6 +19,6 @@ module _ (ws : List ℕ) (i k n : ℕ) where
     unfolding zeroWords
     zero-stops h = rw (e, add-one m, zeroWords, ← q, ne-eqb w 0 h)
 
-    pub zero-goes : w ≡ 0 → zeroWords ws i (k + 1) m ≡ zeroWords ws i k n
+    pub zero-continues : w ≡ 0 → zeroWords ws i (k + 1) m ≡ zeroWords ws i k n
     unfolding zeroWords
-    zero-goes h = rw (e, add-one m, zeroWords, ← q, eq-eqb w 0 h, add-one k)
+    zero-continues h = rw (e, add-one m, zeroWords, ← q, eq-eqb w 0 h, add-one k)

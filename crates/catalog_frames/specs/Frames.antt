@@ -1,4 +1,4 @@
--- The frames of a catalog (document 01, "The book"): eight words each, and what the words are called.
+-- The frames of a catalog (document 01, "The book"): eight words each, and the names of the words.
 use mathlib.Core.Bool.{true, false}
 use mathlib.Core.List.{List, [], _∷_, _++_}
 use Prim.Native.Nat.{ℕ, zero, suc, _+_, _*_, _/_}
@@ -6,7 +6,7 @@ use lib.Dec.{eqb}
 use lib.ListN.{length, getD}
 use Rattle.registers.specs.Registers.{allZero}
 
--- Words 1 to 7 of a point frame. `scale` is the fixed scale factor, as a register holds it, or the number of the point that
+-- Words 1 to 7 of a point frame. `scale` is the fixed scale factor (16-bit two's complement) or the number of the point that
 -- gives it.
 pub record Point : Type 0 where
   pub number : ℕ
@@ -24,8 +24,7 @@ pub record Head : Type 0 where
   pub countKind : ℕ
   pub count : ℕ
 
--- A frame by its kind. It is malformed (rule 3) where its kind is none of the four, or a word that its kind does not name is
--- not 0.
+-- A frame by its kind. It is malformed (rule 3) if its kind is not 1 to 4, or a word that its kind does not name is not 0.
 pub data Frame : Type 0 where
   modelFrame : ℕ → Frame
   groupFrame : Head → Frame
@@ -43,7 +42,7 @@ fixedScale = 1
 abbrev pub scaleByPoint : ℕ
 scaleByPoint = 2
 
--- The count kinds: a constant, the value of a point, as many as fill the model.
+-- The count kinds: a constant, the value of a point, fill (repeated to fill the model's length).
 abbrev pub constantCount : ℕ
 constantCount = 0
 
@@ -53,8 +52,8 @@ countByPoint = 1
 abbrev pub fill : ℕ
 fill = 2
 
--- The type codes that checking and listing ask for: a pad, a count point's, a scale factor's; and the access that a count point
--- has (document 01: R).
+-- The type codes that checking and listing test for (a pad, a count point, a scale factor), and the access of a count point
+-- (document 01: R).
 abbrev pub pad : ℕ
 pad = 6
 
@@ -67,11 +66,11 @@ sunssf = 8
 abbrev pub readOnly : ℕ
 readOnly = 0
 
--- The frame, if these words, which its kind does not name, are 0.
+-- Frame `f` if the words `ws`, which its kind does not name, are all 0; else malformed.
 abbrev pub ifZero : List ℕ → Frame → Frame
 ifZero ws f = elim (allZero ws) [ true ↦ f | false ↦ malformed ]
 
--- The frame of eight words: its kind (1 model, 2 group, 3 point, 4 end) and words 1 to 7, a to g.
+-- The frame with these eight words: its kind (1 model, 2 group, 3 point, 4 end), then words 1 to 7, called a to g.
 unfoldable pub frameOf : ℕ → ℕ → ℕ → ℕ → ℕ → ℕ → ℕ → ℕ → Frame
 frameOf kind a b c d e f g =
     elim (eqb kind 1) [
@@ -88,7 +87,7 @@ frameOf kind a b c d e f g =
       ]
     ]
 
--- Word k of frame i (0 beyond the words, which `frames` does not reach).
+-- Word k of frame i. Past the end of the words it is 0; `frames` does not read there.
 abbrev pub word : List ℕ → ℕ → ℕ → ℕ
 word ws i k = getD ws (8 * i + k) 0
 
@@ -97,16 +96,16 @@ abbrev pub frameAt : List ℕ → ℕ → Frame
 frameAt ws i =
     frameOf (word ws i 0) (word ws i 1) (word ws i 2) (word ws i 3) (word ws i 4) (word ws i 5) (word ws i 6) (word ws i 7)
 
--- n frames from frame i on.
+-- The n frames from frame i on.
 unfoldable pub framesFrom : List ℕ → ℕ → ℕ → List Frame
 framesFrom ws i zero = []
 framesFrom ws i (suc n) = frameAt ws i ∷ framesFrom ws (suc i) n
 
--- All whole frames.
+-- All whole frames of the words.
 abbrev pub frames : List ℕ → List Frame
 frames ws = framesFrom ws 0 (length ws / 8)
 
--- Frame i of these; malformed where there are fewer.
+-- Frame i of the words, or malformed if they have no whole frame i.
 abbrev pub frameIn : List ℕ → ℕ → Frame
 frameIn ws i = getD (frames ws) i malformed
 
@@ -118,7 +117,7 @@ wordsOf (pointFrame p) = 3 ∷ p .number ∷ p .typeCode ∷ p .size ∷ p .scal
 wordsOf endFrame = 4 ∷ 0 ∷ 0 ∷ 0 ∷ 0 ∷ 0 ∷ 0 ∷ 0 ∷ []
 wordsOf malformed = 0 ∷ 0 ∷ 0 ∷ 0 ∷ 0 ∷ 0 ∷ 0 ∷ 0 ∷ []
 
--- The words of a catalog of these frames.
+-- The words of a catalog with the frames `fs`.
 unfoldable pub wordsOfAll : List Frame → List ℕ
 wordsOfAll [] = []
 wordsOfAll (f ∷ fs) = wordsOf f ++ wordsOfAll fs

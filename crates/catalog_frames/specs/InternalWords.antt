@@ -1,11 +1,11 @@
--- What the code reads of a frame, by its words.
+-- Internal: what the private functions read of a frame, word by word; no public contract cites this file.
 use mathlib.Core.Bool.{Bool, true, false, _&&_}
 use mathlib.Core.List.{List}
 use Prim.Native.Nat.{ℕ, zero, suc}
 use lib.Dec.{eqb}
 use Rattle.catalog_frames.specs.Frames.{Point, Head, word}
 
--- Are n words of frame i from word k on all 0?
+-- Are the n words of frame i from word k on all 0?
 unfoldable pub zeroWords : List ℕ → ℕ → ℕ → ℕ → Bool
 zeroWords ws i k zero = true
 zeroWords ws i k (suc n) = eqb (word ws i k) 0 && zeroWords ws i (suc k) n

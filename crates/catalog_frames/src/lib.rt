@@ -1,4 +1,4 @@
-// The frames of a catalog: eight words each, of which word 0 is the kind. `read_frame` takes any words.
+// The frames of a catalog: eight words each; word 0 is the kind. `read_frame` accepts any words.
 ghost use mathlib.Core.Path.{_≡_};
 ghost use Prim.Native.Nat.{_/_, _-_, _<_, _≤_};
 ghost use lib.ListN.{length};
@@ -6,10 +6,10 @@ ghost use Rattle.catalog_frames.specs.Frames.{word, frameAt, frameIn};
 ghost use Rattle.catalog_frames.specs.CodeTypes.{IsHead, IsPoint, toSpecFrame};
 ghost use Rattle.catalog_frames.specs.InternalWords.{headWords, namedWords, pointWords, zeroWords};
 
-// The words of a frame.
+// The number of words in a frame.
 pub const WORDS: usize = 8;
 
-// The kinds of frames.
+// The kinds of frames (word 0).
 pub const MODEL: u16 = 1;
 
 pub const GROUP: u16 = 2;
@@ -25,14 +25,14 @@ pub const FIXED_SCALE: u16 = 1;
 
 pub const SCALE_BY_POINT: u16 = 2;
 
-// The count kinds of a group: a constant, a point's value, as many as fill the model.
+// The count kinds of a group: a constant, a point's value, fill (repeated to fill the model's length).
 pub const CONSTANT_COUNT: u16 = 0;
 
 pub const COUNT_BY_POINT: u16 = 1;
 
 pub const FILL: u16 = 2;
 
-// The type codes that checking and listing ask for, and the access that a count point has.
+// The type codes that checking and listing test for, and the access of a count point.
 pub const PAD: u16 = 6;
 
 pub const UINT16: u16 = 2;
@@ -41,7 +41,7 @@ pub const SUNSSF: u16 = 8;
 
 pub const READ_ONLY: u16 = 0;
 
-// The named words of a point frame. Scale is the fixed scale factor or the number of the point that gives it.
+// The named words of a point frame. `scale` is the fixed scale factor or the number of the point that gives it.
 pub struct Point {
     pub number: u16,
     pub type_code: u16,
@@ -52,7 +52,7 @@ pub struct Point {
     pub access: u16,
 }
 
-// The named words of a group frame. Count is the constant count or the number of the point that gives it.
+// The named words of a group frame. `count` is the constant count or the number of the point that gives it.
 pub struct Head {
     pub number: u16,
     pub group_type: u16,
@@ -60,8 +60,7 @@ pub struct Head {
     pub count: u16,
 }
 
-// A frame by its kind. It is malformed where the kind is none of the four, or a word that the kind does
-// not name is not 0.
+// A frame by its kind. It is malformed if its kind is not 1 to 4, or a word that its kind does not name is not 0.
 pub enum Frame {
     Model(u16),
     Group(Head),
@@ -109,7 +108,7 @@ fn named_words(kind: u16) -> usize
     }
 }
 
-// Frame i; malformed where the catalog has no such whole frame.
+// Frame i, or `Malformed` if the catalog has no whole frame i.
 pub fn read_frame(catalog: &[u16], i: usize) -> Frame
     ensures { λ r. ⌜ toSpecFrame r ≡ frameIn (now (catalog .entry)) i ⌝ }
 {

@@ -11,16 +11,16 @@ use Rattle.values.specs.Classes.{twosComplement, isScaleFactor}
 use Rattle.catalog_frames.specs.Frames.{Point, Head, noScale, fixedScale, scaleByPoint, constantCount, countByPoint, fill}
 use Rattle.frame_rules.specs.FrameTests.{scaleTests, countTests}
 
--- A test or nothing.
+-- `b || false` is `b`.
 or-nothing : (b : Bool) → b || false ≡ b
 or-nothing true = refl
 or-nothing false = refl
 
--- A kind that is none of the three is over 2.
+-- A kind other than 0, 1 and 2 is over 2.
 over-2 : (k : ℕ) → (k ≡ 0 → ⊥) → (k ≡ 1 → ⊥) → (k ≡ 2 → ⊥) → ltb 2 k ≡ true
 over-2 k a b c = lt-ltb 2 k (omega (arith, a, b, c))
 
--- Is rule 8 broken? By the scale kind: none, a type that may carry no scale factor, fixed, by a point, any other.
+-- Whether rule 8 is broken, by the scale kind: none; a type that may not be scaled; fixed; by a point; any other.
 module _ (known : Bool) (p : Point) where
   pub no-scale : p .scaleKind ≡ noScale → oneHolds (scaleTests known p) ≡ not (eqb (p .scale) 0)
   no-scale e = rw e (or-nothing (not (eqb (p .scale) 0)))
@@ -40,7 +40,7 @@ module _ (known : Bool) (p : Point) where
       → oneHolds (scaleTests known p) ≡ true
   scale-kind-over a b c = rw (over-2 (p .scaleKind) a b c)
 
--- Is rule 9 broken? By the count kind: a constant, by a point, fill outside the top group and in it, any other.
+-- Whether rule 9 is broken, by the count kind: a constant; by a point; fill outside the top group and in it; any other.
 module _ (counted direct : Bool) (h : Head) where
   pub constant-count : h .countKind ≡ constantCount → oneHolds (countTests counted direct h) ≡ eqb (h .count) 0
   constant-count e = rw e (or-nothing (eqb (h .count) 0))

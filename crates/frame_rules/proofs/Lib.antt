@@ -1,2 +1,2 @@
--- What the proofs of the functions cite
+-- Lemmas that the proofs of the functions cite
 mod KindCases

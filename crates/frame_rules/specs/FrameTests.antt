@@ -1,4 +1,4 @@
--- The rules 4 to 10 of one frame, by plain facts about the frames around it.
+-- Rules 4 to 10 (document 01, "Checking") for a single frame, given facts about the frames around it.
 use mathlib.Core.Bool.{Bool, true, false, not, _&&_, _||_}
 use mathlib.Core.List.{List, [], _∷_}
 use mathlib.Core.Option.{Option, none, some}
@@ -9,11 +9,11 @@ use Rattle.values.specs.Classes.{twosComplement, isScaleFactor}
 use Rattle.catalog_frames.specs.Frames.{Point, Head, Frame, modelFrame, groupFrame, pointFrame, endFrame, malformed, noScale}
 use Rattle.catalog_frames.specs.Frames.{fixedScale, scaleByPoint, constantCount, countByPoint, fill}
 
--- The number of the rule that a frame breaks, if it breaks one: the code writes 0 for none.
+-- The code's number of the first broken rule as an option: 0 means that no rule is broken.
 abbrev pub toSpecFault : ℕ → Option ℕ
 toSpecFault n = elim (eqb n 0) [ true ↦ none | false ↦ some n ]
 
--- Is this a size of the type? An unknown type has none.
+-- Is `size` a size of the type with this code? An unknown type has none.
 unfoldable pub isSizeOf : ℕ → ℕ → Bool
 isSizeOf code size =
     elim (registersOf code) [ none ↦ false | some r ↦ leb (r .0) size && leb size (r .1) ]
@@ -26,13 +26,14 @@ hasBadType (pointFrame p) = not (isSizeOf (p .typeCode) (p .size)) || ltb 1 (p .
 hasBadType endFrame = false
 hasBadType malformed = false
 
--- ---- The tests of each kind of frame that can hold, with the numbers of their rules, by what the code finds in its sets
+-- ---- For each kind of frame the rules that it can break, in order: whether it breaks the rule, and the rule's number
 
--- A model frame: `used` is whether its id is.
+-- A model frame. `depth` is the number of open groups, here and below; `used` says whether its id is already used.
 abbrev pub modelTests : ℕ → Bool → ℕ → List (Bool × ℕ)
 modelTests depth used id = (not (eqb depth 0), 4) ∷ (eqb id 0 || eqb id 65535 || used, 6) ∷ []
 
--- A group frame: `used` is whether its number is, `badCount` whether rule 9 is broken.
+-- A group frame. `hasFill` says whether a fill group is in the top group, `used` whether its number is already used, `badCount`
+-- whether it breaks rule 9.
 abbrev pub groupTests : ℕ → Bool → Bool → Bool → Head → List (Bool × ℕ)
 groupTests depth hasFill used badCount h =
     (eqb depth 0 || eqb depth 1 && hasFill, 4)
@@ -42,16 +43,17 @@ groupTests depth hasFill used badCount h =
     ∷ (badCount, 9)
     ∷ []
 
--- A point frame: `used` is whether its number is, `badScale` whether rule 8 is broken.
+-- A point frame. `hasGroup` says whether a group is directly in the innermost open one, here and below, `used` whether its
+-- number is already used, `badScale` whether it breaks rule 8.
 abbrev pub pointTests : ℕ → Bool → Bool → Bool → Point → List (Bool × ℕ)
 pointTests depth hasGroup used badScale p =
     (eqb depth 0 || hasGroup, 4) ∷ (eqb (p .number) 0 || used, 6) ∷ (hasBadType (pointFrame p), 7) ∷ (badScale, 8) ∷ []
 
--- An end frame: `empty` is whether the group that ends has no point of its own.
+-- An end frame. `empty` says whether the group that ends has no point of its own.
 abbrev pub endTests : ℕ → Bool → Bool → List (Bool × ℕ)
 endTests depth hasGroup empty = (eqb depth 0, 4) ∷ (empty && not (eqb depth 1 && hasGroup), 10) ∷ []
 
--- The clauses of rule 8: `known` is whether the point that is to give the scale factor is in scope.
+-- The clauses of rule 8, true if broken. `known` says whether a sunssf point with the number in word 5 is in scope.
 abbrev pub scaleTests : Bool → Point → List Bool
 scaleTests known p =
     ltb 2 (p .scaleKind)
@@ -61,7 +63,8 @@ scaleTests known p =
     ∷ (eqb (p .scaleKind) scaleByPoint && not known)
     ∷ []
 
--- The clauses of rule 9: `counted` is whether the point that is to give the count is in the top group.
+-- The clauses of rule 9, true if broken. `counted` says whether a uint16 R point with the number in word 4 is directly in the
+-- top group, `direct` whether the group itself is.
 abbrev pub countTests : Bool → Bool → Head → List Bool
 countTests counted direct h =
     ltb 2 (h .countKind)

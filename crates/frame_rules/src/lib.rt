@@ -1,4 +1,5 @@
-// The rules 4 to 10 of one frame, on plain facts: for each kind the tests that can hold, in the order of their numbers.
+// Rules 4 to 10 for a single frame, given facts about the frames around it. For each kind of frame a function returns
+// the number of the first rule that the frame breaks, or 0. `depth` is the number of open groups.
 use catalog_frames::CONSTANT_COUNT;
 use catalog_frames::COUNT_BY_POINT;
 use catalog_frames::FILL;
@@ -19,10 +20,10 @@ ghost use Rattle.catalog_frames.specs.Frames.{pointFrame};
 ghost use Rattle.catalog_frames.specs.CodeTypes.{toSpecHead, toSpecPoint};
 ghost use Rattle.frame_rules.specs.FrameTests.{toSpecFault, isSizeOf, hasBadType, countTests, endTests, groupTests, modelTests, pointTests, scaleTests};
 
-// The levels of groups: the top group is level 1.
+// The largest number of levels. The top group is level 1.
 pub const LEVELS: usize = 4;
 
-// The rules of a model frame.
+// The first rule that a model frame breaks. `ids` is the set of the model ids so far.
 pub fn model_fault(ids: &[u64; SET_WORDS], depth: usize, id: u16) -> u16
     ensures { λ r. ⌜ toSpecFault r ≡ firstBroken (modelTests depth (inSet (now (ids .entry)) id) id) ⌝ }
 {
@@ -41,7 +42,8 @@ pub fn model_fault(ids: &[u64; SET_WORDS], depth: usize, id: u16) -> u16
     0
 }
 
-// The rules of a group frame. `counted` is whether a point of the top group gives its count, if one is to.
+// The first rule that a group frame breaks. `numbers` is the set of the numbers used in the model. `counted` says
+// whether the point that gives the count is in the top group; it matters only if a point gives the count.
 pub fn group_fault(
     numbers: &[u64; SET_WORDS],
     depth: usize,
@@ -72,7 +74,7 @@ pub fn group_fault(
     0
 }
 
-// The rules of a point frame.
+// The first rule that a point frame breaks. `scales` is the set of the scale factors in scope.
 pub fn point_fault(
     numbers: &[u64; SET_WORDS],
     scales: &[u64; SET_WORDS],
@@ -100,8 +102,8 @@ pub fn point_fault(
     0
 }
 
-// The rules of an end frame. `empty` is whether the group that ends has no point: points come first in a group, so its
-// first frame shows that.
+// The first rule that an end frame breaks. `empty` says whether the group that ends has no point of its own. Points
+// come first in a group, so the caller sees that from its first frame.
 pub fn end_fault(depth: usize, has_group: bool, empty: bool) -> u16
     ensures { λ r. ⌜ toSpecFault r ≡ firstBroken (endTests depth «has_group» empty) ⌝ }
 {
@@ -120,7 +122,7 @@ pub fn end_fault(depth: usize, has_group: bool, empty: bool) -> u16
     0
 }
 
-// Is the top group the innermost open one, with a fill group in it?
+// Would a group opened here be directly in the top group, after a fill group?
 fn is_after_fill(depth: usize, has_fill: bool) -> bool
     ensures { λ r. ⌜ r ≡ eqb depth 1 && «has_fill» ⌝ }
 {
@@ -130,7 +132,7 @@ fn is_after_fill(depth: usize, has_fill: bool) -> bool
     has_fill
 }
 
-// Is the number of a point or group 0, or used in this model?
+// Is the number of a point or group 0, or already used in this model?
 fn has_bad_number(numbers: &[u64; SET_WORDS], number: u16) -> bool
     ensures { λ r. ⌜ r ≡ eqb number 0 || inSet (now (numbers .entry)) number ⌝ }
 {
@@ -153,7 +155,7 @@ fn has_bad_type(point: Point) -> bool
     1 < point.access
 }
 
-// Is this a size of the type?
+// Is `size` a size that the type may have?
 fn is_size_of(type_code: u16, size: u16) -> bool
     ensures { λ r. ⌜ r ≡ isSizeOf «type_code» size ⌝ }
 {
@@ -169,7 +171,7 @@ fn is_size_of(type_code: u16, size: u16) -> bool
     }
 }
 
-// Is the scale factor of a point wrong? One given by a point must be in scope.
+// Does a point break rule 8? A point that gives the scale factor must be in `scales`.
 fn has_bad_scale(scales: &[u64; SET_WORDS], point: Point) -> bool
     ensures { λ r. ⌜ r ≡ oneHolds (scaleTests (inSet (now (scales .entry)) (point .scale)) (toSpecPoint point)) ⌝ }
 {
@@ -187,7 +189,7 @@ fn has_bad_scale(scales: &[u64; SET_WORDS], point: Point) -> bool
     }
 }
 
-// Is the count of a group wrong? `counted` is whether a point of the top group gives it, if one is to.
+// Does a group break rule 9? `counted` says whether the point that gives the count is in the top group.
 fn has_bad_count(depth: usize, head: Head, counted: bool) -> bool
     ensures { λ r. ⌜ r ≡ oneHolds (countTests counted (eqb depth 1) (toSpecHead head)) ⌝ }
 {

@@ -1,4 +1,4 @@
--- What it means that frames are accepted, by the kinds of the frames: they stand in their places, and their numbers are new.
+-- Frames are accepted if and only if they keep all rules but 6, and rule 6: two conditions, each by the kinds of the frames.
 use mathlib.Core.Path.{_≡_, refl, ap}
 use mathlib.Core.Bool.{Bool, true, false, not, _&&_, _||_}
 use mathlib.Core.List.{List, [], _∷_}
@@ -19,20 +19,25 @@ use Rattle.model_definitions.specs.Soundness.{SoundPoint}
 use Rattle.model_definitions.proofs.AcceptedSteps.{accepted-step, accepted-end}
 use Rattle.model_definitions.proofs.SoundFrames.{sound-point, HeadUnbroken}
 
--- With these groups open, and a fill group in the top group or not, the frames break no rule but perhaps 6, and close all groups.
-abbrev pub RunAllowed : Bool → List OpenGroup → List Frame → Type 0
-RunAllowed filled ls [] = noModel ls ≡ true
-RunAllowed filled ls (modelFrame id ∷ fs) = (noModel ls ≡ true) × RunAllowed false (opened ∷ []) fs
-RunAllowed filled ls (groupFrame h ∷ fs) =
+-- With the groups `ls` open, and `filled` if a fill group is in the top group, the frames keep all rules but perhaps 6, and close
+-- all groups.
+abbrev pub KeepsRulesBut6 : Bool → List OpenGroup → List Frame → Type 0
+KeepsRulesBut6 filled ls [] = noModel ls ≡ true
+KeepsRulesBut6 filled ls (modelFrame id ∷ fs) = (noModel ls ≡ true) × KeepsRulesBut6 false (opened ∷ []) fs
+KeepsRulesBut6 filled ls (groupFrame h ∷ fs) =
     (noModel ls || inTop ls && filled ≡ false)
     × HeadUnbroken ls h
-    × RunAllowed (filled || eqb (h .countKind) fill) (withGroup ls) fs
-RunAllowed filled ls (pointFrame p ∷ fs) =
-    (noModel ls || afterGroup ls ≡ false) × SoundPoint (pointsInScope ls (p ∷ run fs)) p × RunAllowed filled (withPoint p ls) fs
-RunAllowed filled ls (endFrame ∷ fs) = (noModel ls ≡ false) × (lacksContent ls endFrame ≡ false) × RunAllowed filled (closed ls) fs
-RunAllowed filled ls (malformed ∷ fs) = ⊥
+    × KeepsRulesBut6 (filled || eqb (h .countKind) fill) (withGroup ls) fs
+KeepsRulesBut6 filled ls (pointFrame p ∷ fs) =
+    (noModel ls || afterGroup ls ≡ false)
+    × SoundPoint (pointsInScope ls (p ∷ run fs)) p
+    × KeepsRulesBut6 filled (withPoint p ls) fs
+KeepsRulesBut6 filled ls (endFrame ∷ fs) =
+    (noModel ls ≡ false) × (lacksContent ls endFrame ≡ false) × KeepsRulesBut6 filled (closed ls) fs
+KeepsRulesBut6 filled ls (malformed ∷ fs) = ⊥
 
--- Behind models with these ids, and these numbers in the open model, the frames do not break rule 6, and end with n models.
+-- With the model ids `ids` so far and the numbers `used` in the open model, the frames keep rule 6, and there are n models at the
+-- end.
 abbrev pub Numbered : ℕ → List ℕ → List ℕ → List Frame → Type 0
 Numbered n ids used [] = length ids ≡ n
 Numbered n ids used (modelFrame id ∷ fs) =
@@ -44,9 +49,9 @@ Numbered n ids used (pointFrame p ∷ fs) =
 Numbered n ids used (endFrame ∷ fs) = Numbered n ids used fs
 Numbered n ids used (malformed ∷ fs) = Numbered n ids used fs
 
--- Frames are accepted just where they stand in their places and are numbered.
+-- Frames are accepted if and only if they keep all these rules.
 pub accepted-frames : (fs : List Frame) (s : State) (i n : ℕ)
-    → (checkFrom s i fs ≡ accepted n) ↔ (RunAllowed (s .hasFill) (s .openGroups) fs × Numbered n (s .ids) (s .numbers) fs)
+    → (checkFrom s i fs ≡ accepted n) ↔ (KeepsRulesBut6 (s .hasFill) (s .openGroups) fs × Numbered n (s .ids) (s .numbers) fs)
 accepted-frames [] s i n = accepted-end s i n
 accepted-frames (f ∷ fs) s i n =
     Iff·trans (accepted-step s i f fs n)
@@ -54,8 +59,8 @@ accepted-frames (f ∷ fs) s i n =
   where
     by-kind : (g : Frame)
         → (Each (λ r. r .0 ≡ false) (rules s g (run (g ∷ fs)))
-        × (RunAllowed (next s g .hasFill) (next s g .openGroups) fs × Numbered n (next s g .ids) (next s g .numbers) fs))
-        ↔ (RunAllowed (s .hasFill) (s .openGroups) (g ∷ fs) × Numbered n (s .ids) (s .numbers) (g ∷ fs))
+        × (KeepsRulesBut6 (next s g .hasFill) (next s g .openGroups) fs × Numbered n (next s g .ids) (next s g .numbers) fs))
+        ↔ (KeepsRulesBut6 (s .hasFill) (s .openGroups) (g ∷ fs) × Numbered n (s .ids) (s .numbers) (g ∷ fs))
     by-kind (modelFrame id) = (
       λ c. ((not-false (noModel (s .openGroups)) (c .0 .1 .0), c .1 .0), (c .0 .1 .1 .1 .0, c .1 .1)),
       λ w. ((refl, (ap not (w .0 .0), (refl, (w .1 .0, (refl, (refl, (refl, (refl, tt)))))))), (w .0 .1, w .1 .1)),

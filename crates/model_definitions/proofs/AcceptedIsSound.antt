@@ -1,4 +1,4 @@
--- The models of an accepted catalog are sound, and checking answers their number.
+-- The models of an accepted catalog are sound, and checking returns their number.
 use mathlib.Core.Path.{_≡_, sym, ap, _∙_}
 use mathlib.Core.Bool.{false}
 use mathlib.Core.List.{List, []}
@@ -17,7 +17,7 @@ use Rattle.model_definitions.proofs.ModelFrames.{frames-of-definitions,
 use Rattle.model_definitions.proofs.NewNumbers.{all-new}
 use Rattle.model_definitions.proofs.SoundModels.{models-sound}
 
--- A catalog that is accepted is sound, and checking answers the number of its models.
+-- An accepted catalog is sound, and checking returns the number of its models.
 pub accepted-is-sound : (ws : List ℕ) (n : ℕ) → checked ws ≡ accepted n
     → SoundCatalog (definitions ws) × (n ≡ length (definitions ws))
 accepted-is-sound ws n e =

@@ -1,4 +1,4 @@
--- What it means that a catalog is accepted, step by step: rules 1 and 2, then each frame, then the end.
+-- When a catalog is accepted, step by step: rules 1 and 2, then each frame, then the end.
 use mathlib.Core.Path.{_≡_, refl, sym, _∙_}
 use mathlib.Core.Bool.{true}
 use mathlib.Core.List.{List, [], _∷_}
@@ -15,11 +15,11 @@ use Rattle.catalog.specs.State.{State, start, next}
 use Rattle.catalog.specs.Rules.{noModel, run, fault}
 use Rattle.catalog.specs.Checking.{Verdict, accepted, refused, checkFrom, checked}
 
--- A refusal accepts nothing.
+-- A refusal is not an acceptance.
 never-refused : {A : Type 0} (r i n : ℕ) → refused r i ≡ accepted n → A
 never-refused r i n e = impossible (cc)
 
--- A catalog is accepted: it has whole frames, at most 4,096 of them, and they are accepted.
+-- A catalog is accepted if and only if it has whole frames, at most 4,096 of them, and these are accepted.
 pub accepted-start : (ws : List ℕ) (n : ℕ) → (checked ws ≡ accepted n)
     ↔ ((length ws % 8 ≡ 0) × (length ws / 8 ≤ 4096) × (checkFrom start 0 (frames ws) ≡ accepted n))
 unfolding checked
@@ -32,7 +32,7 @@ accepted-start ws n =
     (λ few. (λ e. (eqb-true (length ws % 8) 0 whole, ltb-false 4096 (length ws / 8) few, e), λ h. h .2)))
     (λ part. (never-refused 1 0 n, λ h. absurd (eqb-false (length ws % 8) 0 part (h .0))))
 
--- Frames are accepted: the first breaks no rule, and those behind it are accepted.
+-- Frames are accepted if and only if the first breaks no rule and those after it are accepted.
 pub accepted-step : (s : State) (i : ℕ) (f : Frame) (fs : List Frame) (n : ℕ) → (checkFrom s i (f ∷ fs) ≡ accepted n)
     ↔ ((fault s f (run (f ∷ fs)) ≡ none) × (checkFrom (next s f) (suc i) fs ≡ accepted n))
 unfolding checkFrom
@@ -43,7 +43,7 @@ accepted-step s i f fs n = go (fault s f (run (f ∷ fs)))
     go none = (λ e. (refl, e), λ h. h .1)
     go (some r) = (never-refused r i n, λ h. let z = h .0 in cc)
 
--- The end is accepted: no model is open, and the models are as many as answered.
+-- The end is accepted with n models if and only if no model is open and there are n ids.
 pub accepted-end : (s : State) (i n : ℕ) → (checkFrom s i [] ≡ accepted n)
     ↔ ((noModel (s .openGroups) ≡ true) × (length (s .ids) ≡ n))
 unfolding checkFrom

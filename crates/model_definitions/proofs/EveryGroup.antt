@@ -1,4 +1,4 @@
--- From sound definitions to each group and each model of an accepted catalog.
+-- What follows from soundness holds of each group and each model of an accepted catalog.
 use mathlib.Core.Path.{_≡_}
 use mathlib.Core.List.{List, [], _∷_, _++_}
 use Prim.Native.Nat.{ℕ, suc, _≤_}
@@ -13,7 +13,7 @@ use Rattle.model_definitions.proofs.AcceptedIsSound.{accepted-is-sound}
 module _ (P : List Point → ℕ → Head → List Point → Groups → Type 0) (top : List Point)
     (f : (enclosing : List Point) (level : ℕ) (h : Head) (ps : List Point) (following : Groups)
     → SoundHead top level h following → 1 ≤ length ps → Each (SoundPoint (ps ++ enclosing)) ps → P enclosing level h ps following) where
-  -- What holds of a sound group holds of each of sound groups.
+  -- What holds of a sound group holds of each group among sound groups.
   of-groups : (enclosing : List Point) (level : ℕ) (g : Groups) → SoundGroups top enclosing level g
       → EachGroup P enclosing level g
   of-groups enclosing level noGroup s = tt
@@ -23,7 +23,7 @@ module _ (P : List Point → ℕ → Head → List Point → Groups → Type 0) 
     of-groups enclosing level following (s .4),
   )
 
-  -- So it does of each lower group of a sound model with this top group.
+  -- So it holds of each lower group of a sound model with these top points.
   pub of-lower-groups : (d : Definition) → d .top .points ≡ top → SoundDefinition d → EachLowerGroup P d
   of-lower-groups d e s = rw e (of-groups top 2 (d .top .groups) (rw e at (s .groups)))
 

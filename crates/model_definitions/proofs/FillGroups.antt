@@ -1,4 +1,4 @@
--- In an accepted catalog a fill group stands directly in the top group, and last.
+-- In an accepted catalog a fill group is directly in the top group, and is the last group there.
 use mathlib.Core.Path.{_≡_, refl}
 use mathlib.Core.List.{List}
 use Prim.Native.Nat.{ℕ}
@@ -9,7 +9,7 @@ use Rattle.model_definitions.specs.Definitions.{Groups, definitions}
 use Rattle.model_definitions.specs.Soundness.{EachLowerGroup, FillsLast}
 use Rattle.model_definitions.proofs.EveryGroup.{of-lower-groups, of-models}
 
--- Wherever there is a fill group, it is at level 2 and no group stands behind it.
+-- Every fill group is at level 2, and no group follows it.
 pub fill-is-last : (ws : List ℕ) (n : ℕ) → checked ws ≡ accepted n
     → Each (EachLowerGroup (λ enclosing level h ps following. FillsLast level h following)) (definitions ws)
 fill-is-last =

@@ -1,4 +1,4 @@
--- The numbers of groups: those of a group's head, its points, the groups in it and the groups behind it, all different.
+-- The numbers of a group's head, its points, the groups in it and the groups after it are all different.
 use mathlib.Core.Path.{_≡_, refl, sym, ap, subst, _∙_}
 use mathlib.Core.Bool.{Bool, true, false, _||_, or-true}
 use mathlib.Core.List.{List, [], _∷_, _++_}
@@ -14,11 +14,11 @@ use Rattle.model_definitions.specs.Soundness.{numbersOf}
 
 -- ---- Lists of numbers
 
--- A number that is among others is among them with one more in front.
+-- A number in a list is also in the list with one more number at the front.
 pub among-later : (n m : ℕ) (ns : List ℕ) → among n ns ≡ true → among n (m ∷ ns) ≡ true
 among-later n m ns e = rw e (or-true (eqb n m))
 
--- A number among one of two lists.
+-- A number is in two joined lists if and only if it is in one of them.
 among-either : (n : ℕ) (ms ns : List ℕ) → among n (ms ++ ns) ≡ among n ms || among n ns
 among-either n [] ns = refl
 among-either n (m ∷ ms) ns = go (eqb n m) (among n (ms ++ ns)) (among n ms) (among n ns) (among-either n ms ns)
@@ -27,11 +27,11 @@ among-either n (m ∷ ms) ns = go (eqb n m) (among n (ms ++ ns)) (among n ms) (a
     go true x y z e = refl
     go false x y z e = e
 
--- A number among neither.
+-- A number that is not in two joined lists is in neither.
 among-neither : (n : ℕ) (ms ns : List ℕ) → among n (ms ++ ns) ≡ false → (among n ms ≡ false) × (among n ns ≡ false)
 among-neither n ms ns e = neither (among n ms) (among n ns) .0 (sym (among-either n ms ns) ∙ e)
 
--- The numbers of two lists that are all different.
+-- If the numbers of two joined lists are distinct, so are those of each list, and no number is in both.
 distinct-parts : (ms ns : List ℕ) → Distinct (ms ++ ns)
     → Distinct ms × Distinct ns × ((n : ℕ) → among n ms ≡ true → among n ns ≡ false)
 distinct-parts [] ns d = (tt, d, λ n e. clash (sym e))
@@ -47,7 +47,7 @@ distinct-parts (m ∷ ms) ns d =
 
 -- ---- Frames
 
--- The numbers of frames one behind the other.
+-- The numbers of two joined lists of frames.
 numbers-append : (fs gs : List Frame) → numbersOf (fs ++ gs) ≡ numbersOf fs ++ numbersOf gs
 numbers-append [] gs = refl
 numbers-append (modelFrame id ∷ fs) gs = numbers-append fs gs
@@ -56,7 +56,7 @@ numbers-append (pointFrame p ∷ fs) gs = ap (λ ns. p .number ∷ ns) (numbers-
 numbers-append (endFrame ∷ fs) gs = numbers-append fs gs
 numbers-append (malformed ∷ fs) gs = numbers-append fs gs
 
--- The numbers in a group and of the groups behind it.
+-- The numbers in a group and of the groups after it.
 part-numbers : (ps : List Point) (inside following : Groups)
     → numbersOf (pointFrames ps ++ (groupFrames inside ++ (endFrame ∷ groupFrames following)))
     ≡ numbersOf (pointFrames ps) ++ (numbersOf (groupFrames inside) ++ numbersOf (groupFrames following))
@@ -64,17 +64,17 @@ part-numbers ps inside following =
     numbers-append (pointFrames ps) (groupFrames inside ++ (endFrame ∷ groupFrames following))
     ∙ ap (λ ns. numbersOf (pointFrames ps) ++ ns) (numbers-append (groupFrames inside) (endFrame ∷ groupFrames following))
 
--- A point's number is among those of the points.
+-- The number of a point is among the numbers of its list.
 pub point-among : (p : Point) (ps : List Point) → In p ps → among (p .number) (numbersOf (pointFrames ps)) ≡ true
 point-among p (q ∷ ps) first = rw (eq-eqb (p .number) (p .number) refl)
 point-among p (q ∷ ps) (later i) = among-later (p .number) (q .number) (numbersOf (pointFrames ps)) (point-among p ps i)
 
--- Where a test excludes another, the other excludes it.
+-- If `a` excludes `b`, then `b` excludes `a`.
 excluded : (a b : Bool) → (a ≡ true → b ≡ false) → b ≡ true → a ≡ false
 excluded true b f e = clash (sym e ∙ f refl)
 excluded false b f e = refl
 
--- What is known of the numbers of points, of the groups in their group and of those behind it, where all are different.
+-- The numbers of a group's points, of the groups in it and of the groups after it: each list is distinct, and no two share one.
 pub record Apart (ps : List Point) (inside following : Groups) : Type 0 where
   pub pointsDistinct : Distinct (numbersOf (pointFrames ps))
   pub insideDistinct : Distinct (numbersOf (groupFrames inside))
@@ -84,7 +84,7 @@ pub record Apart (ps : List Point) (inside following : Groups) : Type 0 where
   pub followingPoints : (n : ℕ) → among n (numbersOf (groupFrames following)) ≡ true → among n (numbersOf (pointFrames ps)) ≡ false
   pub followingInside : (n : ℕ) → among n (numbersOf (groupFrames following)) ≡ true → among n (numbersOf (groupFrames inside)) ≡ false
 
--- So it is where the frames of a group, behind its first one, and those of the groups behind it have different numbers.
+-- This holds if all frames of the group after its group frame, and of the groups after it, have distinct numbers.
 pub apart : (ps : List Point) (inside following : Groups)
     → Distinct (numbersOf (pointFrames ps ++ (groupFrames inside ++ (endFrame ∷ groupFrames following)))) → Apart ps inside following
 apart ps inside following d =
@@ -103,7 +103,7 @@ apart ps inside following d =
       followingInside = λ n. excluded (among n I) (among n B) (s .2 n);
     }
 
--- A number that is none of a group's and of those behind it is none of each part's.
+-- A number that is in none of the three parts.
 pub record NoneOf (n : ℕ) (ps : List Point) (inside following : Groups) : Type 0 where
   pub ofPoints : among n (numbersOf (pointFrames ps)) ≡ false
   pub ofInside : among n (numbersOf (groupFrames inside)) ≡ false

@@ -19,7 +19,7 @@ use Rattle.model_definitions.specs.Definitions.{Groups, pointsSize, defi
 use Rattle.model_definitions.specs.Soundness.{SoundPoint, EachLowerGroup}
 use Rattle.model_definitions.proofs.EveryGroup.{of-lower-groups, of-models}
 
--- A size of a type is 1 to 64 registers.
+-- A size that a type may have is 1 to 64 registers.
 pub type-size : (code size : ℕ) → isSizeOf code size ≡ true → (1 ≤ size) × (size ≤ 64)
 unfolding isSizeOf registersOf
 type-size code size = go (rowOf code) refl
@@ -43,7 +43,7 @@ type-size code size = go (rowOf code) refl
 pub point-size : (inScope : List Point) (p : Point) → SoundPoint inScope p → (1 ≤ p .size) × (p .size ≤ 64)
 point-size inScope p s = type-size (p .typeCode) (p .size) (s .sized)
 
--- Sound points, one or more, take at least one register.
+-- One or more sound points take at least one register.
 group-size : (inScope ps : List Point) → 1 ≤ length ps → Each (SoundPoint inScope) ps → 1 ≤ pointsSize ps
 group-size inScope [] l e = absurd (omega arith)
 group-size inScope (p ∷ ps) l e = let s = point-size inScope p (e .0) .0 in omega arith

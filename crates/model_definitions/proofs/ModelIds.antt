@@ -1,4 +1,4 @@
--- The ids of models: distinct in an accepted catalog, 1 to 65534 where its words are registers, and always those of the model
+-- The ids of models: distinct in an accepted catalog, 1 to 65534 if its words are registers, and always the ids of the model
 -- frames.
 use mathlib.Core.Path.{_≡_, refl, sym, ap, subst}
 use mathlib.Core.List.{List, [], _∷_, _++_}
@@ -19,12 +19,12 @@ use Rattle.model_definitions.proofs.AcceptedIsSound.{accepted-is-sound}
 pub ids-distinct : (ws : List ℕ) (n : ℕ) → checked ws ≡ accepted n → Distinct (idsOf (definitions ws))
 ids-distinct ws n e = accepted-is-sound ws n e .0 .distinct
 
--- Words behind others are registers where all of them are.
+-- If all words are registers, so are those after the first ones.
 registers-after : (us vs : List ℕ) → AreRegisters (us ++ vs) → AreRegisters vs
 registers-after [] vs a = a
 registers-after (u ∷ us) vs a = registers-after us vs (a .1)
 
--- So are the words of frames behind others.
+-- The same for the words of frames.
 frames-after : (fs gs : List Frame) → AreRegisters (wordsOfAll (fs ++ gs)) → AreRegisters (wordsOfAll gs)
 unfolding wordsOfAll
 frames-after [] gs a = a
@@ -41,13 +41,13 @@ in-range (d ∷ ds) s a =
     let register : d .id < 65536 = a .1 .0 in
     ((omega arith, omega arith), in-range ds (s .1) (frames-after (definitionFrames d) (catalogFrames ds) a))
 
--- The ids of an accepted catalog's models are 1 to 65534, where its words are registers.
+-- The ids of an accepted catalog's models are 1 to 65534 if its words are registers.
 pub ids-in-range : (ws : List ℕ) (n : ℕ) → AreRegisters ws → checked ws ≡ accepted n
     → Each (λ id. (1 ≤ id) × (id ≤ 65534)) (idsOf (definitions ws))
 ids-in-range ws n a e =
     in-range (definitions ws) (accepted-is-sound ws n e .0 .each) (subst AreRegisters (sym (words-of-definitions ws n e)) a)
 
--- The definitions of any frames have the ids of the model frames, in order.
+-- The definitions read from any frames have the ids of the model frames, in order.
 ids-read : (fs : List Frame) → idsOf (parsed fs .models) ≡ modelIds fs
 unfolding parsed
 ids-read [] = refl
@@ -57,6 +57,6 @@ ids-read (pointFrame p ∷ fs) = ids-read fs
 ids-read (endFrame ∷ fs) = ids-read fs
 ids-read (malformed ∷ fs) = ids-read fs
 
--- So have those of any catalog, accepted or not: an id is known just where a model frame has it.
+-- The same for any catalog, accepted or not: an id is known if and only if a model frame has it.
 pub ids-of-model-frames : (ws : List ℕ) → idsOf (definitions ws) ≡ modelIds (frames ws)
 ids-of-model-frames ws = ids-read (frames ws)

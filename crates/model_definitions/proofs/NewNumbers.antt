@@ -1,4 +1,4 @@
--- Numbers that come one by one are new, each when it comes, just where no number comes twice.
+-- Each number of a list is new with respect to those before it if and only if no number is there twice.
 use mathlib.Core.Path.{_≡_, refl, sym}
 use mathlib.Core.Bool.{false}
 use mathlib.Core.List.{List, [], _∷_}
@@ -10,16 +10,16 @@ use Rattle.lists.specs.Each.{Each}
 use Rattle.lists.specs.Members.{among, Distinct}
 use Rattle.lists.proofs.TestLaws.{neither}
 
--- Behind the numbers `used`, the newest first, each of the numbers `ns` is new when it comes.
+-- Each of the numbers `ns` is neither among `used` nor among those before it in `ns`.
 abbrev pub New : List ℕ → List ℕ → Type 0
 New used [] = Unit {0}
 New used (n ∷ ns) = (among n used ≡ false) × New (n ∷ used) ns
 
--- Two numbers differ in either order.
+-- If m differs from n, n differs from m.
 swapped : (m n : ℕ) → eqb m n ≡ false → eqb n m ≡ false
 swapped m n e = ne-eqb n m (λ q. eqb-false m n e (sym q))
 
--- Numbers are not used, with one more used: it is not one of them, and they were not used before.
+-- None of `ns` is used, with n used too, if and only if n is not among them and none of them was used before.
 one-more-used : (n : ℕ) (used ns : List ℕ)
     → Each (λ m. among m (n ∷ used) ≡ false) ns ↔ ((among n ns ≡ false) × Each (λ m. among m used ≡ false) ns)
 one-more-used n used [] = (λ u. (refl, tt), λ u. tt)
@@ -36,7 +36,7 @@ one-more-used n used (m ∷ ns) =
           (first .1 (swapped n m (o .0), u .1 .0), rest .1 (o .1, u .1 .1)),
     )
 
--- Numbers are new one by one just where they are distinct and none was used before.
+-- The numbers `ns` are new if and only if they are distinct and none is among `used`.
 new-numbers : (used ns : List ℕ) → New used ns ↔ (Distinct ns × Each (λ n. among n used ≡ false) ns)
 new-numbers used [] = (λ w. (tt, tt), λ w. tt)
 new-numbers used (n ∷ ns) =
@@ -49,11 +49,11 @@ new-numbers used (n ∷ ns) =
       λ w. (w .1 .0, rest .1 (w .0 .1, more .1 (w .0 .0, w .1 .1))),
     )
 
--- No number was used where none came before.
+-- No number is in the empty list.
 none-used : (ns : List ℕ) → Each (λ n. among n [] ≡ false) ns
 none-used [] = tt
 none-used (n ∷ ns) = (refl, none-used ns)
 
--- Numbers with none before them are new one by one just where they are distinct.
+-- With no numbers used before, numbers are new if and only if they are distinct.
 pub all-new : (ns : List ℕ) → New [] ns ↔ Distinct ns
 all-new ns = (λ w. new-numbers [] ns .0 w .0, λ d. new-numbers [] ns .1 (d, none-used ns))

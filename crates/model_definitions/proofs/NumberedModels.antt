@@ -1,4 +1,5 @@
--- The frames of models keep rule 6 just where the ids are new and, in each model, the numbers are distinct and none is 0.
+-- The frames of models keep rule 6 if and only if the ids are new, and not 0 or 65535, and in each model the numbers are distinct
+-- and none is 0.
 use mathlib.Core.Path.{_≡_, sym, subst}
 use mathlib.Core.Bool.{false, _||_}
 use mathlib.Core.List.{List, [], _∷_, _++_}
@@ -17,7 +18,7 @@ use Rattle.model_definitions.proofs.AcceptedFrames.{Numbered}
 use Rattle.model_definitions.proofs.TreeFrames.{group-frames}
 use Rattle.model_definitions.proofs.NewNumbers.{New, all-new}
 
--- The frame is no model frame.
+-- The frame is not a model frame.
 abbrev InModel : Frame → Type 0
 InModel (modelFrame id) = ⊥
 InModel (groupFrame h) = Unit {0}
@@ -25,12 +26,12 @@ InModel (pointFrame p) = Unit {0}
 InModel endFrame = Unit {0}
 InModel malformed = Unit {0}
 
--- The frames of points, in front of frames that stand in a model, stand in it.
+-- No model frame is among the frames of points and the frames after them, if none is among the latter.
 points-in-model : (ps : List Point) (fs : List Frame) → Each InModel fs → Each InModel (pointFrames ps ++ fs)
 points-in-model [] fs e = e
 points-in-model (p ∷ ps) fs e = (tt, points-in-model ps fs e)
 
--- So do the frames of groups.
+-- The same for the frames of groups.
 groups-in-model : (g : Groups) (fs : List Frame) → Each InModel fs → Each InModel (groupFrames g ++ fs)
 groups-in-model noGroup fs e = e
 groups-in-model (group h ps inside following) fs e =
@@ -39,12 +40,12 @@ groups-in-model (group h ps inside following) fs e =
     subst (Each InModel) (sym (group-frames h ps inside following fs))
     (tt, points-in-model ps (groupFrames inside ++ (endFrame ∷ tail)) inner)
 
--- The numbers `ns`, the newest first, in front of those used.
+-- The numbers used after `ns`, the newest first.
 abbrev pub usedAfter : List ℕ → List ℕ → List ℕ
 usedAfter [] used = used
 usedAfter (n ∷ ns) used = usedAfter ns (n ∷ used)
 
--- A number in front keeps rule 6: it is not 0 and new, and what is asked of the numbers behind it holds.
+-- One more number at the front: it keeps rule 6 if and only if it is not 0 and is new.
 one-more : {A B : Type 0} (n : ℕ) (used ns : List ℕ) → A ↔ (Each (λ m. 1 ≤ m) ns × New (n ∷ used) ns × B)
     → ((eqb n 0 || among n used ≡ false) × A) ↔ (Each (λ m. 1 ≤ m) (n ∷ ns) × New used (n ∷ ns) × B)
 one-more n used ns rest =
@@ -60,7 +61,7 @@ one-more n used ns rest =
     )
 
 module _ (n : ℕ) where
-  -- Frames in a model keep rule 6: their numbers are not 0 and new; then the frames behind.
+  -- Frames in a model keep rule 6 if and only if their numbers are new and not 0, and the frames after them keep it.
   numbers-in-model : (ids used : List ℕ) (fs following : List Frame) → Each InModel fs
       → Numbered n ids used (fs ++ following)
       ↔ (Each (λ m. 1 ≤ m) (numbersOf fs) × New used (numbersOf fs) × Numbered n ids (usedAfter (numbersOf fs) used) following)
@@ -73,7 +74,8 @@ module _ (n : ℕ) where
   numbers-in-model ids used (endFrame ∷ fs) following e = numbers-in-model ids used fs following (e .1)
   numbers-in-model ids used (malformed ∷ fs) following e = numbers-in-model ids used fs following (e .1)
 
-  -- A model's frames keep rule 6: its id is not 0 or 65535 and new, its numbers are not 0 and distinct; then the frames behind.
+  -- A model's frames keep rule 6 if and only if its id is new and not 0 or 65535, its numbers are distinct and not 0, and the
+  -- frames after it keep it.
   pub numbered-model : (ids used : List ℕ) (d : Definition) (fs : List Frame)
       → Numbered n ids used (definitionFrames d ++ fs)
       ↔ (((d .id ≡ 0 → ⊥) × (d .id ≡ 65535 → ⊥) × (among (d .id) ids ≡ false))

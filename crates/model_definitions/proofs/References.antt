@@ -15,7 +15,7 @@ use Rattle.model_definitions.specs.Definitions.{Groups, Definition, defi
 use Rattle.model_definitions.specs.Soundness.{SoundPoint, EachLowerGroup, ScaleResolves, CountResolves}
 use Rattle.model_definitions.proofs.EveryGroup.{of-lower-groups, of-models}
 
--- Where the test finds such a point among these, here it is.
+-- If `hasPoint` holds, such a point is in the list.
 point-found : (such : Point → Bool) (ps : List Point) → hasPoint such ps ≡ true → (p : Point) × (In p ps) × (such p ≡ true)
 point-found such [] e = clash (sym e)
 point-found such (p ∷ ps) e = go (such p) refl e (point-found such ps)
@@ -45,7 +45,7 @@ count-point-found n ps e =
     let u = both (eqb (p .number) n) (eqb (p .typeCode) uint16) (t .0) in
     (p, r .1, eqb-true (p .number) n (u .0), eqb-true (p .typeCode) uint16 (u .1), eqb-true (p .access) readOnly (t .1))
 
--- The scale references of sound points resolve among the points in their reach.
+-- The scale references of sound points resolve to points in scope.
 pub points-resolve : (inScope ps : List Point) → Each (SoundPoint inScope) ps → Each (ScaleResolves inScope) ps
 points-resolve inScope [] s = tt
 points-resolve inScope (p ∷ ps) s = (λ k. scale-factor-found (p .scale) inScope (s .0 .resolved k), points-resolve inScope ps (s .1))

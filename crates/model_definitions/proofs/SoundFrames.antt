@@ -1,4 +1,4 @@
--- A point frame and a group frame break no rule just where the point and the group's head are sound.
+-- Sound points and heads against the rules: when a point frame keeps rules 7 and 8, and a group frame rules 5, 7 and 9.
 use mathlib.Core.Path.{_≡_, refl, sym, ap}
 use mathlib.Core.Bool.{true, false, not, _||_}
 use mathlib.Core.List.{List, [], _∷_}
@@ -22,7 +22,7 @@ use Rattle.catalog.specs.Rules.{countFaults}
 use Rattle.model_definitions.specs.Definitions.{Groups, noGroup}
 use Rattle.model_definitions.specs.Soundness.{SoundPoint, SoundHead}
 
--- A point frame breaks neither rule 7 nor rule 8 just where the point is sound.
+-- A point frame breaks neither rule 7 nor rule 8 if and only if the point is sound.
 pub sound-point : (inScope : List Point) (p : Point)
     → ((hasBadType (pointFrame p) ≡ false) × (oneHolds (scaleFaults inScope p) ≡ false)) ↔ SoundPoint inScope p
 sound-point inScope p =
@@ -60,18 +60,18 @@ sound-point inScope p =
           ),
     )
 
--- The top group is the innermost open one just where a group in it is at level 2.
+-- The top group is the innermost open one if and only if a new group would be at level 2.
 in-top : (ls : List OpenGroup) → (inTop ls ≡ true) ↔ (suc (length ls) ≡ 2)
 in-top [] = (λ e. clash (sym e), λ e. absurd (omega arith))
 in-top (l ∷ []) = (λ e. refl, λ e. refl)
 in-top (l ∷ k ∷ ls) = (λ e. clash (sym e), λ e. absurd (omega arith))
 
--- A group frame in these open groups breaks none of the rules 5, 7 and 9.
+-- A group frame breaks none of the rules 5, 7 and 9, with the groups `ls` open.
 abbrev pub HeadUnbroken : List OpenGroup → Head → Type 0
 HeadUnbroken ls h =
     (leb 4 (length ls) ≡ false) × (ltb 1 (h .groupType) ≡ false) × (oneHolds (countFaults (topPoints ls) (inTop ls) h) ≡ false)
 
--- It breaks none of them, and no group stands behind a fill group in the top group, just where the group's head is sound.
+-- It breaks none of them, and no group follows if it is a fill group in the top group, if and only if its head is sound.
 pub sound-head : (ls : List OpenGroup) (h : Head) (following : Groups)
     → (HeadUnbroken ls h × (h .countKind ≡ fill → inTop ls ≡ true → following ≡ noGroup))
     ↔ SoundHead (topPoints ls) (suc (length ls)) h following

@@ -1,4 +1,4 @@
--- The catalog of sound models is accepted, and checking answers their number.
+-- The catalog of sound models is accepted, and checking returns their number.
 use mathlib.Core.Path.{_≡_, sym, ap, _∙_}
 use mathlib.Core.Bool.{false}
 use mathlib.Core.List.{List, []}
@@ -19,7 +19,7 @@ use Rattle.model_definitions.proofs.ModelFrames.{words-of-definitions}
 use Rattle.model_definitions.proofs.SoundModels.{models-sound}
 use Rattle.model_definitions.proofs.AcceptedIsSound.{accepted-is-sound}
 
--- The catalog of sound models is accepted, with their number.
+-- The catalog of sound models is accepted with their number.
 pub sound-is-accepted : (ds : List Definition) → SoundCatalog ds → checked (wordsOfAll (catalogFrames ds)) ≡ accepted (length ds)
 sound-is-accepted ds s =
     let fs = catalogFrames ds in
@@ -30,10 +30,10 @@ sound-is-accepted ds s =
     let rest = accepted-frames fs start 0 n .1 w in
     accepted-start (wordsOfAll fs) n .1 (omega arith, omega arith, rw (frames-words fs) rest)
 
--- A catalog is accepted just where it is the words of its definitions and these are sound.
-pub accepted-just-where-sound : (ws : List ℕ) (n : ℕ) → (checked ws ≡ accepted n)
+-- A catalog is accepted if and only if its words are those of its definitions and these are sound.
+pub accepted-iff-sound : (ws : List ℕ) (n : ℕ) → (checked ws ≡ accepted n)
     ↔ ((wordsOfAll (catalogFrames (definitions ws)) ≡ ws) × SoundCatalog (definitions ws) × (length (definitions ws) ≡ n))
-accepted-just-where-sound ws n = (
+accepted-iff-sound ws n = (
   λ e. let a = accepted-is-sound ws n e in (words-of-definitions ws n e, a .0, sym (a .1)),
   λ s. sym (ap checked (s .0)) ∙ sound-is-accepted (definitions ws) (s .1) ∙ ap accepted (s .2),
 )

@@ -1,4 +1,4 @@
--- The frames of models are accepted just where the models are sound.
+-- The frames of models are accepted if and only if the models are sound.
 use mathlib.Core.Path.{_≡_, refl, sym, subst, _∙_}
 use mathlib.Core.Bool.{Bool, true, false, not, _&&_, _||_, or-true}
 use mathlib.Core.List.{List, [], _∷_, _++_, append-assoc, append-nil}
@@ -17,7 +17,7 @@ use Rattle.catalog.specs.Rules.{noModel, inTop, run, pointsOf, topPoints, noPoi
 use Rattle.model_definitions.specs.Definitions.{Groups, noGroup, group, Definition, pointFrames, groupFrames, definitionFrames}
 use Rattle.model_definitions.specs.Definitions.{catalogFrames}
 use Rattle.model_definitions.specs.Soundness.{SoundPoint, SoundGroups, SoundDefinition, numbersOf, idsOf}
-use Rattle.model_definitions.proofs.AcceptedFrames.{RunAllowed, Numbered}
+use Rattle.model_definitions.proofs.AcceptedFrames.{KeepsRulesBut6, Numbered}
 use Rattle.model_definitions.proofs.SoundFrames.{sound-head}
 use Rattle.model_definitions.proofs.TreeFrames.{contentFrames, group-frames, definition-frames, run-points, run-groups}
 use Rattle.model_definitions.proofs.NewNumbers.{New}
@@ -29,10 +29,10 @@ use Rattle.model_definitions.proofs.NumberedModels.{usedAfter, numbered
 abbrev withPoints : List Point → OpenGroup
 withPoints ps = record { points = ps; hasGroup = false }
 
--- The points `ps` of a group, behind the points `before`, stand in their places just where they are sound.
+-- The points `ps` of a group, after its points `before`, keep all rules but 6 if and only if they are sound.
 points-accepted : (ps before : List Point) (filled : Bool) (ls : List OpenGroup) (fs : List Frame) → run fs ≡ []
-    → RunAllowed filled (withPoints before ∷ ls) (pointFrames ps ++ fs)
-    ↔ (Each (SoundPoint ((before ++ ps) ++ pointsOf ls)) ps × RunAllowed filled (withPoints (before ++ ps) ∷ ls) fs)
+    → KeepsRulesBut6 filled (withPoints before ∷ ls) (pointFrames ps ++ fs)
+    ↔ (Each (SoundPoint ((before ++ ps) ++ pointsOf ls)) ps × KeepsRulesBut6 filled (withPoints (before ++ ps) ∷ ls) fs)
 points-accepted [] before filled ls fs e = rw (append-nil before) (λ w. (tt, w), λ w. w .1)
 points-accepted (p ∷ ps) before filled ls fs e =
     let following = points-accepted ps (before ++ (p ∷ [])) filled ls fs e in
@@ -44,26 +44,26 @@ points-accepted (p ∷ ps) before filled ls fs e =
 
 -- ---- Groups
 
--- Does a group stand among these, or did one before?
+-- Is there a group in `g`, or was there one before?
 abbrev anyGroup : Groups → Bool → Bool
 anyGroup noGroup before = before
 anyGroup (group h ps inside following) before = true
 
--- A group that stood before still does.
+-- If there was one before, there still is.
 still-any : (g : Groups) → anyGroup g true ≡ true
 still-any noGroup = refl
 still-any (group h ps inside following) = refl
 
--- An open group behind these groups in it.
+-- The open group `l` after the groups `g` in it.
 abbrev past : Groups → OpenGroup → OpenGroup
 past g l = record { points = l .points; hasGroup = anyGroup g (l .hasGroup) }
 
--- Is there a fill group among these and the groups in them, or was there one before?
+-- Is there a fill group among the groups `g` and those in them, or was there one before?
 abbrev anyFill : Groups → Bool → Bool
 anyFill noGroup before = before
 anyFill (group h ps inside following) before = anyFill following (anyFill inside (before || eqb (h .countKind) fill))
 
--- A fill group that was there before still is.
+-- If there was one before, there still is one.
 still-fill : (g : Groups) → anyFill g true ≡ true
 still-fill noGroup = refl
 still-fill (group h ps inside following) = rw (still-fill inside) (still-fill following)
@@ -78,7 +78,7 @@ no-fill top enclosing level (group k ps inside following) h s =
     rw (constant, no-fill top (ps ++ enclosing) (suc level) inside (omega arith) (s .3))
     (no-fill top enclosing level following h (s .4))
 
--- A sound group that is a fill group, or holds one, is the last in its group.
+-- If a sound group is a fill group, or has one inside, no group follows it.
 fills-last : (top enclosing : List Point) (n : ℕ) (h : Head) (ps : List Point) (inside following : Groups)
     → SoundGroups top enclosing (suc (suc n)) (group h ps inside following) → anyFill inside (eqb (h .countKind) fill) ≡ true
     → following ≡ noGroup
@@ -88,23 +88,25 @@ fills-last top enclosing n h ps inside following s = go (eqb (h .countKind) fill
     go true q f = s .0 .filling (eqb-true (h .countKind) fill q) .1
     go false q f = clash (sym f ∙ no-fill top (ps ++ enclosing) (suc (suc (suc n))) inside (omega arith) (s .3))
 
--- Groups in the innermost open group stand in their places just where they are sound and, in the top group, behind no fill group.
+-- Groups in the innermost open group keep all rules but 6 if and only if they are sound and, in the top group, do not follow a
+-- fill group.
 abbrev GroupsAccepted : Groups → Type 0
 GroupsAccepted g =
     (filled : Bool) (l : OpenGroup) (ls : List OpenGroup) (fs : List Frame)
-    → RunAllowed filled (l ∷ ls) (groupFrames g ++ fs)
+    → KeepsRulesBut6 filled (l ∷ ls) (groupFrames g ++ fs)
     ↔ (SoundGroups (topPoints (l ∷ ls)) (pointsOf (l ∷ ls)) (suc (suc (length ls))) g
     × (inTop (l ∷ ls) && filled ≡ true → g ≡ noGroup)
-    × RunAllowed (anyFill g filled) (past g l ∷ ls) fs)
+    × KeepsRulesBut6 (anyFill g filled) (past g l ∷ ls) fs)
 
--- What a group holds, to its end frame, stands in its place just where its points and groups are sound and rule 10 holds.
+-- The content of a group, up to its end frame, keeps all rules but 6 if and only if its points and groups are sound and rule 10
+-- holds.
 content-accepted : (ps : List Point) (g : Groups) → GroupsAccepted g → (filled : Bool) (ls : List OpenGroup) (fs : List Frame)
     → noModel ls && filled ≡ false
-    → RunAllowed filled (opened ∷ ls) (contentFrames ps g fs)
+    → KeepsRulesBut6 filled (opened ∷ ls) (contentFrames ps g fs)
     ↔ (Each (SoundPoint (ps ++ pointsOf ls)) ps
     × SoundGroups (topPoints (withPoints ps ∷ ls)) (ps ++ pointsOf ls) (suc (suc (length ls))) g
     × (noPoint ps && not (noModel ls && anyGroup g false) ≡ false)
-    × RunAllowed (anyFill g filled) ls fs)
+    × KeepsRulesBut6 (anyFill g filled) ls fs)
 content-accepted ps g accepted-below filled ls fs unfilled =
     let own = points-accepted ps [] filled ls (groupFrames g ++ (endFrame ∷ fs)) (run-groups g fs) in
     let lower = accepted-below filled (withPoints ps) ls (endFrame ∷ fs) in (
@@ -115,23 +117,23 @@ content-accepted ps g accepted-below filled ls fs unfilled =
       λ w. own .1 (w .0, lower .1 (w .1, λ t. clash (sym t ∙ unfilled), (refl, w .2, w .3))),
     )
 
--- Rule 10 of a lower group: it has a point of its own.
+-- Rule 10 for a lower group: it has a point of its own.
 has-point : (ps : List Point) → (noPoint ps && true ≡ false) ↔ (1 ≤ length ps)
 has-point [] = (λ e. clash e, λ h. absurd (omega arith))
 has-point (p ∷ ps) = (λ e. omega arith, λ h. refl)
 
--- A test that holds only where a group is none does not hold.
+-- A test that implies that a group is no group is false.
 never-none : (b : Bool) (h : Head) (ps : List Point) (inside following : Groups) → (b ≡ true → group h ps inside following ≡ noGroup)
     → b ≡ false
 never-none true h ps inside following f = let z = f refl in cc
 never-none false h ps inside following f = refl
 
--- Frames may be written otherwise.
+-- Equal lists of frames keep the same rules.
 rewritten : {B : Type 0} (filled : Bool) (ls : List OpenGroup) {fs gs : List Frame} → fs ≡ gs
-    → RunAllowed filled ls gs ↔ B → RunAllowed filled ls fs ↔ B
-rewritten {B = B} filled ls e h = subst (λ x. RunAllowed filled ls x ↔ B) (sym e) h
+    → KeepsRulesBut6 filled ls gs ↔ B → KeepsRulesBut6 filled ls fs ↔ B
+rewritten {B = B} filled ls e h = subst (λ x. KeepsRulesBut6 filled ls x ↔ B) (sym e) h
 
--- A group stands in its place with the groups behind it, where those in it and those behind it do.
+-- If this holds for the groups in a group and for those after it, it holds for the group and those after it.
 group-accepted : (h : Head) (ps : List Point) (inside following : Groups) → GroupsAccepted inside → GroupsAccepted following
     → GroupsAccepted (group h ps inside following)
 group-accepted h ps inside following accepted-inside accepted-after = λ filled l ls fs.
@@ -159,26 +161,26 @@ group-accepted h ps inside following accepted-inside accepted-after = λ filled 
           (placed, head .1 (s .0) .0, held .1 (s .2, s .3, has-point ps .1 (s .1), side .1 (s .4, last, w .2))),
     )
 
--- Groups stand in their places just where they are sound.
+-- So it holds for all groups.
 groups-accepted : (g : Groups) → GroupsAccepted g
 groups-accepted noGroup = λ filled l ls fs. (λ w. (tt, λ t. refl, w), λ w. w .2)
 groups-accepted (group h ps inside following) = group-accepted h ps inside following (groups-accepted inside) (groups-accepted following)
 
 -- ---- Models
 
--- Rule 10 of a top group: it has a point or a group.
+-- Rule 10 for a top group: it has a point or a group.
 has-content : (ps : List Point) (g : Groups) → (noPoint ps && not (anyGroup g false) ≡ false) ↔ (ps ≡ [] → g ≡ noGroup → ⊥)
 has-content [] noGroup = (λ e. clash e, λ h. absurd (h refl refl))
 has-content [] (group h ps inside following) = (λ e p g. impossible (cc), λ h. refl)
 has-content (p ∷ ps) g = (λ e q h. impossible (cc), λ h. refl)
 
--- A model stands in its place just where what it holds is sound.
+-- A model keeps all rules but 6 if and only if its points and groups are sound and it is not empty.
 model-accepted : (d : Definition) (filled : Bool) (fs : List Frame)
-    → RunAllowed filled [] (definitionFrames d ++ fs)
+    → KeepsRulesBut6 filled [] (definitionFrames d ++ fs)
     ↔ (Each (SoundPoint (d .top .points)) (d .top .points)
     × SoundGroups (d .top .points) (d .top .points) 2 (d .top .groups)
     × (d .top .points ≡ [] → d .top .groups ≡ noGroup → ⊥)
-    × RunAllowed (anyFill (d .top .groups) false) [] fs)
+    × KeepsRulesBut6 (anyFill (d .top .groups) false) [] fs)
 model-accepted d filled fs =
     let ps = d .top .points in
     let g = d .top .groups in
@@ -189,9 +191,9 @@ model-accepted d filled fs =
       λ w. (refl, held .1 (w .0, w .1, some .1 (w .2), w .3)),
     )
 
--- The frames of models, behind models with these ids, break no rule just where the models are sound and their ids are new.
+-- The frames of models, after models with the ids `ids`, break no rule if and only if the models are sound and their ids are new.
 pub models-sound : (ds : List Definition) (n : ℕ) (filled : Bool) (ids used : List ℕ)
-    → (RunAllowed filled [] (catalogFrames ds) × Numbered n ids used (catalogFrames ds))
+    → (KeepsRulesBut6 filled [] (catalogFrames ds) × Numbered n ids used (catalogFrames ds))
     ↔ (Each SoundDefinition ds × New ids (idsOf ds) × (length ids + length ds ≡ n))
 models-sound [] n filled ids used =
     (λ w. (tt, tt, let e = w .1 in omega arith), λ w. (refl, let e = w .2 in omega arith))

@@ -1,78 +1,79 @@
 -- The model definitions of a catalog as trees of groups (document 01, "The book": a model frame opens the top group, a group
--- frame a group in it or further in, and an end frame ends the innermost open one).
+-- frame opens a group in the innermost open group, and an end frame ends the innermost open group).
 use mathlib.Core.List.{List, [], _∷_, _++_}
 use Prim.Native.Nat.{ℕ, _+_}
 use Rattle.catalog_frames.specs.Frames.{Point, Head, Frame, modelFrame, groupFrame, pointFrame, endFrame, malformed, frames}
 
--- Groups standing side by side in a group: none, or a first one, by its head, its own points and the groups in it, and then the
--- groups behind it.
+-- Sibling groups, in order: none, or a first group, given by its head, its own points and the groups inside it, and then the
+-- groups after it.
 pub data Groups : Type 0 where
   noGroup : Groups
   group : Head → List Point → Groups → Groups → Groups
 
--- What a group holds: its own points, then groups.
+-- The content of a group: its own points, then the groups in it.
 pub record Content : Type 0 where
   pub points : List Point
   pub groups : Groups
 
--- A model's definition: its id and its top group.
+-- The definition of a model: its id and the content of its top group.
 pub record Definition : Type 0 where
   pub id : ℕ
   pub top : Content
 
--- The registers of points.
+-- The number of registers that points take.
 abbrev pub pointsSize : List Point → ℕ
 pointsSize [] = 0
 pointsSize (p ∷ ps) = p .size + pointsSize ps
 
 -- ---- The frames of a definition
 
--- A frame for each point.
+-- The frames of points.
 abbrev pub pointFrames : List Point → List Frame
 pointFrames [] = []
 pointFrames (p ∷ ps) = pointFrame p ∷ pointFrames ps
 
--- Each group from its group frame to its end frame.
+-- The frames of sibling groups: each from its group frame to its end frame.
 abbrev pub groupFrames : Groups → List Frame
 groupFrames noGroup = []
 groupFrames (group h ps inside following) =
     (groupFrame h ∷ pointFrames ps) ++ (groupFrames inside ++ (endFrame ∷ groupFrames following))
 
--- A model's frames, from its model frame to the end frame of its top group.
+-- The frames of a model, from its model frame to the end frame of its top group.
 abbrev pub definitionFrames : Definition → List Frame
 definitionFrames d =
     (modelFrame (d .id) ∷ pointFrames (d .top .points)) ++ (groupFrames (d .top .groups) ++ (endFrame ∷ []))
 
--- The frames of several, one behind the other.
+-- The frames of consecutive models.
 abbrev pub catalogFrames : List Definition → List Frame
 catalogFrames [] = []
 catalogFrames (d ∷ ds) = definitionFrames d ++ catalogFrames ds
 
--- ---- The definitions of frames
+-- ---- From frames to definitions
 
--- Of the frames from one on: what each group that is open there still holds, the innermost first, and the models that begin
--- there.
+-- The result of reading the frames from a frame on: for each group that is open there its remaining content (`rest`, the
+-- innermost first), and the models that begin there or later.
 pub record Parsed : Type 0 where
   pub rest : List Content
   pub models : List Definition
 
--- A group that holds nothing.
+-- A group without content.
 abbrev pub empty : Content
 empty = record { points = []; groups = noGroup }
 
--- What the innermost open group still holds. (Nothing is left only where an end frame is missing: never in an accepted catalog.)
+-- The remaining content of the innermost open group. (The list is empty only if an end frame is missing, which is never the case
+-- in an accepted catalog.)
 abbrev pub inner : List Content → Content
 inner [] = empty
 inner (c ∷ cs) = c
 
--- What the groups around it still hold.
+-- The remaining content of the groups around it.
 abbrev pub outer : List Content → List Content
 outer [] = []
 outer (c ∷ cs) = cs
 
--- A frame in front of those read. Reading goes from the last frame to the first, so that a group is whole when its group frame
--- is met: an end frame begins a group that holds nothing, a point is put in front of what its group holds, a group or model
--- frame takes the whole group. The frames of what was read are the frames again (`proofs/ModelFrames.antt`).
+-- One more frame, before those already read. Reading goes from the last frame to the first, so a group is complete when its
+-- group frame is reached: an end frame starts an empty content, a point is added at the front, a group or model frame takes the
+-- complete content. Writing the result as frames gives the frames back (`proofs/ModelFrames.antt`).
 abbrev pub prepended : Frame → Parsed → Parsed
 prepended (modelFrame id) r =
     record { rest = outer (r .rest); models = record { id = id; top = inner (r .rest) } ∷ r .models }
@@ -90,16 +91,16 @@ prepended (pointFrame p) r =
 prepended endFrame r = record { rest = empty ∷ r .rest; models = r .models }
 prepended malformed r = r
 
--- Frames as definitions, from the last frame to the first.
+-- Frames read as definitions, from the last frame to the first.
 unfoldable pub parsed : List Frame → Parsed
 parsed [] = record { rest = []; models = [] }
 parsed (f ∷ fs) = prepended f (parsed fs)
 
--- The model definitions of a catalog. (Of one that is not accepted, frames may be passed over or change order.)
+-- The model definitions of a catalog. (If it is not accepted, they may skip frames or change their order.)
 abbrev pub definitions : List ℕ → List Definition
 definitions ws = parsed (frames ws) .models
 
--- The ids of the model frames: those that a catalog, accepted or not, knows (document 01, "The map").
+-- The ids of the model frames: the known ids of a catalog, accepted or not (document 01, "The map").
 abbrev pub modelIds : List Frame → List ℕ
 modelIds [] = []
 modelIds (modelFrame id ∷ fs) = id ∷ modelIds fs

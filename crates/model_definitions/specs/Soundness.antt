@@ -1,6 +1,6 @@
--- What holds of the definitions of an accepted catalog: the rules of document 01, "Checking", said of the trees instead of
--- frame by frame. A catalog is accepted just where it is the words of its definitions and these are sound: rules 1, 3 and 11
--- and the rest of 4 hold of the words of any trees (`proofs/AcceptedIsSound.antt`, `SoundIsAccepted.antt`).
+-- What holds of the definitions of an accepted catalog: the rules of document 01, "Checking", stated for the trees instead of
+-- frame by frame. A catalog is accepted if and only if its words are those of its definitions and these are sound. Rules 1, 3
+-- and 11 and the rest of 4 hold for the words of any trees (`proofs/AcceptedIsSound.antt`, `SoundIsAccepted.antt`).
 use mathlib.Core.Path.{_≡_}
 use mathlib.Core.Bool.{true}
 use mathlib.Core.List.{List, [], _∷_, _++_}
@@ -16,7 +16,7 @@ use Rattle.frame_rules.specs.FrameTests.{isSizeOf}
 use Rattle.catalog.specs.Rules.{hasScaleFactor, hasCountPoint}
 use Rattle.model_definitions.specs.Definitions.{Groups, noGroup, group, Definition, definitionFrames, catalogFrames}
 
--- The numbers of these points and groups, in the order of their frames.
+-- The numbers of the points and groups of these frames, in order.
 abbrev pub numbersOf : List Frame → List ℕ
 numbersOf [] = []
 numbersOf (modelFrame id ∷ fs) = numbersOf fs
@@ -25,7 +25,7 @@ numbersOf (pointFrame p ∷ fs) = p .number ∷ numbersOf fs
 numbersOf (endFrame ∷ fs) = numbersOf fs
 numbersOf (malformed ∷ fs) = numbersOf fs
 
--- A point (rules 7 and 8). `inScope` is the points of its own group and of the enclosing ones.
+-- A sound point (rules 7 and 8). `inScope` is the points of its own group and of the enclosing ones.
 pub record SoundPoint (inScope : List Point) (p : Point) : Type 0 where
   pub sized : isSizeOf (p .typeCode) (p .size) ≡ true
   pub mandatoryFlag : p .mandatory ≤ 1
@@ -36,8 +36,8 @@ pub record SoundPoint (inScope : List Point) (p : Point) : Type 0 where
   pub inRange : p .scaleKind ≡ fixedScale → isScaleFactor (twosComplement 16 (p .scale)) ≡ true
   pub resolved : p .scaleKind ≡ scaleByPoint → hasScaleFactor (p .scale) inScope ≡ true
 
--- A group's head (rules 4, 5, 7 and 9). `top` is the points of the top group, `level` the group's own (the top group is level 1),
--- `following` the groups behind it in its group.
+-- A sound head of a group (rules 4, 5, 7 and 9). `top` is the points of the top group, `level` the level of the group (the top
+-- group is level 1), `following` the sibling groups after it.
 pub record SoundHead (top : List Point) (level : ℕ) (h : Head) (following : Groups) : Type 0 where
   pub levelInRange : level ≤ 4
   pub typeFlag : h .groupType ≤ 1
@@ -46,7 +46,7 @@ pub record SoundHead (top : List Point) (level : ℕ) (h : Head) (following : Gr
   pub counted : h .countKind ≡ countByPoint → hasCountPoint (h .count) top ≡ true
   pub filling : h .countKind ≡ fill → (level ≡ 2) × (following ≡ noGroup) × (h .count ≡ 0)
 
--- Groups side by side, with the groups in them (rule 10: each has a point of its own). `enclosing` is the points of the groups
+-- Sound sibling groups, with the groups in them (rule 10: each has a point of its own). `enclosing` is the points of the groups
 -- around them.
 abbrev pub SoundGroups : List Point → List Point → ℕ → Groups → Type 0
 SoundGroups top enclosing level noGroup = Unit {0}
@@ -57,7 +57,7 @@ SoundGroups top enclosing level (group h ps inside following) =
     × SoundGroups top (ps ++ enclosing) (suc level) inside
     × SoundGroups top enclosing level following
 
--- A model (rules 6 and 10, and the rules of all that it holds).
+-- A sound model (rules 6 and 10, and the rules for its points and groups).
 pub record SoundDefinition (d : Definition) : Type 0 where
   pub notZero : d .id ≡ 0 → ⊥
   pub notMarker : d .id ≡ 65535 → ⊥
@@ -67,41 +67,41 @@ pub record SoundDefinition (d : Definition) : Type 0 where
   pub points : Each (SoundPoint (d .top .points)) (d .top .points)
   pub groups : SoundGroups (d .top .points) (d .top .points) 2 (d .top .groups)
 
--- The ids of models.
+-- The ids of the models.
 abbrev pub idsOf : List Definition → List ℕ
 idsOf [] = []
 idsOf (d ∷ ds) = d .id ∷ idsOf ds
 
--- A catalog (rules 2 and 6, and the rules of each model).
+-- A sound catalog (rules 2 and 6, and the rules for each model).
 pub record SoundCatalog (ds : List Definition) : Type 0 where
   pub few : length (catalogFrames ds) ≤ 4096
   pub distinct : Distinct (idsOf ds)
   pub each : Each SoundDefinition ds
 
--- ---- What follows for every group and point
+-- ---- Facts about every group and point
 
--- A fact about each of these groups and each group in them: about the points of the groups around it, its level, its head, its
--- own points and the groups after it.
+-- P holds of each of these groups and of each group in them. P is about the points of the groups around a group, its level, its
+-- head, its own points and the sibling groups after it.
 abbrev pub EachGroup : (List Point → ℕ → Head → List Point → Groups → Type 0) → List Point → ℕ → Groups → Type 0
 EachGroup P enclosing level noGroup = Unit {0}
 EachGroup P enclosing level (group h ps inside following) =
     P enclosing level h ps following × EachGroup P (ps ++ enclosing) (suc level) inside × EachGroup P enclosing level following
 
--- Such a fact about each lower group of a model.
+-- P holds of each lower group of a model.
 abbrev pub EachLowerGroup : (List Point → ℕ → Head → List Point → Groups → Type 0) → Definition → Type 0
 EachLowerGroup P d = EachGroup P (d .top .points) 2 (d .top .groups)
 
--- If a point gives the scale factor, it is a sunssf point among these.
+-- If a point gives the scale factor of `p`, it is a sunssf point in scope.
 abbrev pub ScaleResolves : List Point → Point → Type 0
 ScaleResolves inScope p =
     p .scaleKind ≡ scaleByPoint → (q : Point) × (In q inScope) × (q .number ≡ p .scale) × (q .typeCode ≡ sunssf)
 
--- If a point gives the count, it is a uint16 point with access R among these.
+-- If a point gives the count, it is a uint16 point with access R in the top group.
 abbrev pub CountResolves : List Point → Head → Type 0
 CountResolves top h =
     h .countKind ≡ countByPoint
     → (q : Point) × (In q top) × (q .number ≡ h .count) × (q .typeCode ≡ uint16) × (q .access ≡ readOnly)
 
--- A fill group stands directly in the top group, which is level 1, and no group stands behind it.
+-- A fill group is directly in the top group, which is level 1, and no group follows it.
 abbrev pub FillsLast : ℕ → Head → Groups → Type 0
 FillsLast level h following = h .countKind ≡ fill → (level ≡ 2) × (following ≡ noGroup)

@@ -1,4 +1,4 @@
--- A map in which registers of one model's body are stored anew: it is made of the same models, that one with its new body.
+-- A map after new registers are stored in the body of one model: it has the same models, that one with its new body.
 use mathlib.Core.Path.{_≡_, refl, sym, ap, _∙_}
 use mathlib.Core.Bool.{true}
 use mathlib.Core.List.{List, [], _∷_, _++_, append-assoc}
@@ -16,31 +16,31 @@ use Rattle.register_map.proofs.ScanBack.{length-registers, scan-whole-b
 use Rattle.register_map.proofs.MadeOfModels.{MadeOf}
 use Rattle.register_map.proofs.Lengthened.{registers-append}
 
--- A model with registers stored in its body from an offset on.
+-- The model `m` with the registers `vs` stored in its body from `offset` on.
 abbrev pub storedIn : Model → ℕ → List ℕ → Model
 storedIn m offset vs = record { id = m .id; body = sets (m .body) offset vs }
 
 module _ (a b : ℕ) (preceding : List Model) (following : List Model) (tail : List ℕ) where
-  -- A map up to a model's body,
+  -- The map up to the body of the model `m`,
   abbrev before : Model → List ℕ
   before m = a ∷ b ∷ (modelRegisters preceding ++ m .id ∷ length (m .body) ∷ [])
 
-  -- and behind it.
+  -- and after the body.
   abbrev after : List ℕ
   after = modelRegisters following ++ tail
 
-  -- A map is what stands before a body, the body, and what stands behind it.
+  -- The map is these registers with the body between them.
   around-body : (m : Model)
       → a ∷ b ∷ modelRegisters (preceding ++ m ∷ following) ++ tail ≡ before m ++ (m .body ++ after)
   unfolding modelRegisters
   around-body m = rw (registers-append preceding (m ∷ following)) (simp append-assoc)
 
-  -- The body begins behind the models in front and the model's header.
+  -- The body begins after the preceding models and the model's header.
   before-length : (m : Model) → length (before m) ≡ 2 + totalSize preceding + 2
   before-length m =
       omega (arith, length-append (modelRegisters preceding) (m .id ∷ length (m .body) ∷ []), length-registers preceding)
 
-  -- Registers stored in the body.
+  -- Storing registers in the map stores them in the body of the model.
   registers-replaced : (m : Model) (offset : ℕ) (vs : List ℕ) → offset + length vs ≤ length (m .body)
       → (at : ℕ) → at ≡ 2 + totalSize preceding + 2 + offset
       → sets (a ∷ b ∷ modelRegisters (preceding ++ m ∷ following) ++ tail) at vs
@@ -65,7 +65,7 @@ begins-replaced (f ∷ preceding) following m n e b = b
 module _ (map : List ℕ) (preceding : List Model) (m : Model) (following : List Model) (made : MadeOf map (preceding ++ m ∷ following))
     (offset size : ℕ) (inside : offset + size ≤ length (m .body))
     (at : ℕ) (place : at ≡ 2 + totalSize preceding + 2 + offset) where
-  -- Registers of a model's body lie in the map,
+  -- The registers of a model's body are in the map,
   pub inside-map : at + size ≤ length map
   inside-map =
       let a = made .register0 in
@@ -76,7 +76,7 @@ module _ (map : List ℕ) (preceding : List Model) (m : Model) (following : List
       let k = length-append (m .body) (after a b preceding following tail) in
       omega (arith, before-length a b preceding following tail m)
 
-  -- and are the same there.
+  -- with the same contents.
   pub registers-in-map : take size (drop at map) ≡ take size (drop offset (m .body))
   registers-in-map =
       let a = made .register0 in
@@ -93,14 +93,14 @@ module _ (map : List ℕ) (preceding : List Model) (m : Model) (following : List
 module _ (map : List ℕ) (preceding : List Model) (m : Model) (following : List Model) (made : MadeOf map (preceding ++ m ∷ following))
     (offset : ℕ) (vs : List ℕ) (inside : offset + length vs ≤ length (m .body))
     (at : ℕ) (place : at ≡ 2 + totalSize preceding + 2 + offset) where
-  -- The new map has the same first two registers, and the same registers behind the models.
+  -- The new map has the same first two registers, and the same registers after the models.
   shape-replaced : sets map at vs
       ≡ made .register0 ∷ made .register1 ∷ modelRegisters (preceding ++ storedIn m offset vs ∷ following) ++ 65535 ∷ 0 ∷ made .tail
   shape-replaced =
       ap (λ l. sets l at vs) (made .shape)
       ∙ registers-replaced (made .register0) (made .register1) preceding following (65535 ∷ 0 ∷ made .tail) m offset vs inside at place
 
-  -- It is made of the models, one with its new body.
+  -- It is made of the same models, one with its new body.
   made-replaced : MadeOf (sets map at vs) (preceding ++ storedIn m offset vs ∷ following)
   made-replaced =
       let n = storedIn m offset vs in
@@ -118,7 +118,7 @@ module _ (map : List ℕ) (preceding : List Model) (m : Model) (following : List
         begins = begins-replaced preceding following m n refl (made .begins);
       }
 
-  -- So it is scanned as these, up to the end marker.
+  -- So its scan gives these models, up to the end marker.
   pub scan-replaced : scan (sets map at vs) ≡ record { models = preceding ++ storedIn m offset vs ∷ following; ending = marked }
   scan-replaced =
       let new = made-replaced in
@@ -126,7 +126,7 @@ module _ (map : List ℕ) (preceding : List Model) (m : Model) (following : List
       ∙ scan-whole-back (new .register0) (new .register1) (preceding ++ storedIn m offset vs ∷ following) (new .tail) (new .wellFormed)
       (new .begins)
 
-  -- And where neither 20 nor 21 arose, neither arises.
+  -- If neither 20 nor 21 arose before, neither arises now.
   pub opens-replaced : opening map ≡ none → opening (sets map at vs) ≡ none
   opens-replaced e =
       let o = opening-none map e in

@@ -1,4 +1,4 @@
--- What the registers of a header are, by what stands there.
+-- What is known of the registers of a header, by what is found there.
 use mathlib.Core.Path.{_≡_, _∙_}
 use mathlib.Core.Bool.{Bool, true, not, _&&_}
 use mathlib.Core.List.{List, [], _∷_}
@@ -39,7 +39,7 @@ header-case first (id ∷ len ∷ remaining) =
     by-test Case (ltb (length remaining) len) (λ t. refusedCase) (λ fits.
     modelCase one (eqb-false id 0 z) (eqb-false id endId e) (eqb-false len 0 l) (ltb-false (length remaining) len fits))))))
 
--- What holds of a model's header: its id is that of a model, and its length is 1 or more and does not run past the map.
+-- The header of a model: its id is neither 0 nor the end marker's, and its length is 1 or more and does not run past the map.
 pub record ModelHeader (id len : ℕ) (rest : List ℕ) : Type 0 where
   pub notZero : id ≡ 0 → ⊥
   pub notMarker : id ≡ endId → ⊥
@@ -61,11 +61,11 @@ by-case {id = id′} {len = len′} (modelCase {id = id} {len = len} one notZero
 by-case (endCase one marker l) e = impossible (cc)
 by-case refusedCase e = impossible (cc)
 
--- It holds wherever a model stands.
+-- This holds wherever a model is found.
 model-header : (first : Bool) (rest : List ℕ) {id len : ℕ} → headerAt first rest ≡ model id len → ModelHeader id len rest
 model-header first rest e = by-case (header-case first rest) e
 
--- So a model at an address ends in the map.
+-- So a model found at an address ends within the map.
 pub model-ends : (first : Bool) (map : List ℕ) (at : ℕ) {id len : ℕ} → headerAt first (drop at map) ≡ model id len
     → at + 2 + len ≤ length map
 model-ends first map at {id} {len} e = omega (arith, model-header first (drop at map) e .fits, length-drop at map)

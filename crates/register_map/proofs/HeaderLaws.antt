@@ -1,4 +1,4 @@
--- Headers by their registers: what each test of a header says, and the header at an address.
+-- Laws of headers: the tests of a map as a whole, and the header at an address by its registers.
 use mathlib.Core.Path.{_≡_, refl, sym, ap}
 use mathlib.Core.Bool.{Bool, true, false, not, _&&_, and-false}
 use mathlib.Core.List.{List, [], _∷_}
@@ -14,12 +14,12 @@ use lib.Seq.{drop-cons}
 use Rattle.lists.proofs.TestOutcomes.{impossible, clash, by-test}
 use Rattle.register_map.specs.Headers.{beginsWithSunS, opening, refused, headerOf, headerAt}
 
--- 23 does not arise where the first header's id is 1.
+-- The test for 23 fails if and only if the header has id 1 or is not the first.
 pub first-id : (first : Bool) (id : ℕ) → (first && not (eqb id 1) ≡ false) ↔ (first ≡ true → id ≡ 1)
 first-id true id = (λ e q. eqb-true id 1 (not-false (eqb id 1) e), λ h. ap not (eq-eqb id 1 (h refl)))
 first-id false id = (λ e q. clash (sym q), λ h. refl)
 
--- The answers for a map as a whole.
+-- The results for a map as a whole.
 module _ (map : List ℕ) where
   pub opening-long : 65536 < length map → opening map ≡ some 20
   unfolding opening
@@ -33,7 +33,7 @@ module _ (map : List ℕ) where
   unfolding opening
   opening-with-SunS h e = simp (opening, le-ltb _ _ h, e)
 
-  -- Where neither 20 nor 21 arises, the map is short enough and marked.
+  -- If neither 20 nor 21 arises, the map is short enough and begins with 5375 6E53.
   pub opening-none : opening map ≡ none → (length map ≤ 65536) × (beginsWithSunS map ≡ true)
   unfolding opening
   opening-none e =
@@ -58,12 +58,12 @@ header-drop first map at h =
     rw (drop-cons map at 0, drop-cons map (suc at) 0, add-one)
     (ap (headerOf first (getD map at 0) (getD map (suc at) 0)) e)
 
--- Under two registers are left.
+-- 22 if under two registers are left.
 header-none : (first : Bool) (rest : List ℕ) → length rest < 2 → headerAt first rest ≡ refused 22
 header-none first [] h = refl
 header-none first (id ∷ []) h = refl
 header-none first (id ∷ len ∷ remaining) h = absurd (omega arith)
 
--- Under two registers are left from an address on.
+-- 22 if under two registers are left from address `at` on.
 pub header-late : (first : Bool) (map : List ℕ) (at : ℕ) → length map < at + 2 → headerAt first (drop at map) ≡ refused 22
 header-late first map at h = header-none first (drop at map) (simp length-drop (omega arith))

@@ -1,4 +1,5 @@
--- A lengthened map is scanned as the models that were there with those of the gaps, and is longer by the sizes of these.
+-- The scan of a lengthened map gives the models that were there with those of the gaps, and the map is longer by the sizes of
+-- the latter.
 use mathlib.Core.Path.{_≡_, refl, sym, ap, _∙_}
 use mathlib.Core.List.{List, [], _∷_, _++_, append-assoc}
 use Prim.Native.Nat.{ℕ, _+_}
@@ -13,7 +14,7 @@ use Rattle.register_map.proofs.ScanBack.{scan-whole-back, length-regist
 use Rattle.register_map.proofs.MadeOfModels.{made-of-models}
 use Rattle.register_map.proofs.PlacedModels.{placed-each, placed-begins, placed-size, placed-split, all-unchanged}
 
--- The registers of models behind others.
+-- The registers of two joined lists of models.
 pub registers-append : (ms ns : List Model) → modelRegisters (ms ++ ns) ≡ modelRegisters ms ++ modelRegisters ns
 unfolding modelRegisters
 registers-append [] ns = refl
@@ -21,7 +22,7 @@ registers-append (m ∷ ms) ns =
     ap {B = List ℕ} (λ l. m .id ∷ length (m .body) ∷ l)
     (ap (λ l. m .body ++ l) (registers-append ms ns) ∙ sym (append-assoc (m .body) (modelRegisters ms) (modelRegisters ns)))
 
--- A model behind others, by its address.
+-- The registers from the address of a model on.
 model-at : (ms : List Model) (m : Model) (ns : List Model) (tail : List ℕ) (at : ℕ) → length (modelRegisters ms) ≡ at
     → drop at (modelRegisters (ms ++ m ∷ ns) ++ tail) ≡ m .id ∷ length (m .body) ∷ m .body ++ (modelRegisters ns ++ tail)
 unfolding modelRegisters
@@ -33,13 +34,13 @@ model-at ms m ns tail at e =
       append-assoc (m .body) (modelRegisters ns) tail,
     )
 
--- What is put together, where the map is made of models.
+-- The lengthened map of a map made of the models `ms`, with the models `ns` instead.
 put-together : (map : List ℕ) (ms ns : List Model) (a b : ℕ) (tail : List ℕ) → map ≡ a ∷ b ∷ modelRegisters ms ++ 65535 ∷ 0 ∷ tail
     → take 2 map ++ modelRegisters ns ++ drop (totalSize ms) (drop 2 map) ≡ a ∷ b ∷ modelRegisters ns ++ 65535 ∷ 0 ∷ tail
 put-together map ms ns a b tail e = rw (e, drop-at (modelRegisters ms) (65535 ∷ 0 ∷ tail) (totalSize ms) (length-registers ms))
 
 module _ (map : List ℕ) (ends : scan map .ending ≡ marked) where
-  -- The lengthened map is made of the models placed, with the same first two registers and the same registers behind the marker.
+  -- The lengthened map has the same first two registers, all the models, and the same registers after the marker.
   pub lengthened-shape : (gaps : List (List Model))
       → let m = made-of-models map ends in
       lengthened map gaps
@@ -50,7 +51,7 @@ module _ (map : List ℕ) (ends : scan map .ending ≡ marked) where
       let ms : List Model = scan map .models in
       put-together map ms (allModels (placed ms gaps)) (m .register0) (m .register1) (m .tail) (m .shape)
 
-  -- Its first two registers are the map's, so that it begins with 5375 6E53 where the map does.
+  -- Its first two registers are those of the map, so it begins with 5375 6E53 if and only if the map does.
   pub lengthened-registers : (gaps : List (List Model))
       → (getD (lengthened map gaps) 0 0 ≡ getD map 0 0) × (getD (lengthened map gaps) 1 0 ≡ getD map 1 0)
   lengthened-registers gaps =
@@ -61,7 +62,7 @@ module _ (map : List ℕ) (ends : scan map .ending ≡ marked) where
   pub lengthened-begins : (gaps : List (List Model)) → beginsWithSunS (lengthened map gaps) ≡ beginsWithSunS map
   lengthened-begins gaps = let r = lengthened-registers gaps in rw (r .0, r .1)
 
-  -- It is scanned as the models placed, up to the end marker.
+  -- Its scan gives all the models, up to the end marker.
   pub lengthened-scan : (gaps : List (List Model)) → Each (Each WellFormed) gaps
       → scan (lengthened map gaps) ≡ record { models = allModels (placed (scan map .models) gaps); ending = marked }
   lengthened-scan gaps g =
@@ -85,7 +86,7 @@ module _ (map : List ℕ) (ends : scan map .ending ≡ marked) where
       let l′ = length-append (modelRegisters ns) (65535 ∷ 0 ∷ m .tail) in
       omega (arith, length-registers ms, length-registers ns, placed-size ms gaps)
 
-  -- With no gaps the map is as it was.
+  -- With no gaps the map stays the same.
   pub lengthened-none : lengthened map [] ≡ map
   lengthened-none =
       let m = made-of-models map ends in
@@ -94,7 +95,7 @@ module _ (map : List ℕ) (ends : scan map .ending ≡ marked) where
       ∙ ap {B = List ℕ} (λ ms. m .register0 ∷ m .register1 ∷ modelRegisters ms ++ 65535 ∷ 0 ∷ m .tail) same
       ∙ sym (m .shape)
 
-  -- A model that was there has its header behind the models in front of it and those of their gaps.
+  -- The header of a model that was there comes after the preceding models and the models of their gaps.
   pub lengthened-header : (preceding : List Model) (m : Model) (rest : List Model) (gaps : List (List Model))
       → scan map .models ≡ preceding ++ m ∷ rest
       → (following : List ℕ)

@@ -1,4 +1,4 @@
--- A map whose scan ends at the end marker is its first two registers, its models, the marker and what follows.
+-- A map whose scan ends at the end marker consists of its first two registers, its models, the marker and what follows.
 use mathlib.Core.Path.{_≡_, refl, ap, _∙_}
 use mathlib.Core.Bool.{Bool, true, false}
 use mathlib.Core.List.{List, [], _∷_, _++_, append-assoc}
@@ -18,7 +18,7 @@ use Rattle.register_map.proofs.ScanBack.{length-registers, length-total
 unbroken : {A : Type 0} (number : ℕ) → broken number ≡ marked → A
 unbroken number e = impossible (cc)
 
--- The first model's id is 1 where the first header's is, and a map cannot begin with the end marker.
+-- The first model has id 1, since the first header has, and a map cannot begin with the end marker.
 begins-model : (first : Bool) (m : Model) (ms : List Model) → (first ≡ true → m .id ≡ 1) → BeginsWith1 first (m ∷ ms)
 begins-model true m ms one = one refl
 begins-model false m ms one = tt
@@ -27,7 +27,7 @@ begins-end : (first : Bool) (id : ℕ) → (first ≡ true → id ≡ 1) → id 
 begins-end true id one e = let o = one refl in omega arith
 begins-end false id one e = tt
 
--- Registers from a header on, taken apart into the models scanned and what is left behind them.
+-- The registers from a header on are the models scanned, followed by the registers `left`.
 record TakenApart (first : Bool) (rest : List ℕ) (s : Scan) : Type 0 where
   pub left : List ℕ
   pub shape : rest ≡ modelRegisters (s .models) ++ left
@@ -35,7 +35,7 @@ record TakenApart (first : Bool) (rest : List ℕ) (s : Scan) : Type 0 where
   pub ends : s .ending ≡ marked → left ≡ endId ∷ 0 ∷ drop 2 left
   pub begins : s .ending ≡ marked → BeginsWith1 first (s .models)
 
--- A model in front of the rest.
+-- A model, followed by the rest.
 rejoined : (id len : ℕ) (remaining ms left : List ℕ) → length (take len remaining) ≡ len → drop len remaining ≡ ms ++ left
     → _≡_ {A = List ℕ} (id ∷ len ∷ remaining) ((id ∷ length (take len remaining) ∷ take len remaining ++ ms) ++ left)
 rejoined id len remaining ms left l e = rw (l, append-assoc (take len remaining) ms left, ← e, take-append-drop len remaining)
@@ -112,12 +112,12 @@ made-of-models (a ∷ b ∷ rest) h =
       begins = t .begins h;
     }
 
--- The models scanned are well-formed, whatever the scan ends at.
+-- The models scanned are well-formed, however the scan ends.
 pub scanned-well-formed : (map : List ℕ) → Each WellFormed (scan map .models)
 unfolding scan
 scanned-well-formed map = taken-apart (length map) true (drop 2 map) .wellFormed
 
--- Where the scan ends at the marker, its two registers lie behind the models.
+-- If the scan ends at the marker, the map has the two registers of the marker after the models.
 pub marked-fit : (map : List ℕ) → scan map .ending ≡ marked → totalSize (scan map .models) + 4 ≤ length map
 marked-fit map h =
     let m = made-of-models map h in

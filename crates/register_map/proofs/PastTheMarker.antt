@@ -1,4 +1,4 @@
--- Registers behind the end marker count for nothing: the map opens and is scanned as without them.
+-- Registers after the end marker are ignored: adding some changes neither the scan nor the opening of a map.
 use mathlib.Core.Path.{_≡_, sym, ap, _∙_}
 use mathlib.Core.List.{List, _∷_, _++_, append-assoc}
 use Prim.Native.Nat.{ℕ, _≤_}

@@ -1,4 +1,4 @@
--- The models of a lengthened map: those that were there, with the models of the gaps in between.
+-- The models of a lengthened map: those that were there, with the models of the gaps between them.
 use mathlib.Core.Path.{_≡_, refl, sym, ap, _∙_}
 use mathlib.Core.Bool.{true}
 use mathlib.Core.List.{List, [], _∷_, _++_, append-assoc}
@@ -10,35 +10,35 @@ use Rattle.lists.proofs.EachLaws.{each-append}
 use Rattle.register_map.specs.Scan.{Model, totalSize, BeginsWith1}
 use Rattle.register_map.specs.Insertion.{Placed, allModels, withInserted, placed, gapsBefore}
 
--- Sizes add up.
+-- The size of two joined lists is the sum of their sizes.
 pub size-append : (ms ns : List Model) → totalSize (ms ++ ns) ≡ totalSize ms + totalSize ns
 size-append [] ns = omega arith
 size-append (m ∷ ms) ns = let e = size-append ms ns in omega arith
 
--- No gaps, no models.
+-- With no gaps there are no models of gaps.
 pub no-gaps : (i : ℕ) → gapsBefore i [] ≡ []
 unfolding gapsBefore
 no-gaps zero = refl
 no-gaps (suc i) = refl
 
--- The models of a gap in front of others.
+-- The models of a gap, followed by others.
 all-inserted : (gap : List Model) (ps : List Placed) → allModels (withInserted gap ps) ≡ gap ++ allModels ps
 all-inserted [] ps = refl
 all-inserted (m ∷ gap) ps = ap {B = List Model} (λ ms. m ∷ ms) (all-inserted gap ps)
 
--- A model with a gap behind it.
+-- A model, followed by its gap.
 pub all-gap : (m : Model) (ms : List Model) (gap : List Model) (gaps : List (List Model))
     → allModels (placed (m ∷ ms) (gap ∷ gaps)) ≡ m ∷ gap ++ allModels (placed ms gaps)
 unfolding placed
 all-gap m ms gap gaps = ap {B = List Model} (λ ns. m ∷ ns) (all-inserted gap (placed ms gaps))
 
--- Nothing is inserted where there are no gaps.
+-- With no gaps nothing is inserted.
 pub all-unchanged : (ms : List Model) → allModels (placed ms []) ≡ ms
 unfolding placed
 all-unchanged [] = refl
 all-unchanged (m ∷ ms) = ap {B = List Model} (λ ns. m ∷ ns) (all-unchanged ms)
 
--- The models of the lengthened map are those that were there and those of the gaps, by number and by size.
+-- The number and the size of the models of the lengthened map are those of the models there before plus those of the gaps.
 pub placed-length : (ms : List Model) (gaps : List (List Model))
     → length (allModels (placed ms gaps)) ≡ length ms + length (gapsBefore (length ms) gaps)
 unfolding placed gapsBefore
@@ -61,7 +61,7 @@ placed-size (m ∷ ms) (gap ∷ gaps) =
     let g = size-append gap (gapsBefore (length ms) gaps) in
     omega (arith, placed-size ms gaps)
 
--- What holds of each model that was there and of each inserted one holds of all.
+-- What holds of each model that was there and of each inserted model holds of all.
 module _ (P : Model → Type 0) where
   pub placed-each : (ms : List Model) (gaps : List (List Model)) → Each P ms → Each (Each P) gaps
       → Each P (allModels (placed ms gaps))
@@ -80,7 +80,7 @@ placed-begins [] gaps b = b
 placed-begins (m ∷ ms) [] b = b
 placed-begins (m ∷ ms) (gap ∷ gaps) b = b
 
--- A model that was there stands behind the models in front of it and those of their gaps.
+-- A model that was there comes after the preceding models and the models of their gaps.
 pub placed-split : (preceding : List Model) (m : Model) (rest : List Model) (gaps : List (List Model))
     → (following : List Model) × (allModels (placed (preceding ++ m ∷ rest) gaps) ≡ allModels (placed preceding gaps) ++ m ∷ following)
 unfolding placed

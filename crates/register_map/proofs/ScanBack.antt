@@ -1,4 +1,4 @@
--- The scan of models put together is these models.
+-- The scan of the registers of models gives these models.
 use mathlib.Core.Path.{_≡_, refl}
 use mathlib.Core.Bool.{Bool, true, false, not, _&&_}
 use mathlib.Core.List.{List, [], _∷_, _++_, append-assoc}
@@ -18,23 +18,23 @@ use Rattle.register_map.proofs.ScanSteps.{scan-model, scan-end}
 pub well-formed : (m : Model) → 1 ≤ m .id → m .id ≤ 65534 → 1 ≤ length (m .body) → WellFormed m
 well-formed m low high long = record { notZero = λ e. omega arith; notMarker = λ e. omega arith; notEmpty = long }
 
--- Models take as many registers as their sizes add up to.
+-- The number of registers of models is the sum of their sizes.
 pub length-registers : (ms : List Model) → length (modelRegisters ms) ≡ totalSize ms
 unfolding modelRegisters
 length-registers [] = refl
 length-registers (m ∷ ms) = let e = length-registers ms in simp length-append (omega arith)
 
--- A model takes more than two registers.
+-- A well-formed model takes at least three registers.
 pub length-total : (ms : List Model) → Each WellFormed ms → 3 * length ms ≤ totalSize ms
 length-total [] w = omega arith
 length-total (m ∷ ms) w = let e = length-total ms (w .1) in let n = w .0 .notEmpty in omega arith
 
--- 23 does not arise at the first of these models.
+-- The test for 23 fails at the first of these models.
 right-first : (first : Bool) (m : Model) (ms : List Model) → BeginsWith1 first (m ∷ ms) → first && not (eqb (m .id) 1) ≡ false
 right-first true m ms b = first-id true (m .id) .1 (λ q. b)
 right-first false m ms b = refl
 
--- A model is found at its header.
+-- The header of a well-formed model is read as this model.
 pub header-of-model : (first : Bool) (m : Model) (ms : List Model) (rest : List ℕ) → BeginsWith1 first (m ∷ ms) → WellFormed m
     → headerAt first (m .id ∷ length (m .body) ∷ m .body ++ rest) ≡ model (m .id) (length (m .body))
 header-of-model first m ms rest b w =
@@ -49,7 +49,7 @@ header-of-model first m ms rest b w =
       le-ltb (length (m .body ++ rest)) (length (m .body)) g,
     )
 
--- Models, the end marker and anything behind it are scanned as these models.
+-- The scan of models, the end marker and any registers after it gives these models.
 pub scan-back : (k : ℕ) (first : Bool) (ms : List Model) (tail : List ℕ)
     → Each WellFormed ms → BeginsWith1 first ms → length ms < k
     → scanFrom k first (modelRegisters ms ++ 65535 ∷ 0 ∷ tail) ≡ record { models = ms; ending = marked }
@@ -67,7 +67,7 @@ scan-back (suc k) first (m ∷ ms) tail w b h =
       scan-back k false ms tail (w .1) tt (omega arith),
     )
 
--- A whole map: its first two registers, models, the end marker and anything behind it.
+-- The same for a whole map: its first two registers, models, the end marker and any registers after it.
 pub scan-whole-back : (a b : ℕ) (ms : List Model) (tail : List ℕ) → Each WellFormed ms → BeginsWith1 true ms
     → scan (a ∷ b ∷ modelRegisters ms ++ 65535 ∷ 0 ∷ tail) ≡ record { models = ms; ending = marked }
 unfolding scan

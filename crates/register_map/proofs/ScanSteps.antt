@@ -1,4 +1,4 @@
--- A scan header by header, and that any bound that covers the registers gives the same scan.
+-- A scan header by header, and the law that any bound that covers the registers gives the same scan.
 use mathlib.Core.Path.{_≡_, refl, sym, _∙_}
 use mathlib.Core.Bool.{Bool, false}
 use mathlib.Core.List.{List, [], _∷_}
@@ -11,7 +11,7 @@ use lib.Seq.{drop-drop}
 use Rattle.register_map.specs.Headers.{Header, model, endMarker, refused, headerAt}
 use Rattle.register_map.specs.Scan.{marked, broken, withModel, scanFrom}
 
--- The scan from a header on, by what stands there.
+-- The scan from a header on, by what is found there.
 module _ (n : ℕ) (first : Bool) (rest : List ℕ) where
   pub scan-model : {id len : ℕ} → headerAt first rest ≡ model id len
       → scanFrom (suc n) first rest
@@ -28,18 +28,18 @@ module _ (n : ℕ) (first : Bool) (rest : List ℕ) where
   unfolding scanFrom
   scan-refused h = rw (h, scanFrom)
 
--- The registers behind the model at an address.
+-- The registers after the model at an address.
 after-model : (map : List ℕ) (at len : ℕ) → drop len (drop 2 (drop at map)) ≡ drop (at + 2 + len) map
 after-model map at len = rw (drop-drop 2 at map, drop-drop len (at + 2) map)
 
--- The model at an address, and the scan behind it.
+-- The model at an address, followed by the scan of the registers after it.
 scan-model-at : (n : ℕ) (first : Bool) (map : List ℕ) (at : ℕ) {id len : ℕ} → headerAt first (drop at map) ≡ model id len
     → scanFrom (suc n) first (drop at map)
     ≡ withModel (record { id = id; body = take len (drop (at + 2) map) }) (scanFrom n false (drop (at + 2 + len) map))
 scan-model-at n first map at {id} {len} h =
     rw (scan-model n first (drop at map) h, after-model map at len, drop-drop 2 at map)
 
--- The same where the first header is known by its address.
+-- The same, with the first header recognised by its address 2.
 pub scan-next : (n : ℕ) (map : List ℕ) (at : ℕ) {id len : ℕ} → 2 ≤ at → headerAt (eqb at 2) (drop at map) ≡ model id len
     → scanFrom (suc n) (eqb at 2) (drop at map)
     ≡ withModel
@@ -49,7 +49,7 @@ scan-next n map at {id} {len} low h =
     let later : eqb (at + 2 + len) 2 ≡ false = ne-eqb (at + 2 + len) 2 (λ e. omega arith) in
     rw (later, scan-model-at n (eqb at 2) map at h)
 
--- Where no register is left, the bound plays no part.
+-- If no register is left, the bound does not matter.
 scan-none : (n : ℕ) (first : Bool) (rest : List ℕ) → length rest ≤ 0 → scanFrom (suc n) first rest ≡ scanFrom 0 first rest
 unfolding scanFrom
 scan-none n first [] h = refl

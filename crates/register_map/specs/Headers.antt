@@ -1,4 +1,4 @@
--- The headers of a register map (document 01, "The map"): 5375 6E53, models (id, length, so many registers), marker FFFF 0000.
+-- The headers of a register map (document 01, "The map"): 5375 6E53, models (id, length L, L registers), end marker FFFF 0000.
 use mathlib.Core.Bool.{Bool, true, false, not, _&&_}
 use mathlib.Core.List.{List, [], _∷_}
 use mathlib.Core.Option.{Option, none, some}
@@ -10,11 +10,11 @@ use lib.ListN.{length, getD}
 abbrev pub endId : ℕ
 endId = 0xFFFF
 
--- Does the map begin with the registers 5375 6E53 ("SunS")? (One of fewer than two registers does not.)
+-- Does the map begin with the registers 5375 6E53 ("SunS")? (A map of fewer than two registers does not.)
 abbrev pub beginsWithSunS : List ℕ → Bool
 beginsWithSunS map = eqb (getD map 0 0) 0x5375 && eqb (getD map 1 0) 0x6E53
 
--- The refusals of a map as a whole. 20: over 65,536 registers. 21: it does not begin with 5375 6E53.
+-- The refusals of a map as a whole. 20: over 65,536 registers. 21: the map does not begin with 5375 6E53.
 unfoldable pub opening : List ℕ → Option ℕ
 opening map =
     elim (ltb 65536 (length map)) [
@@ -22,14 +22,14 @@ opening map =
       | false ↦ elim (beginsWithSunS map) [ true ↦ none | false ↦ some 21 ]
     ]
 
--- What stands at a header: a model with its id and length, the end marker, or a refusal.
+-- What is found at a header: a model with its id and length, the end marker, or the number of a refusal.
 pub data Header : Type 0 where
   model : ℕ → ℕ → Header
   endMarker : Header
   refused : ℕ → Header
 
--- A header by its id, its length and the number of registers behind them, in the order of the refusals. 23: the first id is not
--- 1. 24: id 0. 25: the marker's length is not 0, or another's is. 26: the length runs past the map.
+-- The header with this id and length, with `remaining` registers after them. `first`: it is the first header of the map. 23: the
+-- first id is not 1. 24: id 0. 25: the marker's length is not 0, or a model's is. 26: the length runs past the map.
 abbrev pub headerOf : Bool → ℕ → ℕ → ℕ → Header
 headerOf first id len remaining =
     elim (first && not (eqb id 1)) [
@@ -46,7 +46,7 @@ headerOf first id len remaining =
       ]
     ]
 
--- The header of the registers from it on; the first one of a map, or a later one. 22: under two registers are left.
+-- The header at the start of these registers, which run to the end of the map. 22: under two registers are left.
 abbrev pub headerAt : Bool → List ℕ → Header
 headerAt first [] = refused 22
 headerAt first (id ∷ []) = refused 22

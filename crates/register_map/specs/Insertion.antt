@@ -1,4 +1,4 @@
--- Models inserted into a map (document 01, "The map", on models put in): a gap lies right behind a model and may take several.
+-- Models inserted into a map (document 01, "The map", on models put in): a gap is right after a model and may take several.
 use mathlib.Core.Bool.{true, false}
 use mathlib.Core.List.{List, [], _∷_, _++_}
 use Prim.Native.Nat.{ℕ, zero, suc, _+_}
@@ -6,7 +6,7 @@ use lib.Dec.{leb}
 use lib.ListN.{take, drop}
 use Rattle.register_map.specs.Scan.{Model, sizeOf, totalSize, scan, modelRegisters}
 
--- A model of the lengthened map: it was there, or it is inserted.
+-- A model of the lengthened map: it was there before, or it is inserted.
 pub data Placed : Type 0 where
   kept : Model → Placed
   inserted : Model → Placed
@@ -17,27 +17,27 @@ allModels [] = []
 allModels (kept m ∷ ps) = m ∷ allModels ps
 allModels (inserted m ∷ ps) = m ∷ allModels ps
 
--- The models of a gap, in front of the models behind it.
+-- The models of a gap, followed by the models after it.
 abbrev pub withInserted : List Model → List Placed → List Placed
 withInserted [] ps = ps
 withInserted (m ∷ ms) ps = inserted m ∷ withInserted ms ps
 
--- Behind each model the models of its gap, in their order. Gaps beyond the last model's are none, and where gaps are fewer, the
--- last models have nothing behind them.
+-- Each model followed by the models of its gap, in order. Gaps past the last model are ignored; if there are fewer gaps than
+-- models, nothing is inserted after the last models.
 unfoldable pub placed : List Model → List (List Model) → List Placed
 placed [] gaps = []
 placed (m ∷ ms) [] = kept m ∷ placed ms []
 placed (m ∷ ms) (gap ∷ gaps) = kept m ∷ withInserted gap (placed ms gaps)
 
--- The map with the models of the gaps inserted: its first two registers, the models, and what stood behind its last model.
+-- The map with the models of the gaps inserted: its first two registers, all the models, and what followed its last model.
 unfoldable pub lengthened : List ℕ → List (List Model) → List ℕ
 lengthened map gaps =
     take 2 map
     ++ modelRegisters (allModels (placed (scan map .models) gaps))
     ++ drop (totalSize (scan map .models)) (drop 2 map)
 
--- The inserted models whose addresses in the lengthened map are lower than an address, of those from address `at` on (document
--- 01: a model put in is before a point or a header).
+-- The inserted models among `ps`, which begin at address `at` of the lengthened map, whose addresses are lower than `address`
+-- (document 01: a model put in is before a point or a header if its addresses in the lengthened map are lower).
 unfoldable pub before : ℕ → List Placed → ℕ → List Model
 before at [] address = []
 before at (kept m ∷ ps) address = before (at + sizeOf m) ps address
@@ -47,7 +47,7 @@ before at (inserted m ∷ ps) address =
       | false ↦ before (at + sizeOf m) ps address
     ]
 
--- The models of the gaps in front of the model with an index: those behind the models with lower indices.
+-- The models of all gaps before model n, counted from 0: the first n gaps.
 unfoldable pub gapsBefore : ℕ → List (List Model) → List Model
 gapsBefore zero gaps = []
 gapsBefore (suc n) [] = []

@@ -1,4 +1,4 @@
--- A register map taken apart into its models, without any catalog (document 01, "The map"), and models put together again.
+-- The models of a register map (document 01, "The map"), found without a catalog, and the registers of models.
 use mathlib.Core.Path.{_≡_}
 use mathlib.Core.Bool.{Bool, true, false}
 use mathlib.Core.List.{List, [], _∷_, _++_}
@@ -6,21 +6,21 @@ use Prim.Native.Nat.{ℕ, zero, suc, _+_, _≤_}
 use lib.ListN.{length, take, drop}
 use Rattle.register_map.specs.Headers.{endId, model, endMarker, refused, headerAt}
 
--- A model in a map: its id, and its body, the registers behind its length.
+-- A model in a map: its id, and its body, which is the L registers after its length L.
 pub record Model : Type 0 where
   pub id : ℕ
   pub body : List ℕ
 
--- The registers that a model takes: 2 + length.
+-- The number of registers that a model takes: 2 + length.
 abbrev pub sizeOf : Model → ℕ
 sizeOf m = 2 + length (m .body)
 
--- The registers that models take.
+-- The number of registers that models take.
 abbrev pub totalSize : List Model → ℕ
 totalSize [] = 0
 totalSize (m ∷ ms) = sizeOf m + totalSize ms
 
--- How the models of a map end: at the end marker, or at a header that is refused by a number of 22 to 26.
+-- How the models of a map end: at the end marker, or at a header that is refused with a number from 22 to 26.
 pub data Ending : Type 0 where
   marked : Ending
   broken : ℕ → Ending
@@ -30,11 +30,12 @@ pub record Scan : Type 0 where
   pub models : List Model
   pub ending : Ending
 
--- A model in front of those scanned.
+-- The scan with one more model, before the others.
 abbrev pub withModel : Model → Scan → Scan
 withModel m s = record { models = m ∷ s .models; ending = s .ending }
 
--- At most so many models from a header on. (A map has fewer models than registers, and where no register is left, 22 is right.)
+-- At most `n` models, from a header on; `first`: it is the first header of the map. (The bound n does not matter if it covers the
+-- registers left: with none left, 22 is right. See `scan-enough`.)
 unfoldable pub scanFrom : ℕ → Bool → List ℕ → Scan
 scanFrom zero first rest = record { models = []; ending = broken 22 }
 scanFrom (suc n) first rest =
@@ -44,23 +45,23 @@ scanFrom (suc n) first rest =
       | refused number ↦ record { models = []; ending = broken number }
     ]
 
--- The models of a map, whose first header has address 2.
+-- The models of a map. Its first header is at address 2, and it has fewer models than registers.
 unfoldable pub scan : List ℕ → Scan
 scan map = scanFrom (length map) true (drop 2 map)
 
--- The registers of models, one behind the other.
+-- The registers of consecutive models: id, length, body.
 unfoldable pub modelRegisters : List Model → List ℕ
 modelRegisters [] = []
 modelRegisters (m ∷ ms) = m .id ∷ length (m .body) ∷ m .body ++ modelRegisters ms
 
--- A model that may stand in a map: its id is neither 0 nor the end marker's, and its length is 1 or more. (As a register is at
--- most 65535, these are document 01's well-formed models with ids of 1 to 65534.)
+-- A model that a map may contain: its id is neither 0 nor the end marker's, and its length is 1 or more. (A register is at most
+-- 65535, so these are document 01's ids of 1 to 65534.)
 pub record WellFormed (m : Model) : Type 0 where
   pub notZero : m .id ≡ 0 → ⊥
   pub notMarker : m .id ≡ endId → ⊥
   pub notEmpty : 1 ≤ length (m .body)
 
--- The first model has id 1 (where these are the first ones of a map).
+-- If these are the first models of a map (`true`), there is a first one, and its id is 1.
 abbrev pub BeginsWith1 : Bool → List Model → Type 0
 BeginsWith1 false ms = Unit {0}
 BeginsWith1 true [] = ⊥

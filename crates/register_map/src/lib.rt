@@ -1,4 +1,4 @@
-// The headers of a register map (refusals 20 to 26), without any catalog.
+// The headers of a register map (refusals 20 to 26). No catalog is needed.
 ghost use mathlib.Core.Path.{_≡_};
 ghost use Prim.Native.Nat.{_+_};
 ghost use lib.Dec.{eqb};
@@ -6,10 +6,10 @@ ghost use lib.ListN.{drop};
 ghost use Rattle.register_map.specs.Headers as Headers;
 ghost use Rattle.register_map.specs.CodeTypes.{toSpecHeader, toSpecOpening};
 
-// The most registers of a map.
+// The largest number of registers in a map.
 const MOST_REGISTERS: usize = 65536;
 
-// The registers that a map begins with.
+// The first two registers of a map.
 const FIRST_REGISTER: u16 = 0x5375;
 
 const SECOND_REGISTER: u16 = 0x6E53;
@@ -20,20 +20,20 @@ pub const FIRST_HEADER: usize = 2;
 // The id of the end marker.
 const END_ID: u16 = 0xFFFF;
 
-// What stands at a header: a model with its id and length, the end marker, or a refusal (22 to 26).
+// What is found at a header: a model with its id and length, the end marker, or a refusal (22 to 26).
 pub enum Header {
     Model { id: u16, length: u16 },
     End,
     Refused(u16),
 }
 
-// Whether a map may be read at all, or a refusal (20 or 21).
+// Whether a map can be read at all, or a refusal (20 or 21).
 pub enum Opening {
     Opened,
     Refused(u16),
 }
 
-// The refusals of a map as a whole.
+// Checks the map as a whole (20 and 21).
 pub fn opened(map: &[u16]) -> Opening
     ensures { λ r. ⌜ toSpecOpening r ≡ Headers.opening (now (map .entry)) ⌝ }
 {
@@ -52,7 +52,7 @@ pub fn opened(map: &[u16]) -> Opening
     Opening::Opened
 }
 
-// The header at an address: whatever stands there is taken for one.
+// The header at address `at`. Any two registers there are read as a header; at address 2 it is the first one.
 pub fn header_at(map: &[u16], at: usize) -> Header
     ensures { λ r. ⌜ toSpecHeader r ≡ Headers.headerAt (eqb at 2) (drop at (now (map .entry))) ⌝ }
 {
@@ -68,7 +68,7 @@ pub fn header_at(map: &[u16], at: usize) -> Header
     header_of(at == FIRST_HEADER, id, length, remaining)
 }
 
-// A header by its id, its length and the number of registers behind them, in the order of the refusals.
+// The header with this id and length, with `remaining` registers after them. The refusals are tested in order.
 fn header_of(first: bool, id: u16, length: u16, remaining: usize) -> Header
     ensures { λ r. ⌜ toSpecHeader r ≡ Headers.headerOf first id length remaining ⌝ }
 {
@@ -95,8 +95,8 @@ fn header_of(first: bool, id: u16, length: u16, remaining: usize) -> Header
     Header::Model { id, length }
 }
 
-// The address of a register of a model's body, by its offset and the address of the model's header. At the offset of the
-// length, that of the next header.
+// The address of the register at `offset` in the body of the model whose header is at `header`. If `offset` is the
+// model's length, it is the address of the next header.
 pub fn body_address(header: u32, offset: u32) -> usize
     ensures { λ r. ⌜ r ≡ header + 2 + offset ⌝ }
 {

@@ -1,4 +1,4 @@
--- `catalog::check` meets its contract: 1 and 2 come before any frame.
+-- `catalog::check` meets its contract: rules 1 and 2 come before any frame.
 use mathlib.Core.Path.{sym, _∙_}
 use native.Mathlib.Omega.{arith}
 use Rattle.catalog.proofs.CheckSteps as steps

@@ -1,4 +1,4 @@
--- `catalog::check_frames` meets its contract: from each frame on, what is left decides as the whole does.
+-- `catalog::check_frames` meets its contract: at each frame, checking the remaining frames gives the result for the whole.
 use mathlib.Core.Path.{sym, ap, _∙_}
 use Prim.Native.Nat.{_-_, _≤_}
 use native.Mathlib.Omega.{arith}
@@ -60,8 +60,8 @@ after-requires c κs =
     let l = c15 .loop in
     let fault = c10 .fault-at .ensures in
     let unbroken = sym (ap toSpecFault (c5 .before .before .before .before .if1 .left)) ∙ fault .0 in
-    let capacity = frame.capacity-here _ _ _ _ _ (l .i) (l .state) (l .inv .1) (fault .1) (omega arith) unbroken in
-    ((search needs, search needs, l .inv .1 .decides .tracks .within .few), capacity)
+    let allows = frame.depth-allows-here _ _ _ _ _ (l .i) (l .state) (l .inv .1) (fault .1) (omega arith) unbroken in
+    ((search needs, search needs, l .inv .1 .decides .tracks .within .few), allows)
 
 add-i : tie.Need-add-i Inv-loop μ-loop
 add-i c =
@@ -81,7 +81,7 @@ loop-again c =
     let unbroken = sym (ap toSpecFault (c10 .if1 .left)) ∙ fault .0 in
     let numbers = c .before .before .before .mark-number .ensures in
     let presentWithin = c5 .begin-model .ensures in
-    let on = frame.holds-on _ _ _ _ _ (l .i) (l .state) (l .inv .1) (fault .1) (omega arith) unbroken _ _ _ _ _ _ _
+    let on = frame.holds-next _ _ _ _ _ (l .i) (l .state) (l .inv .1) (fault .1) (omega arith) unbroken _ _ _ _ _ _ _
     (c5 .before .before .before .before .innermost .ensures) presentWithin numbers (c .before .mark-scales .ensures) in
     (omega arith, rw (c .after .ensures) on)
 

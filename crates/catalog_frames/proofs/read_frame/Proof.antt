@@ -1,4 +1,4 @@
--- `catalog_frames::read_frame` meets its contract: frame i, or malformed where there is none.
+-- `catalog_frames::read_frame` meets its contract: frame i, or malformed if there is none.
 use borrow.Author.Needs.{needs}
 use mathlib.Core.Path.{sym, _∙_}
 use native.Mathlib.Omega.{arith}

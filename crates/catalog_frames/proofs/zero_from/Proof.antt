@@ -1,4 +1,4 @@
--- `catalog_frames::zero_from` meets its contract: from each word on, what is left to read decides.
+-- `catalog_frames::zero_from` meets its contract: as long as the words read are 0, the words left decide.
 use mathlib.Core.Path.{_≡_, refl, sym, _∙_}
 use Prim.Native.Nat.{_-_, _+_, _≤_}
 use native.Mathlib.Omega.{arith}
@@ -27,7 +27,7 @@ loop-again : tie.Need-loop-again Inv-loop μ-loop
 loop-again c =
     let l = c .before .before .before .loop in (
       omega arith,
-      laws.zero-goes _ _ (l .k) (8 - l .k) (8 - (l .k + 1)) (omega arith) _ (c .before .word-of .ensures)
+      laws.zero-continues _ _ (l .k) (8 - l .k) (8 - (l .k + 1)) (omega arith) _ (c .before .word-of .ensures)
           (c .if1 .left) ∙ l .inv .1,
     )
 

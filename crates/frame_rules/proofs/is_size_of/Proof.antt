@@ -1,4 +1,4 @@
--- `frame_rules::is_size_of` meets its contract: the registers of the type are the table's.
+-- `frame_rules::is_size_of` meets its contract: the sizes of a type are those of its row in the table.
 use mathlib.Core.Path.{sym, ap, _∙_}
 use borrow.Author.Tests.{lt-leb, le-leb}
 use Rattle.point_types.specs.CodeTypes.{toSpecCount}

@@ -1,4 +1,4 @@
--- `register_map::header_at` meets its contract: it reads the two registers of the header, where there are two.
+-- `register_map::header_at` meets its contract: it reads the two registers of the header, if there are two.
 use mathlib.Core.Path.{sym, _∙_}
 use native.Mathlib.Omega.{arith}
 use lib.Dec.{eqb}

@@ -1,4 +1,4 @@
--- `register_map::header_of` meets its contract: its tests are those of the definition, in their order.
+-- `register_map::header_of` meets its contract: its tests are those of the definition, in the same order.
 use mathlib.Core.Path.{_≡_, sym, _∙_}
 use mathlib.Core.Bool.{false, not, _&&_}
 use mathlib.Core.Logic.{⊎-elim}
@@ -9,7 +9,7 @@ use Rattle.register_map.proofs.HeaderLaws.{first-id}
 use Rattle.register_map.proofs.header_of.Statement.{statement}
 use Rattle.register_map.proofs.header_of.Tie as tie
 
--- The tests of a first header are passed: its id is 1, or it is not the first.
+-- After the test for 23: the header has id 1, or it is not the first.
 passed : (j : tie.Joined1) → j .before .args .first && not (eqb (j .before .args .id) 1) ≡ false
 passed j =
     let first = first-id (j .before .args .first) (j .before .args .id) in

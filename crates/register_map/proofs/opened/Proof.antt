@@ -1,4 +1,4 @@
--- `register_map::opened` meets its contract: the map is short enough, and its first two registers are the mark's.
+-- `register_map::opened` meets its contract: the map is short enough, and its first two registers are 5375 6E53.
 use mathlib.Core.Path.{sym}
 use mathlib.Core.Bool.{and-false}
 use borrow.Author.Tests.{eq-eqb, ne-eqb}

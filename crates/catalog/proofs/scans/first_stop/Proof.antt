@@ -1,4 +1,4 @@
--- `catalog::scans::first_stop` meets its contract: what is left decides.
+-- `catalog::scans::first_stop` meets its contract: as long as no frame stops the search, the frames left decide.
 use mathlib.Core.Path.{_≡_, refl, sym, _∙_}
 use Prim.Native.Nat.{ℕ, _-_, _/_, _≤_}
 use native.Mathlib.Omega.{arith}

@@ -1,4 +1,4 @@
--- `catalog::scans::first_uncounted` meets its contract: the count points are put in, and taken out again.
+-- `catalog::scans::first_uncounted` meets its contract: the count points are put into the set, and taken out again.
 use Rattle.number_sets.proofs.MarkLaws as marks
 use Rattle.catalog.proofs.MarkLaws as laws
 use borrow.Author.Needs.{needs}

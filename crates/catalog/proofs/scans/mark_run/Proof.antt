@@ -1,4 +1,4 @@
--- `catalog::scans::mark_run` meets its contract: what is left of the run is still to be marked.
+-- `catalog::scans::mark_run` meets its contract: the rest of the run is still to be marked.
 use mathlib.Core.Path.{ap}
 use mathlib.Core.List.{List}
 use Prim.Native.Nat.{ℕ, _-_}
@@ -7,7 +7,7 @@ use Rattle.number_sets.specs.NumberSets.{Marks}
 use Rattle.number_sets.proofs.MarkLaws as marks
 use Rattle.catalog.specs.Rules.{run}
 use Rattle.catalog.specs.InternalMarks.{inRun}
-use Rattle.catalog.proofs.WordScans.{run-goes, run-ends, frames-none}
+use Rattle.catalog.proofs.WordScans.{run-continues, run-ends, frames-none}
 use Rattle.catalog.proofs.MarkLaws as laws
 use borrow.Author.Needs.{needs}
 use Rattle.catalog.proofs.scans.mark_run.Statement.{statement}
@@ -37,7 +37,7 @@ loop-again c =
     let l = c4 .before .loop in
     let a = c4 .before .before .before .args in
     let kind = c .before .before .before .word-of .ensures in
-    let goes = run-goes (a .catalog .now) (l .j) _ (omega arith) kind (c .before .before .if1 .left) in
+    let goes = run-continues (a .catalog .now) (l .j) _ (omega arith) kind (c .before .before .if1 .left) in
     l .inv after
     (marks.marks-then _ _ _ _ _ _ _ (c .mark-point .ensures) m (λ n. laws.run-more (a .catalog .now) (l .j) (a .target) n goes))
 

@@ -1,4 +1,4 @@
--- `catalog::scans::mark_scales` meets its contract: each kind of frame has its run.
+-- `catalog::scans::mark_scales` meets its contract: each kind of frame marks its own run.
 use borrow.Author.Tests.{eq-eqb, ne-eqb}
 use Rattle.number_sets.proofs.MarkLaws as marks
 use borrow.Author.Needs.{needs}

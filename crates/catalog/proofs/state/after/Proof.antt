@@ -1,4 +1,4 @@
--- `catalog::state::after` meets its contract: each kind of frame has its line of `stateOf`.
+-- `catalog::state::after` meets its contract: each kind of frame has its case in `stateOf`.
 use native.Mathlib.Omega.{arith}
 use borrow.Author.Tests.{ne-eqb}
 use Rattle.catalog.specs.InternalTracking.{stateOf}
@@ -27,7 +27,7 @@ returns-2 : tie.Need-returns-2
 returns-2 c =
     let kind = c .before .before .before .before .word-of .ensures in
     let count = c .before .before .word-of2 .ensures in
-    rw (← kind, c .before .before .before .match .keys2, ← count, ← c .before .is-fill-in .ensures) (c .opened2 .ensures)
+    rw (← kind, c .before .before .before .match .keys2, ← count, ← c .before .has-fill-after .ensures) (c .opened2 .ensures)
 
 returns-3 : tie.Need-returns-3
 returns-3 c = rw (← c .before .before .word-of .ensures, c .before .match .keys3) (c .ended .ensures)
