@@ -9,7 +9,8 @@ use lib.Dec.{eqb}
 use Rattle.catalog_frames.specs.Frames.{Point, Head, frameIn}
 use Rattle.model_definitions.specs.Definitions.{pointsSize}
 use Rattle.layout.specs.Reading.{endsWithPad, hasNoGroup, padLeftOut}
-use Rattle.layout.specs.InternalWalks.{contentFrom, ParsesAt, headOf}
+use Rattle.layout.specs.FrameWalk.{headOf}
+use Rattle.layout.specs.InternalWalks.{contentFrom, ParsesAt}
 use Rattle.layout.proofs.LeftOutPad.{group-after, no-group-after}
 use Rattle.definition_frames.specs.CodeTypes.{PointRun, RunOf, isNone, lacksPad, toSpecRun}
 use Rattle.definition_frames.specs.declared.runs.Run.{Run}

@@ -11,7 +11,8 @@ use Rattle.catalog_frames.specs.Frames.{Point, pad}
 use Rattle.catalog.specs.Rules.{run}
 use Rattle.model_definitions.specs.Definitions.{pointsSize}
 use Rattle.layout.specs.Reading.{endsWithPad}
-use Rattle.layout.specs.InternalWalks.{onward, contentFrom, ParsesAt}
+use Rattle.layout.specs.FrameWalk.{onward}
+use Rattle.layout.specs.InternalWalks.{contentFrom, ParsesAt}
 use Rattle.definition_frames.specs.CodeTypes.{RunOf, PointRun, toSpecRun, runOf}
 use Rattle.definition_frames.specs.declared.runs.Run.{Run}
 use Rattle.layout.proofs.FramePosition.{past-end-within}

@@ -7,7 +7,7 @@ ghost use mathlib.Core.Path.{_≡_};
 ghost use Prim.Native.Nat.{_+_, _/_, _≤_};
 ghost use lib.ListN.{length};
 ghost use Rattle.catalog_frames.specs.Frames.{frameIn};
-ghost use Rattle.layout.specs.InternalWalks.{pointOf, headOf, openAfter, onward, framesOfGroup};
+ghost use Rattle.layout.specs.FrameWalk.{pointOf, headOf, openAfter, onward, framesOfGroup};
 ghost use Rattle.definition_frames.specs.CodeTypes.{toSpecPointOr, toSpecGroupOr};
 
 // A point frame, or any other.

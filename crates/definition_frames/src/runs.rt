@@ -8,7 +8,7 @@ ghost use mathlib.Core.Path.{_≡_};
 ghost use lib.ListN.{take};
 ghost use Rattle.catalog_frames.specs.Frames.{frameIn};
 ghost use Rattle.catalog.specs.Rules.{run};
-ghost use Rattle.layout.specs.InternalWalks.{headOf, onward};
+ghost use Rattle.layout.specs.FrameWalk.{headOf, onward};
 ghost use Rattle.definition_frames.specs.CodeTypes.{lacksPad, toSpecRun, runOf};
 
 // The most frames of a catalog.

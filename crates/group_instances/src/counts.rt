@@ -10,7 +10,7 @@ ghost use lib.Dec.{eqb};
 ghost use Rattle.catalog_frames.specs.Frames.{countByPoint};
 ghost use Rattle.catalog_frames.specs.CodeTypes.{toSpecHead};
 ghost use Rattle.layout.specs.Layout.{countOf};
-ghost use Rattle.layout.specs.InternalWalks.{scopeIn};
+ghost use Rattle.layout.specs.PointTables.{scopeIn};
 ghost use Rattle.group_instances.specs.Fills.{filled, toSpecFill};
 
 // The count of a fill group, or that the length of the model does not fit (29).

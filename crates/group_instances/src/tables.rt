@@ -5,7 +5,8 @@ use definition_frames::point_at;
 ghost use mathlib.Core.Path.{_≡_};
 ghost use lib.ListN.{length, getD, set};
 ghost use Rattle.catalog.specs.Rules.{run};
-ghost use Rattle.layout.specs.InternalWalks.{onward, tableWith, presentWithin};
+ghost use Rattle.layout.specs.FrameWalk.{onward};
+ghost use Rattle.layout.specs.PointTables.{tableWith, presentWithin};
 
 // The entries of a table of all numbers: a number is 16 bits.
 pub const NUMBERS: usize = 65536;

@@ -12,7 +12,8 @@ use Rattle.catalog_frames.specs.Frames.{Point, Head, Frame, groupFrame, pointFr
 use Rattle.model_definitions.specs.Definitions.{Groups, noGroup, group, pointFrames, groupFrames, parsed, inner}
 use Rattle.model_definitions.proofs.TreeFrames.{contentFrames, group-frames}
 use Rattle.model_definitions.proofs.DefinitionsBack.{points-read, groups-read}
-use Rattle.layout.specs.InternalWalks.{onward, contentFrom, ParsesAt, pastEnd, pointOf, headOf}
+use Rattle.layout.specs.FrameWalk.{onward, pointOf, headOf}
+use Rattle.layout.specs.InternalWalks.{contentFrom, ParsesAt, pastEnd}
 
 -- ---- Frames by their index
 

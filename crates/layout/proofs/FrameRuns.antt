@@ -12,7 +12,9 @@ use Rattle.catalog.specs.Rules.{run}
 use Rattle.model_definitions.specs.Definitions.{groupFrames}
 use Rattle.model_definitions.proofs.TreeFrames.{run-points, run-groups}
 use Rattle.catalog_frames.proofs.FramesByIndex.{frame-beyond}
-use Rattle.layout.specs.InternalWalks.{onward, contentFrom, ParsesAt, pointOf, tableWith, presentWithin, presentPoints}
+use Rattle.layout.specs.FrameWalk.{onward, pointOf}
+use Rattle.layout.specs.PointTables.{tableWith, presentWithin}
+use Rattle.layout.specs.InternalWalks.{contentFrom, ParsesAt, presentPoints}
 use Rattle.layout.proofs.FramePosition.{onward-more, onward-none}
 
 first-run : (f : Frame) (fs : List Frame) (p : Point) → pointOf f ≡ some p → run (f ∷ fs) ≡ p ∷ run fs

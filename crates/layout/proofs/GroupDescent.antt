@@ -13,7 +13,8 @@ use Rattle.model_definitions.specs.Definitions.{Groups, noGroup, group, Definit
 use Rattle.model_definitions.specs.Soundness.{numbersOf, SoundGroups, SoundDefinition}
 use Rattle.model_definitions.proofs.GroupNumbers.{point-among, apart, none-of-parts}
 use Rattle.layout.specs.Reading.{topOf}
-use Rattle.layout.specs.InternalWalks.{contentFrom, ParsesAt, pastEnd, Accepted, headOf, levelOf, SoundAt, AtGroups}
+use Rattle.layout.specs.FrameWalk.{headOf}
+use Rattle.layout.specs.InternalWalks.{contentFrom, ParsesAt, pastEnd, Accepted, levelOf, SoundAt, AtGroups}
 use Rattle.layout.proofs.FramePosition as position
 use Rattle.layout.proofs.AcceptedModels as models
 

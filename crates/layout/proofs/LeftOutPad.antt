@@ -18,7 +18,9 @@ use Rattle.model_definitions.specs.Soundness.{SoundPoint}
 use Rattle.model_definitions.proofs.GroupSizes.{point-size}
 use Rattle.layout.specs.Layout.{fillMeasured, fillOf}
 use Rattle.layout.specs.Reading.{endsWithPad, allButLast, hasNoGroup, padLeftOut}
-use Rattle.layout.specs.InternalWalks.{contentFrom, ParsesAt, headOf, presentWithin}
+use Rattle.layout.specs.FrameWalk.{headOf}
+use Rattle.layout.specs.PointTables.{presentWithin}
+use Rattle.layout.specs.InternalWalks.{contentFrom, ParsesAt}
 use Rattle.layout.proofs.FramePosition as position
 
 -- A type of one register has this size.

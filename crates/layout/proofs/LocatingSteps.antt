@@ -9,7 +9,7 @@ use Rattle.catalog_frames.specs.Frames.{Point, Head}
 use Rattle.model_definitions.specs.Definitions.{Groups, noGroup, group, pointsSize}
 use Rattle.layout.specs.Layout.{groupsSize}
 use Rattle.layout.specs.Locating.{Located, orElse, locatedAmong, locatedOwn, locatedIn}
-use Rattle.layout.specs.InternalWalks.{presentWithin}
+use Rattle.layout.specs.PointTables.{presentWithin}
 use Rattle.layout.proofs.RecordedPoints.{present-past, present-first}
 
 -- ---- The points of a run, as far as they begin before a limit

@@ -14,7 +14,8 @@ use Rattle.catalog_frames.proofs.FramesByIndex.{frame-beyond}
 use Rattle.model_definitions.proofs.TreeFrames.{definition-frames}
 use Rattle.model_definitions.proofs.ModelFrames.{restFrames, frames-of-definitions}
 use Rattle.layout.specs.Reading.{topOf}
-use Rattle.layout.specs.InternalWalks.{onward, contentFrom, ParsesAt, Accepted, isModelOf}
+use Rattle.layout.specs.FrameWalk.{onward}
+use Rattle.layout.specs.InternalWalks.{contentFrom, ParsesAt, Accepted, isModelOf}
 use Rattle.layout.proofs.FramePosition.{length-onward, onward-more, onward-none, first-frame, placed}
 use Rattle.layout.proofs.PassedFrames.{passed}
 

@@ -8,7 +8,8 @@ use lib.ListN.{length, length-append}
 use Rattle.catalog_frames.specs.Frames.{Point, Frame, modelFrame, groupFrame, pointFrame, endFrame, malformed, frameIn}
 use Rattle.model_definitions.specs.Definitions.{Groups, noGroup, group, Content, pointFrames, groupFrames}
 use Rattle.model_definitions.proofs.ModelFrames.{restFrames}
-use Rattle.layout.specs.InternalWalks.{onward, contentFrom, ParsesAt, pastEnd, openAfter, framesToEnd, framesOfGroup, isModelOf}
+use Rattle.layout.specs.FrameWalk.{onward, openAfter, framesToEnd, framesOfGroup}
+use Rattle.layout.specs.InternalWalks.{contentFrom, ParsesAt, pastEnd, isModelOf}
 use Rattle.layout.proofs.FramePosition.{length-onward, onward-more, onward-none, parses-within, at-point, at-group, at-end, rest-there, rest-within}
 
 -- What open groups still hold, behind a frame that is passed: its frames stand there, and it is no model frame.

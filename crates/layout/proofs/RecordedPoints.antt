@@ -18,7 +18,8 @@ use Rattle.model_definitions.specs.Definitions.{pointsSize, pointFrames, groupF
 use Rattle.model_definitions.proofs.GroupSizes.{type-size}
 use Rattle.layout.specs.Points.{Scope}
 use Rattle.layout.specs.Layout.{withPoint, within, pointsAt}
-use Rattle.layout.specs.InternalWalks.{contentFrom, ParsesAt, scopeIn, instanceIn, tableWith, presentWithin, IsTable}
+use Rattle.layout.specs.PointTables.{scopeIn, tableWith, presentWithin}
+use Rattle.layout.specs.InternalWalks.{contentFrom, ParsesAt, instanceIn, IsTable}
 
 -- ---- Noting
 

@@ -146,10 +146,10 @@ fill-takes-registers count top enclosing level (group h ps inside following) e s
 
 module _ (top enclosing : List Point) (c : Content) (body : List ℕ) (e : SoundGroups top enclosing 2 (c .groups)) where
   -- The length fits just where it is the size by the counts, those of the fill group included.
-  pub fits-just-where : (fits c body ≡ true)
+  pub fits-iff-size : (fits c body ≡ true)
       ↔ (length body ≡ pointsSize (c .points) + groupsSize (countsOf c body) (c .groups))
   unfolding fits fillOf
-  fits-just-where = go (fillSizeOf c body) refl
+  fits-iff-size = go (fillSizeOf c body) refl
     where
       s : Scope
       s = topScope (c .points) body
@@ -189,7 +189,7 @@ module _ (top enclosing : List Point) (c : Content) (body : List ℕ) (e : Sound
 
   -- Where it fits, the size by the counts is the length.
   pub full-size : fits c body ≡ true → pointsSize (c .points) + groupsSize (countsOf c body) (c .groups) ≡ length body
-  full-size t = sym (fits-just-where .0 t)
+  full-size t = sym (fits-iff-size .0 t)
 
 -- ---- Of an accepted catalog
 
@@ -202,7 +202,7 @@ module _ (ws : List ℕ) (n : ℕ) (e : checked ws ≡ accepted n) where
       let P : Definition → Type 0 = λ d. (body : List ℕ)
       → (fits (d .top) body ≡ true)
       ↔ (length body ≡ pointsSize (d .top .points) + groupsSize (countsOf (d .top) body) (d .top .groups)) in
-      of-models P (λ d s body. fits-just-where (d .top .points) (d .top .points) (d .top) body (s .groups)) ws n e
+      of-models P (λ d s body. fits-iff-size (d .top .points) (d .top .points) (d .top) body (s .groups)) ws n e
 
   -- The fill divides by at least 1.
   pub fill-size-above-0 : Each (λ d. (body : List ℕ) (size : ℕ) → fillSizeOf (d .top) body ≡ some size → 1 ≤ size)

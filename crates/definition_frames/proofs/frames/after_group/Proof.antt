@@ -4,7 +4,7 @@ use Prim.Native.Nat.{ℕ, _+_, _-_, _/_, _≤_}
 use native.Mathlib.Omega.{arith}
 use lib.ListN.{length}
 use Rattle.catalog_frames.specs.Frames.{frameIn}
-use Rattle.layout.specs.InternalWalks.{onward, framesToEnd, framesOfGroup}
+use Rattle.layout.specs.FrameWalk.{onward, framesToEnd, framesOfGroup}
 use Rattle.layout.proofs.PassedFrames as passed
 use Rattle.definition_frames.proofs.frames.after_group.Statement.{statement}
 use Rattle.definition_frames.proofs.frames.after_group.Tie as tie

@@ -5,7 +5,7 @@ use native.Mathlib.Omega.{arith}
 use borrow.Author.Needs.{needs}
 use borrow.Author.Tests.{not-true, not-false}
 use Rattle.catalog_frames.specs.Frames.{frameIn}
-use Rattle.layout.specs.InternalWalks.{headOf}
+use Rattle.layout.specs.FrameWalk.{headOf}
 use Rattle.definition_frames.specs.CodeTypes.{toSpecGroupOr, isNone, lacksPad, toSpecRun}
 use Rattle.definition_frames.proofs.PadTests as pads
 use Rattle.definition_frames.proofs.runs.is_pad_left_out.Statement.{statement}

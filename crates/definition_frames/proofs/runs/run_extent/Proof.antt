@@ -8,7 +8,7 @@ use lib.ListN.{take}
 use lib.Seq.{take-nil}
 use Rattle.catalog.specs.Rules.{run}
 use Rattle.catalog_frames.specs.CodeTypes.{toSpecPoint}
-use Rattle.layout.specs.InternalWalks.{onward}
+use Rattle.layout.specs.FrameWalk.{onward}
 use Rattle.definition_frames.specs.CodeTypes.{toSpecPointOr}
 use Rattle.layout.proofs.FrameRuns.{run-more, run-ends}
 use Rattle.definition_frames.proofs.RunSteps.{RunFrom, run-begins, run-goes, run-stops, to-spec-run}

@@ -10,7 +10,7 @@ use Rattle.catalog_frames.specs.Frames.{Head, constantCount, countByPoint}
 use Rattle.catalog_frames.specs.CodeTypes.{toSpecHead}
 use Rattle.layout.specs.Points.{Scope}
 use Rattle.layout.specs.Layout.{countOf}
-use Rattle.layout.specs.InternalWalks.{scopeIn}
+use Rattle.layout.specs.PointTables.{scopeIn}
 use Rattle.group_instances.proofs.counts.count_of.Statement.{statement}
 use Rattle.group_instances.proofs.counts.count_of.Tie as tie
 

@@ -8,7 +8,8 @@ use lib.ListN.{length, getD, length-set}
 use Rattle.catalog_frames.specs.Frames.{Point}
 use Rattle.catalog.specs.Rules.{run}
 use Rattle.catalog_frames.specs.CodeTypes.{toSpecPoint}
-use Rattle.layout.specs.InternalWalks.{onward, tableWith, presentWithin}
+use Rattle.layout.specs.FrameWalk.{onward}
+use Rattle.layout.specs.PointTables.{tableWith, presentWithin}
 use Rattle.definition_frames.specs.CodeTypes.{toSpecPointOr}
 use Rattle.layout.proofs.FrameRuns.{run-more, run-ends}
 use Rattle.layout.proofs.RecordedPoints.{record-first, record-none, record-past}
