@@ -1,4 +1,5 @@
--- `definition_frames::frames::after_group` meets its contract: the frames passed and those still to the end are those of the group.
+-- `definition_frames::frames::after_group` meets its contract: the frames visited and the frames to the end are together those
+-- of the group.
 use mathlib.Core.Path.{_≡_, refl, ap, _∙_}
 use Prim.Native.Nat.{ℕ, _+_, _-_, _/_, _≤_}
 use native.Mathlib.Omega.{arith}

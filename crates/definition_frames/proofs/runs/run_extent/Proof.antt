@@ -1,4 +1,5 @@
--- `definition_frames::runs::run_extent` meets its contract: the points counted and those that are left are those of the run.
+-- `definition_frames::runs::run_extent` meets its contract: the points counted and the points that are left are together those
+-- of the run.
 use mathlib.Core.Path.{_≡_, sym, ap, _∙_}
 use mathlib.Core.List.{_∷_}
 use Prim.Native.Nat.{ℕ, suc, _+_, _-_, _≤_}
