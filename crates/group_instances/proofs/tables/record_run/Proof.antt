@@ -1,4 +1,5 @@
--- `group_instances::tables::record_run` meets its contract: recording the points that are left gives what recording all gives.
+-- `group_instances::tables::record_run` meets its contract: recording the points that are left gives the same table as
+-- recording all points at the start.
 use mathlib.Core.Path.{_≡_, refl, sym, ap, _∙_}
 use mathlib.Core.List.{List}
 use Prim.Native.Nat.{_+_, _-_, _/_}
