@@ -79,7 +79,8 @@ pub record SoundAt (ws : List ℕ) (i levels : ℕ) : Type 0 where
   pub distinct : Distinct (numbersOf (groupFrames (contentFrom ws i .groups)))
   pub apart : (p : Point) → In p enclosing → among (p .number) (numbersOf (groupFrames (contentFrom ws i .groups))) ≡ false
 
--- A walk is at the groups of a group at frame i, past all of its points.
+-- At frame i a walk is at the groups of the open group, past its points: these groups are sound, and the catalog has at most
+-- 4,096 frames.
 pub record AtGroups (ws : List ℕ) (i levels : ℕ) : Type 0 where
   pub parses : ParsesAt ws i
   pub noPoint : contentFrom ws i .points ≡ []
