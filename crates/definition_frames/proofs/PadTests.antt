@@ -1,4 +1,4 @@
--- A pad that is left out, test by test, and of the group at a frame.
+-- The test whether a pad is left out: case by case, and for the content of a group.
 use mathlib.Core.Path.{_≡_, refl, sym, ap, _∙_}
 use mathlib.Core.Bool.{Bool, true, false, _&&_}
 use mathlib.Core.List.{List}
@@ -9,12 +9,13 @@ use lib.Dec.{eqb}
 use Rattle.catalog_frames.specs.Frames.{Point, Head, frameIn}
 use Rattle.model_definitions.specs.Definitions.{pointsSize}
 use Rattle.layout.specs.Reading.{endsWithPad, hasNoGroup, padLeftOut}
-use Rattle.layout.specs.InternalWalks.{contentFrom, ParsesAt, headOf}
+use Rattle.layout.specs.FrameWalk.{headOf}
+use Rattle.layout.specs.InternalWalks.{contentFrom, ParsesAt}
 use Rattle.layout.proofs.LeftOutPad.{group-after, no-group-after}
 use Rattle.definition_frames.specs.CodeTypes.{PointRun, RunOf, isNone, lacksPad, toSpecRun}
 use Rattle.definition_frames.specs.declared.runs.Run.{Run}
 
--- In the order of the tests.
+-- The cases, in the order of the tests.
 module _ (id : ℕ) (run : PointRun) (next : Option Head) (len : ℕ) where
   pub another-id : (id ≡ 1 → ⊥) → lacksPad id run next len ≡ false
   another-id n = simp (ne-eqb id 1 n)
@@ -28,7 +29,7 @@ module _ (id : ℕ) (run : PointRun) (next : Option Head) (len : ℕ) where
   pub one-short : id ≡ 1 → run .pad ≡ true → len + 1 ≡ run .size → lacksPad id run next len ≡ isNone next
   one-short i p l = simp (eq-eqb id 1 i, p, eq-eqb (len + 1) (run .size) l)
 
--- The groups may be asked for first or last.
+-- The test for groups may come first or last.
 groups-first : (p l g : Bool) → p && (l && g) ≡ g && (p && l)
 groups-first true true true = refl
 groups-first true true false = refl
@@ -37,7 +38,7 @@ groups-first true false false = refl
 groups-first false l true = refl
 groups-first false l false = refl
 
--- Where a group is open, the run of its points and the frame after them decide as its content does.
+-- Where a group is open at `first`, the run of its points and the frame after them give the same result as its content.
 pub content-pad : (ws : List ℕ) (first : ℕ) → ParsesAt ws first → (r : Run) → RunOf (contentFrom ws first .points) first r → (id len : ℕ)
     → lacksPad id (toSpecRun r) (headOf (frameIn ws (r .next))) len ≡ padLeftOut id (contentFrom ws first) len
 content-pad ws first s r x id len =

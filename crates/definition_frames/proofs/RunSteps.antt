@@ -1,4 +1,4 @@
--- A run of points, one by one: their registers, their number and whether the last is a pad.
+-- A run of points, counted point by point: its registers, its number of points, and whether the last is a pad.
 use mathlib.Core.Path.{_≡_, refl, sym, ap, _∙_}
 use mathlib.Core.Bool.{Bool, false}
 use mathlib.Core.List.{List, [], _∷_}
@@ -11,30 +11,32 @@ use Rattle.catalog_frames.specs.Frames.{Point, pad}
 use Rattle.catalog.specs.Rules.{run}
 use Rattle.model_definitions.specs.Definitions.{pointsSize}
 use Rattle.layout.specs.Reading.{endsWithPad}
-use Rattle.layout.specs.InternalWalks.{onward, contentFrom, ParsesAt}
+use Rattle.layout.specs.FrameWalk.{onward}
+use Rattle.layout.specs.InternalWalks.{contentFrom, ParsesAt}
 use Rattle.definition_frames.specs.CodeTypes.{RunOf, PointRun, toSpecRun, runOf}
 use Rattle.definition_frames.specs.declared.runs.Run.{Run}
 use Rattle.layout.proofs.FramePosition.{past-end-within}
 use Rattle.layout.proofs.FrameRuns.{run-content}
 
--- Is the last of these points a pad, or where there is none, was the one before them?
+-- Is the last of these points a pad? Where there are none, `before`.
 abbrev pub lastIsPad : Bool → List Point → Bool
 lastIsPad before [] = before
 lastIsPad before (p ∷ ps) = endsWithPad (p ∷ ps)
 
--- There was none before.
+-- At the start, `before` is false.
 pad-none : (ps : List Point) → lastIsPad false ps ≡ endsWithPad ps
 unfolding endsWithPad
 pad-none [] = refl
 pad-none (p ∷ ps) = refl
 
--- A point is passed.
+-- One point further.
 pad-next : (before : Bool) (p : Point) (ps : List Point) → lastIsPad (eqb (p .typeCode) pad) ps ≡ lastIsPad before (p ∷ ps)
 unfolding endsWithPad
 pad-next before p [] = refl
 pad-next before p (q ∷ ps) = refl
 
--- The points counted up to frame i, the last of them a pad or not, and those that are left are all of them.
+-- The points counted up to frame i and the points that are left are together all points. `before`: the last counted point is a
+-- pad.
 pub record RunFrom (all left : List Point) (first size points i : ℕ) (before : Bool) : Type 0 where
   pub sizes : size + pointsSize left ≡ pointsSize all
   pub counted : points + length left ≡ length all
@@ -42,13 +44,13 @@ pub record RunFrom (all left : List Point) (first size points i : ℕ) (before :
   pub padded : lastIsPad before left ≡ endsWithPad all
   pub bounded : size ≤ points * 65535
 
--- None is counted yet.
+-- At the start no point is counted.
 pub run-begins : (all : List Point) (first : ℕ) → RunFrom all all first 0 0 first false
 run-begins all first =
     record { sizes = omega arith; counted = omega arith; frame = omega arith; padded = pad-none all; bounded = omega arith }
 
 module _ (all left : List Point) (first size points i : ℕ) (before : Bool) (r : RunFrom all left first size points i before) where
-  -- One more point.
+  -- One more point is counted.
   pub run-goes : (p : Point) (rest : List Point) → left ≡ p ∷ rest → p .size ≤ 65535
       → RunFrom all rest first (size + p .size) (points + 1) (i + 1) (eqb (p .typeCode) pad)
   run-goes p rest e b =
@@ -62,7 +64,7 @@ module _ (all left : List Point) (first size points i : ℕ) (before : Bool) (r 
         bounded = omega (arith, b, r .bounded);
       }
 
-  -- No more.
+  -- No point is left.
   pub run-stops : left ≡ [] → RunOf all first (record { size = size; points = points; next = i; «ends_with_pad» = before })
   run-stops e =
       let s : pointsSize left ≡ 0 = ap pointsSize e in
@@ -74,18 +76,18 @@ module _ (all left : List Point) (first size points i : ℕ) (before : Bool) (r 
         pad = sym (ap (lastIsPad before) e) ∙ r .padded;
       }
 
--- In a catalog of up to 4,096 frames, where a group is open, the run is the points that it still holds.
+-- In a catalog of at most 4,096 frames, where a group is open, the run is the rest of its points.
 run-whole : (ws : List ℕ) (i : ℕ) → ParsesAt ws i → length ws / 8 ≤ 4096
     → take 4096 (run (onward ws i)) ≡ contentFrom ws i .points
 run-whole ws i s few =
     let w = past-end-within ws i s in
     ap (take 4096) (run-content ws i s) ∙ take-all 4096 (contentFrom ws i .points) (omega arith)
 
--- A run as one equation.
+-- The same as one equation.
 pub to-spec-run : {ps : List Point} {first : ℕ} {r : Run} → RunOf ps first r → toSpecRun r ≡ runOf ps first
 to-spec-run x = λ k. record { size = x .size k; points = x .points k; next = x .next k; pad = x .pad k }
 
--- Of a definition's frames, the run that `run_extent` finds is the points of the group there.
+-- Where a group is open, the run that `run_extent` finds is the rest of its points.
 pub content-run : (ws : List ℕ) (first : ℕ) → ParsesAt ws first → length ws / 8 ≤ 4096 → (r : Run)
     → toSpecRun r ≡ runOf (take 4096 (run (onward ws first))) first → RunOf (contentFrom ws first .points) first r
 content-run ws first s few r e =

@@ -1,4 +1,4 @@
--- What the code's types mean.
+-- The code's types as the definitions see them: frames by kind, and runs of points.
 use mathlib.Core.Path.{_≡_}
 use mathlib.Core.Bool.{Bool, true, false, _&&_}
 use mathlib.Core.List.{List}
@@ -14,12 +14,12 @@ use Rattle.definition_frames.specs.declared.frames.PointOr.{PointOr}
 use Rattle.definition_frames.specs.declared.frames.GroupOr.{GroupOr}
 use Rattle.definition_frames.specs.declared.runs.Run.{Run}
 
--- A frame's point, if it is a point frame.
+-- The point of a point frame; none for any other frame.
 abbrev pub toSpecPointOr : PointOr → Option Frames.Point
 toSpecPointOr (PointOr.Point p) = some (toSpecPoint p)
 toSpecPointOr PointOr.Other = none
 
--- A frame's head, if it is a group frame.
+-- The head of a group frame; none for any other frame.
 abbrev pub toSpecGroupOr : GroupOr → Option Frames.Head
 toSpecGroupOr (GroupOr.Group h) = some (toSpecHead h)
 toSpecGroupOr GroupOr.Other = none
@@ -31,6 +31,7 @@ pub record PointRun : Type 0 where
   pub next : ℕ
   pub pad : Bool
 
+-- The run that `run_extent` returns.
 abbrev pub toSpecRun : Run → PointRun
 toSpecRun r = record { size = r .size; points = r .points; next = r .next; pad = r .«ends_with_pad» }
 
@@ -39,7 +40,7 @@ abbrev pub runOf : List Frames.Point → ℕ → PointRun
 runOf ps first =
     record { size = pointsSize ps; points = length ps; next = first + length ps; pad = endsWithPad ps }
 
--- The same, part by part.
+-- `r` is the run of these points from frame `first` on, part by part.
 pub record RunOf (ps : List Frames.Point) (first : ℕ) (r : Run) : Type 0 where
   pub size : r .size ≡ pointsSize ps
   pub points : r .points ≡ length ps
@@ -51,7 +52,7 @@ abbrev pub isNone : Option Frames.Head → Bool
 isNone none = true
 isNone (some h) = false
 
--- Is the last pad of a model left out, by the run of its points, the group after them and the length? Document 01 allows it in a
--- model of id 1 that has no groups and is one register shorter than its points.
+-- Is the last pad of a model left out? `run` is its top points, `next` the group after them, and `len` the model's length.
+-- Document 01 allows it in model 1 without groups whose last point is a pad, where the length is one short of the top size.
 abbrev pub lacksPad : ℕ → PointRun → Option Frames.Head → ℕ → Bool
 lacksPad id run next len = eqb id 1 && (run .pad && (eqb (len + 1) (run .size) && isNone next))

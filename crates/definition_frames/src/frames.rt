@@ -1,4 +1,4 @@
-// The frames of a definition, as a walk reads them.
+// Reading the frames of a definition: the point or group of a frame, and the frame after a group.
 use catalog::Frame;
 use catalog::Head;
 use catalog::Point;
@@ -7,22 +7,22 @@ ghost use mathlib.Core.Path.{_≡_};
 ghost use Prim.Native.Nat.{_+_, _/_, _≤_};
 ghost use lib.ListN.{length};
 ghost use Rattle.catalog_frames.specs.Frames.{frameIn};
-ghost use Rattle.layout.specs.InternalWalks.{pointOf, headOf, openAfter, onward, framesOfGroup};
+ghost use Rattle.layout.specs.FrameWalk.{pointOf, headOf, openAfter, onward, framesOfGroup};
 ghost use Rattle.definition_frames.specs.CodeTypes.{toSpecPointOr, toSpecGroupOr};
 
-// A point frame, or any other.
+// The point of a point frame, or any other frame.
 pub enum PointOr {
     Point(Point),
     Other,
 }
 
-// A group frame, or any other.
+// The head of a group frame, or any other frame.
 pub enum GroupOr {
     Group(Head),
     Other,
 }
 
-// Is frame i a point, and which?
+// The point of frame i, if it is a point frame.
 pub fn point_at(catalog: &[u16], i: usize) -> PointOr
     ensures { λ r. ⌜ toSpecPointOr r ≡ pointOf (frameIn (now (catalog .entry)) i) ⌝ }
 {
@@ -36,7 +36,7 @@ pub fn point_at(catalog: &[u16], i: usize) -> PointOr
     }
 }
 
-// Is frame i a group, and which?
+// The head of frame i, if it is a group frame.
 pub fn group_at(catalog: &[u16], i: usize) -> GroupOr
     ensures { λ r. ⌜ toSpecGroupOr r ≡ headOf (frameIn (now (catalog .entry)) i) ⌝ }
 {
@@ -50,8 +50,8 @@ pub fn group_at(catalog: &[u16], i: usize) -> GroupOr
     }
 }
 
-// The frame after the group whose group frame is frame i, from that frame to its end frame. Where the frames end first, the
-// number of frames; where there is no frame i, i itself.
+// The index of the frame after the group whose group frame is frame i. Where the frames end first, the number of
+// frames; where there is no frame i, i itself.
 pub fn after_group(catalog: &[u16], i: usize) -> usize
     ensures { λ r. ⌜ r ≡ i + framesOfGroup (onward (now (catalog .entry)) i) ⌝ }
 {
@@ -71,7 +71,7 @@ pub fn after_group(catalog: &[u16], i: usize) -> usize
     at
 }
 
-// The number of groups that are open after the frame `at`, given the number before it.
+// The number of groups that are open after the frame `at`, where `depth` are open before it.
 fn depth_after(catalog: &[u16], at: usize, depth: usize) -> usize
     requires { ⌜ (1 ≤ depth) × (depth ≤ length (now catalog) / 8) ⌝ }
     ensures { λ r. ⌜ r ≡ openAfter (frameIn (now (catalog .entry)) at) depth ⌝ }

@@ -1,5 +1,5 @@
-// The frames of a model's definition as a walk visits them: the point or group at a frame, the frame after a group, and the
-// run of points at a frame. Every public call takes any arguments.
+// The frames of a model's definition as a walk visits them: the point or group of a frame, the frame after a group,
+// and the run of points from a frame on. Every public function accepts any arguments.
 mod frames;
 mod runs;
 

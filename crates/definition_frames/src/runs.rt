@@ -1,4 +1,4 @@
-// The run of points at a frame: their registers, their number, and a pad at its end.
+// The run of points from a frame on: its registers, its number of points, and whether it ends with a pad.
 use crate::frames::GroupOr;
 use crate::frames::PointOr;
 use crate::frames::group_at;
@@ -8,13 +8,13 @@ ghost use mathlib.Core.Path.{_≡_};
 ghost use lib.ListN.{take};
 ghost use Rattle.catalog_frames.specs.Frames.{frameIn};
 ghost use Rattle.catalog.specs.Rules.{run};
-ghost use Rattle.layout.specs.InternalWalks.{headOf, onward};
+ghost use Rattle.layout.specs.FrameWalk.{headOf, onward};
 ghost use Rattle.definition_frames.specs.CodeTypes.{lacksPad, toSpecRun, runOf};
 
-// The most frames of a catalog.
+// The maximum number of frames in a catalog.
 const FRAMES: usize = 4096;
 
-// A run of points: their registers, their number, the frame after them, and whether the last is a pad.
+// A run of points: its registers, its number of points, the frame after it, and whether its last point is a pad.
 pub struct Run {
     pub size: usize,
     pub points: usize,
@@ -22,7 +22,7 @@ pub struct Run {
     pub ends_with_pad: bool,
 }
 
-// The run of point frames from frame `first` on. Of one that is longer than any catalog, the first 4,096 frames.
+// The run of point frames from frame `first` on, or its first 4,096 frames if it is longer than any catalog.
 pub fn run_extent(catalog: &[u16], first: usize) -> Run
     ensures { λ r. ⌜ toSpecRun r ≡ runOf (take 4096 (run (onward (now (catalog .entry)) first))) first ⌝ }
 {
@@ -57,8 +57,8 @@ pub fn run_extent(catalog: &[u16], first: usize) -> Run
     }
 }
 
-// Is the last pad of a model left out? Only in a model of id 1 that has no groups and is one register shorter than its
-// points, which are `run`.
+// Is the last pad of a model left out? `run` is its top points. Only in model 1 without groups, where `length` is one
+// short of the registers of these points.
 pub fn is_pad_left_out(catalog: &[u16], id: u16, run: Run, length: usize) -> bool
     ensures { λ r. ⌜ r ≡ lacksPad id (toSpecRun run) (headOf (frameIn (now (catalog .entry)) (run .next))) length ⌝ }
 {

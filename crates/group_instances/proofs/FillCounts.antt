@@ -1,4 +1,4 @@
--- The count of a fill group, test by test.
+-- The count of a fill group, case by case.
 use mathlib.Core.Path.{_≡_, ap}
 use mathlib.Core.Bool.{Bool, true, false}
 use mathlib.Core.Option.{Option, none, some}
@@ -16,7 +16,7 @@ module _ (len rest size : ℕ) where
   pub too-short : len < rest → filled len rest size ≡ none
   too-short l = rw (lt-ltb len rest l, filled)
 
-  -- There is no fill group: the length is the rest, or does not fit.
+  -- There is no fill group: the length is the rest, or it does not fit.
   pub rest-alone : size ≡ 0 → len ≡ rest → filled len rest size ≡ some 0
   rest-alone z e =
       let long : rest ≤ len = omega arith in
@@ -25,7 +25,7 @@ module _ (len rest size : ℕ) where
   pub more-than-the-rest : size ≡ 0 → (len ≡ rest → ⊥) → rest ≤ len → filled len rest size ≡ none
   more-than-the-rest z n long = rw (le-ltb len rest long, filled) (rw (eq-eqb size 0 z, ne-eqb len rest n))
 
-  -- There is one: the remainder decides.
+  -- There is a fill group: the remainder decides.
   pub by-remainder : (size ≡ 0 → ⊥) → rest ≤ len
       → filled len rest size
       ≡ elim (eqb ((len - rest) % size) 0) [ true ↦ some ((len - rest) / size) | false ↦ none ]
@@ -37,7 +37,7 @@ module _ (len rest size : ℕ) where
   pub left-over : (size ≡ 0 → ⊥) → rest ≤ len → ((len - rest) % size ≡ 0 → ⊥) → filled len rest size ≡ none
   left-over n long e = rw (by-remainder n long) (rw (ne-eqb ((len - rest) % size) 0 e))
 
--- A count is at most the length.
+-- The count is at most the length.
 pub few-fills : (len rest size : ℕ) → or0 (filled len rest size) ≤ len
 few-fills len rest size = go (decLe rest len) (decLe size 0) (decLe len rest)
   where

@@ -10,16 +10,16 @@ ghost use lib.Dec.{eqb};
 ghost use Rattle.catalog_frames.specs.Frames.{countByPoint};
 ghost use Rattle.catalog_frames.specs.CodeTypes.{toSpecHead};
 ghost use Rattle.layout.specs.Layout.{countOf};
-ghost use Rattle.layout.specs.InternalWalks.{scopeIn};
+ghost use Rattle.layout.specs.PointTables.{scopeIn};
 ghost use Rattle.group_instances.specs.Fills.{filled, toSpecFill};
 
-// The count of a fill group, or that the length of the model does not fit (29).
+// The count of a fill group, or that the model's length does not fit (29).
 pub enum Fill {
     Count(usize),
     NoFit,
 }
 
-// The number of instances of a group. `fill` is the count of a fill group.
+// The number of instances of the group `head`. `fill` is the count of a fill group.
 pub fn count_of(table: &[u16], head: Head, fill: usize) -> usize
     ensures { λ r. ⌜ r ≡ countOf (scopeIn (now (table .entry))) fill (toSpecHead head) ⌝ }
     ensures { λ r. ⌜ r ≤ max fill 65535 ⌝ }
@@ -32,7 +32,7 @@ pub fn count_of(table: &[u16], head: Head, fill: usize) -> usize
     }
 }
 
-// Does the group's count point read FFFF?
+// Does the count point of the group `head` read FFFF?
 pub fn is_unimplemented(table: &[u16], head: Head) -> bool
     ensures { λ r. ⌜ r
         ≡ (eqb (toSpecHead head .countKind) countByPoint && eqb (scopeIn (now (table .entry)) (toSpecHead head .count)) 0xFFFF) ⌝ }
@@ -43,8 +43,8 @@ pub fn is_unimplemented(table: &[u16], head: Head) -> bool
     entry_of(table, head.count as usize) == 0xFFFF
 }
 
-// The count of a fill group whose instances have `size` registers, in what `rest` registers leave of a length. Where there is
-// no fill group, `size` is 0 and nothing may be left.
+// The count of a fill group whose instances have `size` registers, in a model of `length` registers of which `rest`
+// are outside the fill group. Where there is no fill group, `size` is 0 and the length must be the rest.
 pub fn fill_count(length: usize, rest: usize, size: usize) -> Fill
     ensures { λ r. ⌜ toSpecFill r ≡ filled length rest size ⌝ }
 {

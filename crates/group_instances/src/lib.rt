@@ -1,5 +1,5 @@
-// An instance of a group: its path, the registers of the points in its scope, and how many instances a group has.
-// Every public call takes any arguments.
+// An instance of a group: its path, the registers of the points in its scope, and the number of instances of a group.
+// Every public function accepts any arguments.
 mod counts;
 mod paths;
 mod tables;

@@ -1,11 +1,11 @@
-// The instance numbers that lead to a point.
+// Paths: the instance numbers that lead to a point.
 use registers::all_zero;
 use registers::part;
 ghost use mathlib.Core.Path.{_≡_};
 ghost use lib.ListN.{drop, getD, set};
 ghost use Rattle.registers.specs.Registers as Registers;
 
-// The levels that have an instance number: 2, 3 and 4. The top group, level 1, is there once.
+// The number of levels that have an instance number: levels 2, 3 and 4. The top group, level 1, has one instance.
 pub const LOWER_LEVELS: usize = 3;
 
 // The instance numbers at levels 2, 3 and 4, 0 where absent.
@@ -13,7 +13,7 @@ pub struct InstancePath {
     pub instances: [u16; 3],
 }
 
-// The number of a path at a place: 0, 1 and 2 are levels 2, 3 and 4. 0 at any other.
+// The instance number of `path` at `place`: places 0, 1 and 2 are levels 2, 3 and 4. 0 at any other place.
 pub fn number_at(path: InstancePath, place: usize) -> usize
     ensures { λ r. ⌜ r ≡ getD (path .instances) place 0 ⌝ }
 {
@@ -24,7 +24,7 @@ pub fn number_at(path: InstancePath, place: usize) -> usize
     numbers[place] as usize
 }
 
-// The path with another number at a place. The same path where it has no such place.
+// The path with `number` at `place`. The same path where it has no such place.
 pub fn with_number(path: InstancePath, place: usize, number: u16) -> InstancePath
     ensures { λ r. ⌜ r .instances ≡ set (path .instances) place number ⌝ }
 {
@@ -35,7 +35,7 @@ pub fn with_number(path: InstancePath, place: usize, number: u16) -> InstancePat
     InstancePath { instances }
 }
 
-// Are all numbers of a path from a place on 0?
+// Are all numbers of `path` from `place` on 0?
 pub fn is_zero_from(path: InstancePath, place: usize) -> bool
     ensures { λ r. ⌜ r ≡ Registers.allZero (drop place (path .instances)) ⌝ }
 {

@@ -1,18 +1,19 @@
-// The points in scope of a point: a table with the first register of each point, by its number. A number belongs to
-// one point of a model, so an instance only overwrites what an instance or a model before it left there.
+// The points in scope: a table with the first register of each point, by the point's number. A number belongs to one
+// point of a model, so an instance only overwrites entries that an earlier instance or an earlier model left.
 use definition_frames::PointOr;
 use definition_frames::point_at;
 ghost use mathlib.Core.Path.{_≡_};
 ghost use lib.ListN.{length, getD, set};
 ghost use Rattle.catalog.specs.Rules.{run};
-ghost use Rattle.layout.specs.InternalWalks.{onward, tableWith, presentWithin};
+ghost use Rattle.layout.specs.FrameWalk.{onward};
+ghost use Rattle.layout.specs.PointTables.{tableWith, presentWithin};
 
-// The entries of a table of all numbers: a number is 16 bits.
+// The length of a table with an entry for each number: a number is 16 bits.
 pub const NUMBERS: usize = 65536;
 
 // Records the first register of each point of an instance in the table. The points are the run of point frames from
-// frame `first` on, and the first of them is at an offset of the body. Ends where the body does, so that a pad that
-// is left out is not recorded; a number that the table lacks is skipped.
+// frame `first` on, placed from `offset` in the body. Stops at the end of the body, so a pad that is left out is not
+// recorded; a number that the table lacks is skipped.
 pub fn record_run(catalog: &[u16], first: usize, body: &[u16], offset: usize, table: &mut [u16])
     ensures { λ _. ⌜ now (table .exit)
         ≡ tableWith (now (body .entry)) offset
@@ -33,7 +34,7 @@ pub fn record_run(catalog: &[u16], first: usize, body: &[u16], offset: usize, ta
     }
 }
 
-// Sets the entry of a number, if the table has it.
+// Sets the entry of `number`, if the table has one.
 fn set_entry(table: &mut [u16], number: usize, register: u16)
     ensures { λ _. ⌜ now (table .exit) ≡ set (now (table .entry)) number register ⌝ }
 {
@@ -42,7 +43,7 @@ fn set_entry(table: &mut [u16], number: usize, register: u16)
     }
 }
 
-// The entry of a number; 0 where the table lacks it.
+// The entry of `number`; 0 where the table has none.
 pub(crate) fn entry_of(table: &[u16], number: usize) -> u16
     ensures { λ r. ⌜ r ≡ getD (now (table .entry)) number 0 ⌝ }
 {

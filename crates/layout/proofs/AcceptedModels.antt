@@ -21,7 +21,7 @@ use Rattle.layout.specs.InternalWalks.{Accepted}
 pub accepted-few : (ws : List ℕ) → Accepted ws → length ws / 8 ≤ 4096
 accepted-few ws a = accepted-start ws (a .0) .0 (a .1) .1
 
--- A model that is found by its id is one of these.
+-- A definition that is found by its id is one of these.
 found : (P : Definition → Type 0) (ds : List Definition) (id : ℕ) (c : Content) → Each P ds → topOf id ds ≡ some c
     → (d : Definition) × P d × (d .id ≡ id) × (d .top ≡ c)
 unfolding topOf
@@ -34,7 +34,7 @@ found P (d ∷ ds) id c s e = go (eqb (d .id) id) refl (found P ds id c (s .1)) 
     go true q rest f = (d, s .0, eqb-true (d .id) id q, cc)
     go false q rest f = rest f
 
--- A model of an accepted catalog that is found by its id is sound.
+-- A definition of an accepted catalog that is found by its id is sound.
 pub top-sound : (ws : List ℕ) (id : ℕ) (c : Content) → Accepted ws → topOf id (definitions ws) ≡ some c
     → (d : Definition) × SoundDefinition d × (d .id ≡ id) × (d .top ≡ c)
 top-sound ws id c a e = found SoundDefinition (definitions ws) id c (accepted-is-sound ws (a .0) (a .1) .0 .each) e
@@ -50,7 +50,7 @@ pub top-groups-sound : (ws : List ℕ) (id : ℕ) (c : Content) → Accepted ws 
 top-groups-sound ws id c a e =
     let d = top-sound ws id c a e in subst (λ t. SoundGroups (t .points) (t .points) 2 (t .groups)) (d .3) (d .1 .groups)
 
--- How a model is read, by what is found by its id.
+-- The reading of a model, by the definition that is found by its id.
 reading-top : (ds : List Definition) (m : Model)
     → reading ds m ≡ elim (topOf (m .id) ds) [ none ↦ unknown | some c ↦ readBy (m .id) c (m .body) ]
 unfolding reading
@@ -62,7 +62,7 @@ pub read-known : (ds : List Definition) (id : ℕ) (body : List ℕ) (c : Conten
 read-known ds id body c e =
     reading-top ds (record { id = id; body = body }) ∙ ap (λ o. elim o [ none ↦ unknown | some t ↦ readBy id t body ]) e
 
--- and is unknown where none is.
+-- and is unknown if none is found.
 pub read-unknown : (ds : List Definition) (id : ℕ) (body : List ℕ) → topOf id ds ≡ none
     → reading ds (record { id = id; body = body }) ≡ unknown
 read-unknown ds id body e =

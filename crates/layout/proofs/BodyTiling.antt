@@ -23,17 +23,17 @@ use Rattle.layout.proofs.ListedPoints.{all-sound, listed-by}
 use Rattle.layout.proofs.Readings.{by-reading}
 use Rattle.layout.proofs.Sizes.{full-size}
 
--- One tiling after another.
+-- Two tilings, one after the other, are a tiling.
 pub tiles-append : {A : Type 0} (at size : A → ℕ) (from mid to : ℕ) (xs ys : List A)
     → Tiles at size from mid xs → Tiles at size mid to ys → Tiles at size from to (xs ++ ys)
 tiles-append at size from mid to [] ys t u = rw t u
 tiles-append at size from mid to (x ∷ xs) ys t u = (t .0, t .1, tiles-append at size (from + size x) mid to xs ys (t .2) u)
 
--- A point takes a register or more.
+-- A point takes at least one register.
 abbrev Sized : Point → Type 0
 Sized p = 1 ≤ p .size
 
--- The points of an instance, whatever it is.
+-- The points of any instance tile its own registers.
 points-tile : (body : List ℕ) (i : Instance) (offset : ℕ) (ps : List Point) → Each Sized ps
     → PointsTile offset (offset + pointsSize ps) (pointsAt body i offset ps)
 unfolding pointsAt pointAt
@@ -46,19 +46,19 @@ points-tile body i offset (p ∷ ps) e =
           (points-tile body i (offset + p .size) ps (e .1)),
     )
 
--- The points of groups.
+-- The points of groups tile the registers of the groups.
 groups-tile : (enter : Entering) (body : List ℕ) (count : Head → ℕ) (level : ℕ) (i : Instance) (offset : ℕ) (g : Groups)
     → Each Sized (lowerPoints g) → PointsTile offset (offset + groupsSize count g) (groupsBy enter body count level i offset g)
 groups-tile enter body count =
     of-groups PointsTile (λ a. refl) (tiles-append (λ p. p .offset) (λ p. p .definition .size)) enter body count Sized
     (points-tile body)
 
--- The points of the top group.
+-- The points of the top group tile its registers.
 top-tile : (body : List ℕ) (i : Instance) (ps : List Point) → Each Sized ps → PointsTile 0 (pointsSize ps) (pointsAt body i 0 ps)
 top-tile body i ps e =
     subst (λ to. PointsTile 0 to (pointsAt body i 0 ps)) (zero-add (pointsSize ps)) (points-tile body i 0 ps e)
 
--- A model that is read by a sound definition.
+-- The points of a model that a sound definition reads fill its body.
 pub read-tiled : (d : Definition) → SoundDefinition d → (id : ℕ) (body : List ℕ) (ps : List ModelPoint)
     → readBy id (d .top) body ≡ points ps → BodyTiled d (length body) ps
 unfolding contentAt

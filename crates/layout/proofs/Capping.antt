@@ -1,5 +1,5 @@
--- Numbers held at a bound: where it makes no difference to what is multiplied or divided. (The code holds sizes and counts of
--- points at a bound, since by the definition they may be larger than any machine number.)
+-- Capped numbers: where a cap makes no difference to a product, a remainder or a quotient. (The code caps sizes and counts of
+-- points, since by the definition they may be larger than any machine number.)
 use mathlib.Core.Path.{_≡_, sym, ap, _∙_}
 use Prim.Native.Nat.{ℕ, zero, suc, min, _+_, _*_, _/_, _%_, _≤_, _<_}
 use native.Mathlib.Decide.{decLe}
@@ -7,7 +7,7 @@ use native.Mathlib.Nat.{zero-mul, suc-mul, mod-eq-of-lt, div-eq-of-lt}
 use native.Mathlib.Omega.{arith}
 
 module _ (cap : ℕ) where
-  -- A product: the bound on a factor.
+  -- The cap on a factor makes no difference to a capped sum.
   pub capped-factor : (t c s : ℕ) → min (t + c * min s cap) cap ≡ min (t + c * s) cap
   capped-factor t zero s = omega (arith, zero-mul s, zero-mul (min s cap))
   capped-factor t (suc c) s = at (decLe s cap)
@@ -16,7 +16,7 @@ module _ (cap : ℕ) where
       at (yes h) = let e : min s cap ≡ s = omega arith in rw e
       at (no h) = let e : min s cap ≡ cap = omega arith in rw e (omega (arith, suc-mul c s, suc-mul c cap))
 
-  -- What comes out the same beyond the bound comes out as without it.
+  -- A function that has the same value at the cap and past it ignores the cap.
   capped-same : {A : Type 0} (f : ℕ → A) (r : ℕ) → (cap < r → f cap ≡ f r) → f (min r cap) ≡ f r
   capped-same f r beyond = at (decLe r cap)
     where
@@ -24,7 +24,7 @@ module _ (cap : ℕ) where
       at (yes h) = ap f (omega arith)
       at (no h) = ap f (omega arith) ∙ beyond (omega arith)
 
-  -- A number below the bound (a length), divided by what is held at it.
+  -- A number below the cap (a length), divided by a capped number.
   module _ (l : ℕ) (h : l < cap) where
     pub capped-remainder : (r : ℕ) → l % min r cap ≡ l % r
     capped-remainder r =

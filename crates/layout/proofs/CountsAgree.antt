@@ -1,4 +1,5 @@
--- Scopes that agree on the points of the top group give sound groups the same measures: a count point is one of those.
+-- Scopes that agree on the points of the top group give sound groups the same counts and sizes: a count point is one of these
+-- points.
 use mathlib.Core.Path.{_≡_, refl, sym, ap, _∙_}
 use mathlib.Core.Bool.{Bool, true, false, _&&_}
 use mathlib.Core.List.{List, _++_}
@@ -15,14 +16,14 @@ use Rattle.layout.specs.Points.{Scope}
 use Rattle.layout.specs.Layout.{countOf, measured, fillMeasured, countUnimplemented}
 
 module _ (s s′ : Scope) (top : List Point) (agree : (p : Point) → In p top → s (p .number) ≡ s′ (p .number)) where
-  -- They agree on a count point.
+  -- The two scopes agree on a count point.
   count-point-agrees : (level : ℕ) (h : Head) (following : Groups) → SoundHead top level h following → h .countKind ≡ countByPoint
       → s (h .count) ≡ s′ (h .count)
   count-point-agrees level h following e k =
       let r = count-point-found (h .count) top (e .counted k) in
       ap s (sym (r .2)) ∙ agree (r .0) (r .1) ∙ ap s′ (r .2)
 
-  -- The count of a sound group.
+  -- The count of a sound group is the same by both.
   pub count-agrees : (f level : ℕ) (h : Head) (following : Groups) → SoundHead top level h following → countOf s f h ≡ countOf s′ f h
   count-agrees f level h following e = go (eqb (h .countKind) constantCount) (eqb (h .countKind) countByPoint) refl
     where
@@ -33,7 +34,7 @@ module _ (s s′ : Scope) (top : List Point) (agree : (p : Point) → In p top �
       go false true q = count-point-agrees level h following e (eqb-true (h .countKind) countByPoint q)
       go false false q = refl
 
-  -- What sound groups measure.
+  -- So is the weight of sound groups,
   pub measures-agree : (weight : List Point → ℕ) (f : ℕ) (enclosing : List Point) (level : ℕ) (g : Groups)
       → SoundGroups top enclosing level g → measured weight (countOf s f) g ≡ measured weight (countOf s′ f) g
   unfolding measured
@@ -44,7 +45,7 @@ module _ (s s′ : Scope) (top : List Point) (agree : (p : Point) → In p top �
       let b = measures-agree weight f enclosing level next (e .4) in
       rw (c, i, b)
 
-  -- What an instance of the fill group measures.
+  -- the weight of an instance of the fill group,
   pub fills-agree : (weight : List Point → ℕ) (f : ℕ) (enclosing : List Point) (level : ℕ) (g : Groups)
       → SoundGroups top enclosing level g → fillMeasured weight (countOf s f) g ≡ fillMeasured weight (countOf s′ f) g
   unfolding fillMeasured
@@ -56,7 +57,7 @@ module _ (s s′ : Scope) (top : List Point) (agree : (p : Point) → In p top �
       λ o n. elim (eqb (h .countKind) fill) [ true ↦ some (weight ps + n) | false ↦ o ] in
       ap (λ o. step o (measured weight (countOf s f) inside)) b ∙ ap (step (fillMeasured weight (countOf s′ f) next)) i
 
-  -- Whether a count point is unimplemented.
+  -- and whether a count point is unimplemented.
   pub unimplemented-agrees : (enclosing : List Point) (level : ℕ) (g : Groups) → SoundGroups top enclosing level g
       → countUnimplemented s g ≡ countUnimplemented s′ g
   unfolding countUnimplemented

@@ -1,4 +1,4 @@
--- How deep a number stands in groups, and which instance numbers a path of that depth looks at.
+-- The depth of a number in groups, and the instance numbers of a path that count at this depth.
 use mathlib.Core.Path.{_≡_, refl, sym, _∙_}
 use mathlib.Core.Bool.{Bool, true, false}
 use mathlib.Core.List.{List, [], _∷_}
@@ -28,7 +28,7 @@ agree-itself zero path = refl
 agree-itself (suc n) [] = refl
 agree-itself (suc n) (x ∷ path) = rw (eq-eqb x x refl) (agree-itself n path)
 
--- Paths that agree in one number more begin with the same and go on alike.
+-- Paths that agree in n + 1 numbers have the same first number, and their rests agree in n.
 pub agree-first : (n : ℕ) (xs ys : List ℕ) → length xs ≡ length ys → agreeTo (suc n) xs ys ≡ true
     → (getD xs 0 0 ≡ getD ys 0 0) × (length (drop 1 xs) ≡ length (drop 1 ys)) × (agreeTo n (drop 1 xs) (drop 1 ys) ≡ true)
 agree-first n [] [] l e = (refl, refl, agree-itself n [])
@@ -37,7 +37,7 @@ agree-first n (x ∷ xs) [] l e = absurd (omega (arith, l))
 agree-first n (x ∷ xs) (y ∷ ys) l e =
     let b = both (eqb x y) (agreeTo n xs ys) e in (eqb-true x y (b .0), omega (arith, l), b .1)
 
--- Agreeing looks at the first so many numbers only.
+-- Agreement to n depends only on the first n numbers.
 agree-near : (n : ℕ) (path xs ys : List ℕ) → length xs ≡ length ys → ((i : ℕ) → i < n → getD xs i 0 ≡ getD ys i 0)
     → agreeTo n path xs ≡ agreeTo n path ys
 agree-near zero path xs ys l same = refl
@@ -49,7 +49,7 @@ agree-near (suc n) (p ∷ path) (x ∷ xs) (y ∷ ys) l same =
     let f : x ≡ y = same 0 (omega arith) in
     rw (f, agree-near n path xs ys (omega arith) (λ i h. same (suc i) (omega arith)))
 
--- So an instance number set behind them changes nothing.
+-- So an instance number that is set after them changes nothing.
 pub agree-beyond : (n : ℕ) (path around : List ℕ) (at j : ℕ) → n ≤ at
     → agreeTo n path (levels (set around at j)) ≡ agreeTo n path (levels around)
 agree-beyond n path around at j h =
@@ -67,7 +67,7 @@ agree-beyond n path around at j h =
 -- ---- Groups
 
 module _ (n : ℕ) (h : Head) (ps : List Point) (inside following : Groups) where
-  -- The depth of a number of a group's points,
+  -- The depth of a number of the group's own points,
   depth-own : among n (numbersOf (pointFrames ps)) ≡ true → depthIn n (group h ps inside following) ≡ 1
   unfolding depthIn
   depth-own e = simp (depthIn, e)
@@ -78,13 +78,13 @@ module _ (n : ℕ) (h : Head) (ps : List Point) (inside following : Groups) wher
   unfolding depthIn
   depth-inside a e = simp (depthIn, a, e)
 
-  -- and of those behind it.
+  -- and of the groups after it.
   depth-after : among n (numbersOf (pointFrames ps)) ≡ false → among n (numbersOf (groupFrames inside)) ≡ false
       → depthIn n (group h ps inside following) ≡ depthIn n following
   unfolding depthIn
   depth-after a e = simp (depthIn, a, e)
 
--- A number that is none of the groups' has no depth.
+-- A number that none of the groups has has depth 0.
 pub absent-depth : (n : ℕ) (g : Groups) → among n (numbersOf (groupFrames g)) ≡ false → depthIn n g ≡ 0
 unfolding depthIn
 absent-depth n noGroup e = refl
@@ -92,18 +92,18 @@ absent-depth n (group h ps inside following) e =
     let none = none-of-parts n h ps inside following e in
     depth-after n h ps inside following (none .ofPoints) (none .ofInside) ∙ absent-depth n following (none .ofFollowing)
 
--- If a number is one of these groups', at a level, its depth in the model is k.
+-- If one of these groups, at `level`, has the number n, then its depth in the model is k.
 abbrev pub Deep : ℕ → ℕ → ℕ → Groups → Type 0
 Deep n k level g = among n (numbersOf (groupFrames g)) ≡ true → k ≡ level - 2 + depthIn n g
 
 module _ (n k level : ℕ) (h : Head) (ps : List Point) (inside following : Groups)
     (distinct : Distinct (numbersOf (groupFrames (group h ps inside following)))) (low : 2 ≤ level)
     (deep : Deep n k level (group h ps inside following)) where
-  -- The numbers of the group's parts are apart.
+  -- The numbers of the group's parts are disjoint.
   separate : Apart ps inside following
   separate = apart ps inside following (distinct .1)
 
-  -- It is one of a group's where it is not none of its parts'.
+  -- The group has the number if it is not absent from all of its parts.
   one-of : (NoneOf n ps inside following → ⊥) → among n (numbersOf (groupFrames (group h ps inside following))) ≡ true
   one-of some = go (among n (numbersOf (groupFrames (group h ps inside following)))) refl
     where
@@ -111,7 +111,7 @@ module _ (n k level : ℕ) (h : Head) (ps : List Point) (inside following : Grou
       go true e = refl
       go false e = absurd (some (none-of-parts n h ps inside following e))
 
-  -- The depth of one of the group's points.
+  -- The depth of one of the group's own points.
   pub own-depth : among n (numbersOf (pointFrames ps)) ≡ true → k ≡ suc level - 2
   own-depth e =
       let whole = deep (one-of (λ none. clash (sym e ∙ none .ofPoints))) in
@@ -123,7 +123,7 @@ module _ (n k level : ℕ) (h : Head) (ps : List Point) (inside following : Grou
       let whole = deep (one-of (λ none. clash (sym e ∙ none .ofInside))) in
       omega (arith, whole, depth-inside n h ps inside following (separate .insidePoints n e) e)
 
-  -- and in those behind it.
+  -- and in the groups after it.
   pub following-deep : Deep n k level following
   following-deep e =
       let whole = deep (one-of (λ none. clash (sym e ∙ none .ofFollowing))) in

@@ -1,4 +1,4 @@
--- Where a walk over the frames of a catalog stands: what the group that is open there still holds, frame by frame.
+-- The position of a walk in a catalog's frames: the rest of the content of the open group, frame by frame.
 use mathlib.Core.Path.{_≡_, refl, sym, ap, _∙_}
 use mathlib.Core.List.{List, [], _∷_, _++_}
 use mathlib.Core.Option.{none, some}
@@ -12,27 +12,28 @@ use Rattle.catalog_frames.specs.Frames.{Point, Head, Frame, groupFrame, pointFr
 use Rattle.model_definitions.specs.Definitions.{Groups, noGroup, group, pointFrames, groupFrames, parsed, inner}
 use Rattle.model_definitions.proofs.TreeFrames.{contentFrames, group-frames}
 use Rattle.model_definitions.proofs.DefinitionsBack.{points-read, groups-read}
-use Rattle.layout.specs.InternalWalks.{onward, contentFrom, ParsesAt, pastEnd, pointOf, headOf}
+use Rattle.layout.specs.FrameWalk.{onward, pointOf, headOf}
+use Rattle.layout.specs.InternalWalks.{contentFrom, ParsesAt, pastEnd}
 
 -- ---- Frames by their index
 
--- There are as many frames as the words have eights.
+-- There is one frame for every eight words.
 length-from : (ws : List ℕ) (i n : ℕ) → length (framesFrom ws i n) ≡ n
 unfolding framesFrom
 length-from ws i zero = refl
 length-from ws i (suc n) = ap suc (length-from ws (suc i) n)
 
--- A frame for each point.
+-- There is one frame for each point.
 pub length-points : (ps : List Point) → length (pointFrames ps) ≡ length ps
 length-points [] = refl
 length-points (p ∷ ps) = ap suc (length-points ps)
 
 module _ (ws : List ℕ) (i : ℕ) where
-  -- The frames from frame i on are all but the i before it.
+  -- From frame i on there are all frames but the i before it.
   pub length-onward : length (onward ws i) ≡ length ws / 8 - i
   length-onward = let n = length-from ws 0 (length ws / 8) in length-drop i (frames ws) ∙ ap (λ k. k - i) n
 
-  -- They begin with frame i, or there is none.
+  -- They begin with frame i, or there are none.
   pub onward-more : i < length ws / 8 → onward ws i ≡ frameIn ws i ∷ onward ws (i + 1)
   onward-more h =
       let n = length-from ws 0 (length ws / 8) in
@@ -41,7 +42,7 @@ module _ (ws : List ℕ) (i : ℕ) where
   pub onward-none : length ws / 8 ≤ i → onward ws i ≡ []
   onward-none h = let n = length-from ws 0 (length ws / 8) in drop-of-length-le (frames ws) {i = i} (omega arith)
 
-  -- The frames behind some of these.
+  -- The frames after some of these.
   skipped : (xs ys : List Frame) → onward ws i ≡ xs ++ ys → onward ws (i + length xs) ≡ ys
   skipped xs ys e = sym (drop-drop (length xs) i (frames ws)) ∙ ap (drop (length xs)) e ∙ drop-append-seam xs ys
 
@@ -56,36 +57,36 @@ module _ (ws : List ℕ) (i : ℕ) where
         omega arith,
       )
 
--- ---- What stands at a frame
+-- ---- The content at a frame
 
 module _ (ws : List ℕ) (i : ℕ) (ps : List Point) (gs : Groups) (rest : List Frame)
     (e : onward ws i ≡ contentFrames ps gs rest) where
-  -- The open group holds the points and groups whose frames stand there.
+  -- The rest of the open group's content is the points and groups whose frames are next.
   content-back : contentFrom ws i ≡ record { points = ps; groups = gs }
   unfolding contentFrom
   content-back =
       let held = points-read ps gs (groupFrames gs ++ (endFrame ∷ rest)) (parsed rest) (groups-read gs rest) in
       ap (λ r. inner (r .rest)) (ap parsed e ∙ held)
 
-  -- So the walk stands there.
+  -- So the walk is at this content.
   pub placed : (contentFrom ws i .points ≡ ps) × (contentFrom ws i .groups ≡ gs) × ParsesAt ws i
   placed =
       let p : contentFrom ws i .points ≡ ps = ap (λ c. c .points) content-back in
       let g : contentFrom ws i .groups ≡ gs = ap (λ c. c .groups) content-back in
       (p, g, record { following = rest; here = e ∙ rw (p, g) })
 
-  -- Behind the points stand the groups.
+  -- The groups follow the points.
   groups-there : onward ws (i + length ps) ≡ contentFrames [] gs rest
   groups-there = ap (λ n. onward ws (i + n)) (sym (length-points ps))
       ∙ skipped ws i (pointFrames ps) (groupFrames gs ++ (endFrame ∷ rest)) e
 
-  -- Behind the end frame stands the rest.
+  -- The rest follows the end frame.
   pub rest-there : onward ws (i + length ps + length (groupFrames gs) + 1) ≡ rest
   rest-there =
       let g = skipped ws (i + length ps) (groupFrames gs) (endFrame ∷ rest) groups-there in
       first-frame ws (i + length ps + length (groupFrames gs)) endFrame rest g .1
 
-  -- All of it lies in the catalog.
+  -- All of these frames are in the catalog.
   pub rest-within : i + length ps + length (groupFrames gs) + 1 ≤ length ws / 8
   rest-within =
       let g = skipped ws (i + length ps) (groupFrames gs) (endFrame ∷ rest) groups-there in
@@ -93,12 +94,12 @@ module _ (ws : List ℕ) (i : ℕ) (ps : List Point) (gs : Groups) (rest : List 
       omega arith
 
 module _ (ws : List ℕ) (i : ℕ) (rest : List Frame) where
-  -- A point of the open group.
+  -- The next frame is a point of the open group.
   pub at-point : (p : Point) (ps : List Point) (gs : Groups) → onward ws i ≡ contentFrames (p ∷ ps) gs rest
       → (frameIn ws i ≡ pointFrame p) × (onward ws (i + 1) ≡ contentFrames ps gs rest)
   at-point p ps gs e = let t = first-frame ws i (pointFrame p) (contentFrames ps gs rest) e in (t .0, t .1)
 
-  -- A group in the open group: behind its group frame stands what it holds, and behind its end frame the groups behind it.
+  -- The next frame is a group in the open group: its content follows, and after its end frame the groups after it.
   pub at-group : (h : Head) (ps : List Point) (inside following : Groups)
       → onward ws i ≡ contentFrames [] (group h ps inside following) rest
       → (frameIn ws i ≡ groupFrame h) × (onward ws (i + 1) ≡ contentFrames ps inside (contentFrames [] following rest))
@@ -107,7 +108,7 @@ module _ (ws : List ℕ) (i : ℕ) (rest : List Frame) where
       let t = first-frame ws i (groupFrame h) all (e ∙ group-frames h ps inside following (endFrame ∷ rest)) in
       (t .0, t .1)
 
-  -- The end of the open group.
+  -- The next frame is the end of the open group.
   pub at-end : onward ws i ≡ contentFrames [] noGroup rest → (frameIn ws i ≡ endFrame) × (onward ws (i + 1) ≡ rest)
   at-end e = let t = first-frame ws i endFrame rest e in (t .0, t .1)
 
@@ -119,11 +120,11 @@ module _ (ws : List ℕ) (i : ℕ) (s : ParsesAt ws i) where
   parses-within =
       let c = contentFrom ws i in let w = rest-within ws i (c .points) (c .groups) (s .following) (s .here) in omega arith
 
-  -- The end of the group lies in the catalog.
+  -- The end of the group is in the catalog.
   pub past-end-within : pastEnd ws i ≤ length ws / 8
   past-end-within = let c = contentFrom ws i in rest-within ws i (c .points) (c .groups) (s .following) (s .here)
 
-  -- Behind the points stand the groups.
+  -- The groups follow the points.
   pub after-run : (contentFrom ws (i + length (contentFrom ws i .points)) .points ≡ [])
       × (contentFrom ws (i + length (contentFrom ws i .points)) .groups ≡ contentFrom ws i .groups)
       × ParsesAt ws (i + length (contentFrom ws i .points))
@@ -132,7 +133,7 @@ module _ (ws : List ℕ) (i : ℕ) (s : ParsesAt ws i) where
       placed ws (i + length (c .points)) [] (c .groups) (s .following)
       (groups-there ws i (c .points) (c .groups) (s .following) (s .here))
 
-  -- At a point frame stands the first of the points, and behind it the others.
+  -- A point frame is the first of the points, and the others follow it.
   pub point-next : (p : Point) → pointOf (frameIn ws i) ≡ some p
       → (contentFrom ws i .points ≡ p ∷ contentFrom ws (i + 1) .points)
       × (contentFrom ws i .groups ≡ contentFrom ws (i + 1) .groups)
@@ -172,7 +173,7 @@ module _ (ws : List ℕ) (i : ℕ) (s : ParsesAt ws i) where
     groups-here : onward ws i ≡ contentFrames [] (contentFrom ws i .groups) (s .following)
     groups-here = s .here ∙ ap (λ ps. contentFrames ps (contentFrom ws i .groups) (s .following)) none-left
 
-    -- At a group frame stands the first of the groups: behind it what it holds, and behind its end frame the other groups.
+    -- A group frame begins the first of the groups: its content follows, and after its end frame the other groups.
     pub group-next : (h : Head) → headOf (frameIn ws i) ≡ some h
         → (contentFrom ws i .groups
         ≡ group h (contentFrom ws (i + 1) .points) (contentFrom ws (i + 1) .groups) (contentFrom ws (pastEnd ws (i + 1)) .groups))
@@ -203,7 +204,7 @@ module _ (ws : List ℕ) (i : ℕ) (s : ParsesAt ws i) where
             let w = m .1 in
             (cc, n .2, m .2, m .0)
 
-    -- At the end frame no group is left.
+    -- Where the frame is not a group frame, no group is left.
     pub no-group : headOf (frameIn ws i) ≡ none → contentFrom ws i .groups ≡ noGroup
     no-group f = go (contentFrom ws i .groups) refl groups-here
       where

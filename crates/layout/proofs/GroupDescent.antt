@@ -1,4 +1,4 @@
--- A walk over groups goes into a group or past it: the groups there are sound too, at their level.
+-- A walk over groups enters a group or skips it: the groups at its next position are sound too, at their level.
 use mathlib.Core.Path.{_≡_, refl, sym, subst}
 use mathlib.Core.Bool.{false}
 use mathlib.Core.List.{List, [], _++_}
@@ -13,11 +13,12 @@ use Rattle.model_definitions.specs.Definitions.{Groups, noGroup, group, Definit
 use Rattle.model_definitions.specs.Soundness.{numbersOf, SoundGroups, SoundDefinition}
 use Rattle.model_definitions.proofs.GroupNumbers.{point-among, apart, none-of-parts}
 use Rattle.layout.specs.Reading.{topOf}
-use Rattle.layout.specs.InternalWalks.{contentFrom, ParsesAt, pastEnd, Accepted, headOf, levelOf, SoundAt, AtGroups}
+use Rattle.layout.specs.FrameWalk.{headOf}
+use Rattle.layout.specs.InternalWalks.{contentFrom, ParsesAt, pastEnd, Accepted, levelOf, SoundAt, AtGroups}
 use Rattle.layout.proofs.FramePosition as position
 use Rattle.layout.proofs.AcceptedModels as models
 
--- Sound groups at a level, apart from the points around them.
+-- Sound groups at a level, with numbers that are distinct and differ from those of the enclosing points.
 pub record SoundBelow (top enclosing : List Point) (level : ℕ) (g : Groups) : Type 0 where
   pub sound : SoundGroups top enclosing level g
   pub topInScope : (p : Point) → In p top → In p enclosing
@@ -26,7 +27,7 @@ pub record SoundBelow (top enclosing : List Point) (level : ℕ) (g : Groups) : 
 
 module _ (top enclosing : List Point) (level : ℕ) (h : Head) (ps : List Point) (inside following : Groups)
     (s : SoundBelow top enclosing level (group h ps inside following)) where
-  -- Those in a group.
+  -- The groups in a group.
   pub below : SoundBelow top (ps ++ enclosing) (suc level) inside
   below =
       let a = apart ps inside following (s .distinct .1) in
@@ -39,7 +40,7 @@ module _ (top enclosing : List Point) (level : ℕ) (h : Head) (ps : List Point)
             (λ j. none-of-parts (p .number) h ps inside following (s .apart p j) .ofInside);
       }
 
-  -- Those behind it.
+  -- The groups after it.
   pub beside : SoundBelow top enclosing level following
   beside =
       let a = apart ps inside following (s .distinct .1) in
@@ -50,12 +51,12 @@ module _ (top enclosing : List Point) (level : ℕ) (h : Head) (ps : List Point)
         apart = λ p i. none-of-parts (p .number) h ps inside following (s .apart p i) .ofFollowing;
       }
 
--- What is known where a walk stands at groups, as of these groups,
+-- What a walk knows at groups, as a fact about these groups,
 pub sound-below : {ws : List ℕ} {i levels : ℕ} (s : SoundAt ws i levels)
     → SoundBelow (s .top) (s .enclosing) (levelOf levels) (contentFrom ws i .groups)
 sound-below s = record { sound = s .sound; topInScope = s .topInScope; distinct = s .distinct; apart = s .apart }
 
--- and back.
+-- and the converse.
 pub position-at : {ws : List ℕ} {i levels : ℕ} {top enclosing : List Point} {g : Groups} → ParsesAt ws i → contentFrom ws i .points ≡ []
     → contentFrom ws i .groups ≡ g → SoundBelow top enclosing (levelOf levels) g → length ws / 8 ≤ 4096 → AtGroups ws i levels
 position-at {levels = levels} {top = top} {enclosing = enclosing} s n q b few =
@@ -76,7 +77,7 @@ position-at {levels = levels} {top = top} {enclosing = enclosing} s n q b few =
 
 module _ (ws : List ℕ) (i levels : ℕ) (at : AtGroups ws i levels) (few : levels ≤ 3) (h : Head)
     (e : headOf (frameIn ws i) ≡ some h) where
-  -- What stands here, as groups.
+  -- The group at frame i: its own points, the groups in it and the groups after it.
   abbrev own : List Point
   own = contentFrom ws (i + 1) .points
 
@@ -98,7 +99,7 @@ module _ (ws : List ℕ) (i levels : ℕ) (at : AtGroups ws i levels) (few : lev
   pub level-left : 1 ≤ levels
   level-left = let l = sound-here .sound .0 .levelInRange in omega arith
 
-  -- Into the group.
+  -- The position inside the group, past its points.
   pub into : AtGroups ws (i + 1 + length own) (levels - 1)
   into =
       let n = position.group-next ws i (at .parses) (at .noPoint) h e in
@@ -108,21 +109,21 @@ module _ (ws : List ℕ) (i levels : ℕ) (at : AtGroups ws i levels) (few : lev
       position-at (r .2) (r .0) (r .1) (subst (λ k. SoundBelow (at .sound .top) (own ++ at .sound .enclosing) k inside) l b)
       (at .few)
 
-  -- Past it.
+  -- The position after the group.
   pub past : AtGroups ws (pastEnd ws (i + 1)) levels
   past =
       let n = position.group-next ws i (at .parses) (at .noPoint) h e in
       let b = beside (at .sound .top) (at .sound .enclosing) (levelOf levels) h own inside following sound-here in
       position-at (n .2) (n .3) refl b (at .few)
 
--- A walk that stands at groups, one step into or past a group.
+-- From groups, a walk can step into the first group or past it.
 pub into-group : (ws : List ℕ) (i levels : ℕ) → AtGroups ws i levels → levels ≤ 3 → (h : Head) → headOf (frameIn ws i) ≡ some h
     → (1 ≤ levels) × AtGroups ws (i + 1 + length (contentFrom ws (i + 1) .points)) (levels - 1)
     × AtGroups ws (pastEnd ws (i + 1)) levels
 into-group ws i levels at few h e =
     (level-left ws i levels at few h e, into ws i levels at few h e, past ws i levels at few h e)
 
--- The groups of a sound definition, below its top points.
+-- The groups of a sound definition, with its top points around them.
 pub definition-below : (d : Definition) → SoundDefinition d → SoundBelow (d .top .points) (d .top .points) 2 (d .top .groups)
 definition-below d s =
     let a = apart (d .top .points) (d .top .groups) noGroup (s .distinct) in
@@ -133,14 +134,14 @@ definition-below d s =
       apart = λ p i. a .pointsInside (p .number) (point-among p (d .top .points) i);
     }
 
--- Those of a model that the catalog knows.
+-- The groups of a model that is in the catalog.
 top-below : (ws : List ℕ) (id i : ℕ) → Accepted ws → topOf id (definitions ws) ≡ some (contentFrom ws i)
     → SoundBelow (contentFrom ws i .points) (contentFrom ws i .points) 2 (contentFrom ws i .groups)
 top-below ws id i a e =
     let d = models.top-sound ws id (contentFrom ws i) a e in
     subst (λ c. SoundBelow (c .points) (c .points) 2 (c .groups)) (d .3) (definition-below (d .0) (d .1))
 
--- The groups of a model that the catalog knows stand behind its top points.
+-- The groups of a model that is in the catalog begin after its top points.
 pub top-groups : (ws : List ℕ) (id i : ℕ) → Accepted ws → ParsesAt ws i → topOf id (definitions ws) ≡ some (contentFrom ws i)
     → AtGroups ws (i + length (contentFrom ws i .points)) 3
 top-groups ws id i a s e =

@@ -1,4 +1,5 @@
--- Laws of the instances of groups, whatever an instance is: what holds of the points of each instance holds of all of them.
+-- Laws of the instances of groups, for any way to enter an instance: what holds of the points of each instance holds of all
+-- points.
 use mathlib.Core.Path.{_≡_, refl, sym, subst}
 use mathlib.Core.List.{List, [], _++_}
 use Prim.Native.Nat.{ℕ, zero, suc, _+_, _*_}
@@ -13,10 +14,10 @@ use Rattle.layout.specs.Points.{ModelPoint, Instance}
 use Rattle.layout.specs.Layout.{measured, groupsSize, pointsAt, instances, Entering, groupsBy}
 use Rattle.layout.specs.Tiling.{lowerPoints}
 
--- A fact about the points from an address up to another, which holds of no points, and of points and those after them.
+-- A fact P about the points between two addresses that holds of no points, and of two consecutive parts together.
 module _ (P : ℕ → ℕ → List ModelPoint → Type 0) (none : (a : ℕ) → P a a [])
     (join : (a b c : ℕ) (xs ys : List ModelPoint) → P a b xs → P b c ys → P a c (xs ++ ys)) where
-  -- It holds of consecutive instances,
+  -- P holds of consecutive instances,
   of-instances : (size : ℕ) (one : ℕ → ℕ → List ModelPoint) → ((j at : ℕ) → P at (at + size) (one j at))
       → (n j offset : ℕ) → P offset (offset + n * size) (instances n j offset size one)
   unfolding instances
@@ -30,7 +31,7 @@ module _ (P : ℕ → ℕ → List ModelPoint → Type 0) (none : (a : ℕ) → 
       (join offset (offset + size) (offset + size + n * size) (one j offset) rest (each j offset)
       (of-instances size one each n (suc j) (offset + size)))
 
-  -- and of groups, if it holds of the own points of any instance, given a fact about each point of the groups.
+  -- and of groups, if it holds of the own points of every instance, given a fact Q about each point of the groups.
   module _ (enter : Entering) (body : List ℕ) (count : Head → ℕ) (Q : Point → Type 0)
       (own : (i : Instance) (at : ℕ) (ps : List Point) → Each Q ps → P at (at + pointsSize ps) (pointsAt body i at ps)) where
     pub of-groups : (level : ℕ) (i : Instance) (offset : ℕ) (g : Groups) → Each Q (lowerPoints g)
@@ -61,7 +62,7 @@ module _ (P : ℕ → ℕ → List ModelPoint → Type 0) (none : (a : ℕ) → 
         (join offset mid (mid + groupsSize count next) first rest (of-instances size one each (count h) 0 offset)
         (of-groups level i mid next (lower .1)))
 
--- Each point, where an instance's number and its offset go together.
+-- A fact about each point of instances, where instance j is at `from + j * size`.
 pub each-instance : (P : ModelPoint → Type 0) (size : ℕ) (one : ℕ → ℕ → List ModelPoint) (from : ℕ)
     → ((j : ℕ) → Each P (one j (from + j * size)))
     → (n j offset : ℕ) → offset ≡ from + j * size → Each P (instances n j offset size one)
@@ -72,7 +73,7 @@ each-instance P size one from each (suc n) j offset e =
     each-append P (one j offset) (instances n (suc j) (offset + size) size one)
     (subst (λ o. Each P (one j o)) (sym e) (each j)) (each-instance P size one from each n (suc j) (offset + size) next)
 
--- Instances that are the same one by one.
+-- Instances with the same points, one by one, have the same points in all.
 pub instances-agree : (one other : ℕ → ℕ → List ModelPoint) → ((j at : ℕ) → one j at ≡ other j at)
     → (n j offset size : ℕ) → instances n j offset size one ≡ instances n j offset size other
 unfolding instances
@@ -80,7 +81,7 @@ instances-agree one other h zero j offset size = refl
 instances-agree one other h (suc n) j offset size =
     rw (h j offset, instances-agree one other h n (suc j) (offset + size) size)
 
--- Instances that are related pair by pair.
+-- Instances whose points are related by R, one by one, are related in all.
 module _ (P : ModelPoint → Type 0) (R : ModelPoint → ModelPoint → Type 0) (one other : ℕ → ℕ → List ModelPoint)
     (each : (j at : ℕ) → Each P (one j at) → Pairwise R (one j at) (other j at)) where
   pub pairwise-instances : (n j offset size : ℕ) → Each P (instances n j offset size one)

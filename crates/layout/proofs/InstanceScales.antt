@@ -9,7 +9,7 @@ use Rattle.model_definitions.specs.Definitions.{noGroup, group, Content}
 use Rattle.layout.specs.Points.{pointAt}
 use Rattle.layout.specs.Layout.{within, measured, fillMeasured, fillOf, pointsAt, instances, groupsBy, entered, contentAt}
 
--- A scale factor, and a uint16 whose scale factor it is.
+-- A scale factor, and a uint16 with this scale factor.
 abbrev factor : Point
 factor =
     record { number = 1; typeCode = sunssf; size = 1; scaleKind = noScale; scale = 0; mandatory = 0; access = readOnly }

@@ -1,4 +1,4 @@
--- A pad that is left out: what is known of the points without it, and which models leave it out.
+-- A pad that is left out: the points without it, and the models that leave it out.
 use mathlib.Core.Path.{_≡_, refl, sym, ap, _∙_}
 use mathlib.Core.Bool.{true, false, _&&_}
 use mathlib.Core.List.{List, [], _∷_}
@@ -18,10 +18,12 @@ use Rattle.model_definitions.specs.Soundness.{SoundPoint}
 use Rattle.model_definitions.proofs.GroupSizes.{point-size}
 use Rattle.layout.specs.Layout.{fillMeasured, fillOf}
 use Rattle.layout.specs.Reading.{endsWithPad, allButLast, hasNoGroup, padLeftOut}
-use Rattle.layout.specs.InternalWalks.{contentFrom, ParsesAt, headOf, presentWithin}
+use Rattle.layout.specs.FrameWalk.{headOf}
+use Rattle.layout.specs.PointTables.{presentWithin}
+use Rattle.layout.specs.InternalWalks.{contentFrom, ParsesAt}
 use Rattle.layout.proofs.FramePosition as position
 
--- A type of one register has this size.
+-- A size that a type of one register may have is 1.
 pub one-register-size : (code size : ℕ) → registersOf code ≡ some (1, 1) → isSizeOf code size ≡ true → size ≡ 1
 unfolding isSizeOf
 one-register-size code size q e =
@@ -30,7 +32,7 @@ one-register-size code size q e =
     let below = leb-true size 1 (s .1) in
     omega arith
 
--- So has a pad.
+-- So the size of a pad is 1.
 pad-size : (size : ℕ) → isSizeOf pad size ≡ true → size ≡ 1
 unfolding registersOf rowAmong rows
 pad-size size = one-register-size pad size refl
@@ -42,7 +44,7 @@ but-one [] e = clash (sym e)
 but-one (p ∷ []) e = refl
 but-one (p ∷ q ∷ ps) e = let r = but-one (q ∷ ps) e in omega arith
 
--- Without a pad at their end, points take one register less.
+-- Without the pad at their end, points take one register less.
 pub without-pad : (inScope ps : List Point) → Each (SoundPoint inScope) ps → endsWithPad ps ≡ true
     → pointsSize (allButLast ps) + 1 ≡ pointsSize ps
 unfolding endsWithPad allButLast
@@ -53,14 +55,14 @@ without-pad inScope (p ∷ []) e t =
     omega arith
 without-pad inScope (p ∷ q ∷ ps) e t = let r = without-pad inScope (q ∷ ps) (e .1) t in omega (arith, r)
 
--- What holds of each holds of all but the last.
+-- What holds of each point holds of all but the last.
 pub each-but-last : (P : Point → Type 0) (ps : List Point) → Each P ps → Each P (allButLast ps)
 unfolding allButLast
 each-but-last P [] e = tt
 each-but-last P (p ∷ []) e = tt
 each-but-last P (p ∷ q ∷ ps) e = (e .0, each-but-last P (q ∷ ps) (e .1))
 
--- Where the length is one short of points that end with a pad, all but the pad begin before the end.
+-- Where the length is one short of points that end with a pad, exactly the points before the pad begin before the end.
 present-but-last : (inScope : List Point) (len offset : ℕ) (ps : List Point) → Each (SoundPoint inScope) ps → endsWithPad ps ≡ true
     → len + 1 ≡ offset + pointsSize ps → presentWithin len offset ps ≡ allButLast ps
 unfolding endsWithPad allButLast presentWithin
@@ -77,7 +79,7 @@ present-but-last inScope len offset (p ∷ r ∷ ps) s e q =
     let rest = present-but-last inScope len (offset + p .size) (r ∷ ps) (s .1) e (omega arith) in
     rw (lt-ltb offset len l, presentWithin) (ap (λ xs. p ∷ xs) rest)
 
--- What a left out pad means.
+-- What it means that a pad is left out.
 pub left-out : (id : ℕ) (c : Content) (len : ℕ) → padLeftOut id c len ≡ true
     → (hasNoGroup (c .groups) ≡ true) × (endsWithPad (c .points) ≡ true) × (len + 1 ≡ pointsSize (c .points))
 left-out id c len e =
@@ -87,13 +89,13 @@ left-out id c len e =
     let d = both (endsWithPad (c .points)) (eqb (len + 1) (pointsSize (c .points))) (b .1) in
     (b .0, d .0, eqb-true (len + 1) (pointsSize (c .points)) (d .1))
 
--- The points that begin before the end of a body that lacks the pad.
+-- Where the pad is left out, exactly the other top points begin before the end.
 pub present-but-pad : (inScope : List Point) (id : ℕ) (c : Content) (len : ℕ) → Each (SoundPoint inScope) (c .points)
     → padLeftOut id c len ≡ true → presentWithin len 0 (c .points) ≡ allButLast (c .points)
 present-but-pad inScope id c len s e =
     let l = left-out id c len e in present-but-last inScope len 0 (c .points) s (l .1) (omega arith)
 
--- A model without groups has no fill.
+-- A model without groups has a fill count of 0.
 pub no-fill : (c : Content) (body : List ℕ) → hasNoGroup (c .groups) ≡ true → fillOf c body ≡ 0
 unfolding fillOf fillMeasured
 no-fill c body e = go (c .groups) e
@@ -105,7 +107,7 @@ no-fill c body e = go (c .groups) e
 -- ---- The frame after the points
 
 module _ (ws : List ℕ) (first next : ℕ) (s : ParsesAt ws first) (n : next ≡ first + length (contentFrom ws first .points)) where
-  -- After the points is a group frame where there are groups,
+  -- If the frame after the points is a group frame, there are groups,
   pub group-after : (h : Head) → headOf (frameIn ws next) ≡ some h → hasNoGroup (contentFrom ws first .groups) ≡ false
   group-after h e =
       let r = position.after-run ws first s in
@@ -114,7 +116,7 @@ module _ (ws : List ℕ) (first next : ℕ) (s : ParsesAt ws first) (n : next �
       let g = position.group-next ws at (r .2) (r .0) h f .0 in
       ap hasNoGroup (sym (r .1) ∙ g)
 
-  -- and none where there are none.
+  -- and if it is not, there are none.
   pub no-group-after : headOf (frameIn ws next) ≡ none → hasNoGroup (contentFrom ws first .groups) ≡ true
   no-group-after e =
       let r = position.after-run ws first s in

@@ -6,12 +6,12 @@ pub mod InstanceLaws
 pub mod CountsAgree
 pub mod ScopeOnly
 pub mod ReadOnlyCounts
--- One model as it is read
+-- The reading of one model
 pub mod LeftOutPad
 pub mod Readings
 pub mod ReadingSteps
 pub mod ListedPoints
--- Where its points are
+-- The places of its points
 pub mod BodyTiling
 pub mod TiledApart
 pub mod PointsInside

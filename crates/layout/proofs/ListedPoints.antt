@@ -1,4 +1,4 @@
--- Each point of a model is by a point of its definition, so what holds of the definition's points holds of those.
+-- Each point of a model has its definition in the catalog, so what holds of the definition's points holds of these.
 use mathlib.Core.Path.{_≡_}
 use mathlib.Core.Bool.{true}
 use mathlib.Core.List.{List, [], _∷_, _++_}
@@ -20,20 +20,20 @@ use Rattle.layout.proofs.Readings.{by-reading}
 -- ---- The points of the definition
 
 module _ (P : Point → Type 0) (body : List ℕ) where
-  -- What holds of each point of an instance holds of what the points listed are by,
+  -- What holds of an instance's points in the definition holds of the definition of each listed point,
   points-by : (i : Instance) (a : ℕ) (ps : List Point) → Each P ps → Each (λ q. P (q .definition)) (pointsAt body i a ps)
   unfolding pointsAt pointAt
   points-by i a [] e = tt
   points-by i a (p ∷ ps) e = (e .0, points-by i (a + p .size) ps (e .1))
 
-  -- and so with groups.
+  -- and the same for groups,
   groups-by : (enter : Entering) (count : Head → ℕ) (level : ℕ) (i : Instance) (offset : ℕ) (g : Groups) → Each P (lowerPoints g)
       → Each (λ q. P (q .definition)) (groupsBy enter body count level i offset g)
   groups-by enter count =
       of-groups (λ a b xs. Each (λ q. P (q .definition)) xs) (λ a. tt) (λ a b c xs ys. each-append (λ q. P (q .definition)) xs ys)
       enter body count P points-by
 
-  -- So what holds of each point of a definition holds of what each point listed is by.
+  -- and for a whole definition.
   pub listed-by : (d : Definition) → Each P (definedPoints d) → (id : ℕ) (ps : List ModelPoint)
       → readBy id (d .top) body ≡ points ps → Each (λ q. P (q .definition)) ps
   unfolding contentAt

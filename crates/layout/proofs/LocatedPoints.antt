@@ -1,5 +1,5 @@
--- The first point of a model with a number and an instance path is the one that is located by arithmetic: at each level only the
--- instance with the path's number can have it.
+-- The first point of a model with a given number and instance path is the one that is located by arithmetic: at each level
+-- only the instance with the path's number can have it.
 use mathlib.Core.Path.{_≡_, refl, sym, ap, subst, _∙_}
 use mathlib.Core.Bool.{Bool, true, false, _&&_, and-false, and-true}
 use mathlib.Core.List.{List, [], _∷_, _++_}
@@ -23,17 +23,18 @@ use Rattle.layout.specs.Paths.{isPoint}
 use Rattle.layout.specs.Locating.{Located, firstLocation, orElse, locatedAmong, locatedOwn, locatedIn, located}
 use Rattle.layout.proofs.LocatingSteps as steps
 
--- ---- The first result of several
+-- ---- Three numbers, and the first result of two
 
 zero-first : (n : ℕ) → eqb 0 n ≡ eqb n 0
 zero-first zero = refl
 zero-first (suc n) = ne-eqb 0 (suc n) (λ e. absurd (omega arith)) ∙ sym (ne-eqb (suc n) 0 (λ e. absurd (omega arith)))
 
--- A number that is 0 is another if and only if that is 0.
+-- A number that is 0 equals `a` if and only if `a` is 0.
 absent : (x a : ℕ) → x ≡ 0 → eqb x a ≡ eqb a 0
 absent x a e = ap (λ n. eqb n a) e ∙ zero-first a
 
--- Three numbers are those of a path: the first ones are, and the others are 0, so the path has 0 from there on.
+-- Three numbers of which the first m equal those of a path and the others are 0: they are the path's if and only if the path
+-- is 0 from place m on.
 three-tests : (x y z a b c m : ℕ) → (0 < m → x ≡ a) → (m ≤ 0 → x ≡ 0) → (1 < m → y ≡ b) → (m ≤ 1 → y ≡ 0) → (2 < m → z ≡ c)
     → (m ≤ 2 → z ≡ 0) → m ≤ 3 → (eqb x a && (eqb y b && eqb z c)) ≡ allZero (drop m (a ∷ b ∷ c ∷ []))
 three-tests x y z a b c zero x₁ x₀ y₁ y₀ z₁ z₀ l =
@@ -58,7 +59,7 @@ or-none none = refl
 or-none (some x) = refl
 
 module _ (number : ℕ) (key : List ℕ) where
-  -- The first point of consecutive points.
+  -- The location of the first of these points with the number and the path of the key.
   abbrev find : List ModelPoint → Option Located
   find = firstLocation number key
 
@@ -79,7 +80,7 @@ module _ (number : ℕ) (key : List ℕ) where
   -- ---- Instances
 
   module _ (size : ℕ) (one : ℕ → ℕ → List ModelPoint) where
-    -- No instance has the point.
+    -- If no instance has the point, it is not found.
     in-none : (n i offset : ℕ) → ((k at : ℕ) → i ≤ k → k < i + n → find (one k at) ≡ none)
         → find (instances n i offset size one) ≡ none
     unfolding instances firstWith
@@ -89,7 +90,7 @@ module _ (number : ℕ) (key : List ℕ) where
         ∙ ap (λ o. orElse o (find (instances n (suc i) (offset + size) size one))) (f i offset (omega arith) (omega arith))
         ∙ in-none n (suc i) (offset + size) (λ k at l m. f k at (omega arith) (omega arith))
 
-    -- Only instance j can have it: it is instance d of those from number i on.
+    -- If only instance j can have the point, it is found there: j is the number d places after i.
     in-one : (j : ℕ) → ((k at : ℕ) → (k ≡ j → ⊥) → find (one k at) ≡ none) → (n i d offset : ℕ) → i + d ≡ j → d < n
         → find (instances n i offset size one) ≡ find (one j (offset + d * size))
     unfolding instances
@@ -118,7 +119,7 @@ module _ (number : ℕ) (key : List ℕ) where
   same path =
       eqb (getD path 0 0) (getD key 0 0) && (eqb (getD path 1 0) (getD key 1 0) && eqb (getD path 2 0) (getD key 2 0))
 
-  -- The own points of an instance, by whether its path is the key's.
+  -- The own points of an instance can be found if and only if its path is the key.
   own-found : (body : List ℕ) (i : Instance) (offset : ℕ) (ps : List Point)
       → find (pointsAt body i offset ps) ≡ elim (same (i .path)) [ true ↦ locatedAmong number offset ps | false ↦ none ]
   unfolding firstWith pointsAt pointAt locatedAmong
@@ -151,7 +152,7 @@ module _ (number : ℕ) (key : List ℕ) where
       go false true r = r
       go false false r = r
 
-  -- A path whose number at a place is not the key's is not the key.
+  -- A path with another number than the key at place k is not the key.
   not-same : (path : List ℕ) (k : ℕ) → k < 3 → (getD path k 0 ≡ getD key k 0 → ⊥) → same path ≡ false
   not-same path zero l n =
       ap (λ b. b && (eqb (getD path 1 0) (getD key 1 0) && eqb (getD path 2 0) (getD key 2 0)))
@@ -167,14 +168,14 @@ module _ (number : ℕ) (key : List ℕ) where
       ∙ and-false (eqb (getD path 0 0) (getD key 0 0))
   not-same path (suc (suc (suc k))) l n = absurd (omega arith)
 
-  -- A path follows the key to a place: it has the key's numbers before that place, and 0 from there on.
+  -- A path follows the key up to a place: it has the key's numbers before that place, and 0 from there on.
   record Follows (path : List ℕ) (place : ℕ) : Type 0 where
     three : length path ≡ 3
     before : (k : ℕ) → k < place → getD path k 0 ≡ getD key k 0
     zeros : (k : ℕ) → place ≤ k → getD path k 0 ≡ 0
 
   module _ (long : length key ≡ 3) where
-    -- So it is the key where the key has 0 from that place on.
+    -- Then it is the key if and only if the key is 0 from that place on.
     same-there : (path : List ℕ) (place : ℕ) → place ≤ 3 → Follows path place → same path ≡ allZero (drop place key)
     same-there path place l f =
         three-tests (getD path 0 0) (getD path 1 0) (getD path 2 0) (getD key 0 0) (getD key 1 0) (getD key 2 0) place
@@ -196,7 +197,7 @@ module _ (number : ℕ) (key : List ℕ) where
           let lower = groupsAt body count (suc level) i (at + pointsSize ps) inside in
           find-append (pointsAt body i at ps) lower ∙ ap (λ o. orElse o (find lower)) (own-found body i at ps)
 
-      -- Where a number before this level is not the key's, nothing is found: in an instance,
+      -- Where a number of the path before this level is not the key's, nothing is found: in an instance,
       none-in-instance : (level : ℕ) (i : Instance) (at : ℕ) (ps : List Point) (inside : Groups) (k : ℕ) → k < 3
           → (getD (i .path) k 0 ≡ getD key k 0 → ⊥)
           → find (groupsAt body count (suc level) i (at + pointsSize ps) inside) ≡ none
@@ -224,7 +225,7 @@ module _ (number : ℕ) (key : List ℕ) where
           (none-in inside (suc level) (entered body level j at ps i) (at + pointsSize ps) k l (omega arith) (still j))))
           ∙ none-in next level i (offset + count h * size) k l d n
 
-      -- One level further down, the instance with the key's number follows the key.
+      -- One level deeper, the path of the instance with the key's number follows the key.
       follows-in : (path : List ℕ) (level : ℕ) → 2 ≤ level → level ≤ 4 → Follows path (level - 2)
           → Follows (set path (level - 2) (getD key (level - 2) 0)) (level - 1)
       follows-in path level a b f =
@@ -243,7 +244,7 @@ module _ (number : ℕ) (key : List ℕ) where
             zeros = λ k l. getD-set-other path m k j 0 (λ q. absurd (omega arith)) ∙ f .zeros k (omega arith);
           }
 
-      -- The first point of groups is the located one.
+      -- The point found in groups is the located one.
       found-in : (top enclosing : List Point) (gs : Groups) (level : ℕ) (i : Instance) (offset : ℕ) → 2 ≤ level
           → SoundGroups top enclosing level gs → Follows (i .path) (level - 2)
           → find (groupsAt body count level i offset gs) ≡ locatedIn count number key level offset gs
@@ -298,7 +299,7 @@ module _ (number : ℕ) (key : List ℕ) where
         all-zeros (suc (suc zero)) = refl
         all-zeros (suc (suc (suc k))) = refl
 
-    -- The points of the top group,
+    -- The same for the points of the top group,
     pub top-found : (body : List ℕ) (i : Instance) (offset : ℕ) (ps : List Point) → i .path ≡ noInstance
         → find (pointsAt body i offset ps) ≡ locatedOwn number key 1 offset ps
     top-found body i offset ps e =
@@ -306,14 +307,14 @@ module _ (number : ℕ) (key : List ℕ) where
         ∙ ap (λ b. elim b [ true ↦ locatedAmong number offset ps | false ↦ none ])
         (ap same e ∙ same-there noInstance 0 (omega arith) follows-top)
 
-    -- of its groups,
+    -- for its groups,
     pub groups-found : (body : List ℕ) (count : Head → ℕ) (top enclosing : List Point) (gs : Groups) (i : Instance) (offset : ℕ)
         → i .path ≡ noInstance → SoundGroups top enclosing 2 gs
         → find (groupsAt body count 2 i offset gs) ≡ locatedIn count number key 2 offset gs
     groups-found body count top enclosing gs i offset e s =
         found-in body count top enclosing gs 2 i offset (omega arith) s (subst (λ p. Follows p 0) (sym e) follows-top)
 
-    -- and of both.
+    -- and for both.
     pub content-found : (c : Content) (body : List ℕ) (top enclosing : List Point) → SoundGroups top enclosing 2 (c .groups)
         → find (contentAt c body) ≡ located (countsOf c body) number key c
     unfolding contentAt

@@ -9,13 +9,13 @@ use Rattle.catalog_frames.specs.Frames.{Point, Head}
 use Rattle.model_definitions.specs.Definitions.{Groups, noGroup, group, pointsSize}
 use Rattle.layout.specs.Layout.{groupsSize}
 use Rattle.layout.specs.Locating.{Located, orElse, locatedAmong, locatedOwn, locatedIn}
-use Rattle.layout.specs.InternalWalks.{presentWithin}
+use Rattle.layout.specs.PointTables.{presentWithin}
 use Rattle.layout.proofs.RecordedPoints.{present-past, present-first}
 
--- ---- The points of a run, as far as they begin before a limit
+-- ---- The points of a run that begin before a limit
 
 module _ (number limit offset : ℕ) where
-  -- At the end of the run there is none,
+  -- At the end of the run no point is found,
   pub none-left : locatedAmong number offset (presentWithin limit offset []) ≡ none
   unfolding locatedAmong presentWithin
   none-left = refl
@@ -26,13 +26,13 @@ module _ (number limit offset : ℕ) where
   none-past ps h = ap (locatedAmong number offset) (present-past limit offset ps h)
 
   module _ (p : Point) (ps : List Point) (inside : offset < limit) where
-    -- The first point has the number,
+    -- The first point is found if it has the number,
     pub found-first : p .number ≡ number
         → locatedAmong number offset (presentWithin limit offset (p ∷ ps)) ≡ some (record { offset = offset; definition = p })
     unfolding locatedAmong
     found-first e = rw (present-first limit offset p ps inside, eq-eqb (p .number) number e, locatedAmong)
 
-    -- or the rest decides.
+    -- else the search goes on after it.
     pub not-first : (p .number ≡ number → ⊥)
         → locatedAmong number offset (presentWithin limit offset (p ∷ ps))
         ≡ locatedAmong number (offset + p .size) (presentWithin limit (offset + p .size) ps)
@@ -43,7 +43,7 @@ module _ (number limit offset : ℕ) where
 
 module _ (count : Head → ℕ) (number : ℕ) (path : List ℕ) (level offset : ℕ) (h : Head) (ps : List Point)
     (inside following : Groups) (j : ℕ) (q : j ≡ getD path (level - 2) 0) where
-  -- The registers of an instance.
+  -- The registers of one instance, and the result for the groups after this one.
   abbrev size : ℕ
   size = pointsSize ps + groupsSize count inside
 
@@ -64,7 +64,7 @@ module _ (count : Head → ℕ) (number : ℕ) (path : List ℕ) (level offset :
   unfolding locatedIn
   no-instance l = simp (locatedIn, ← q, le-ltb j (count h) l)
 
--- At the end of the siblings there is none.
+-- At the end of the siblings nothing is found.
 pub no-sibling : (count : Head → ℕ) (number : ℕ) (path : List ℕ) (level offset : ℕ)
     → locatedIn count number path level offset noGroup ≡ none
 unfolding locatedIn

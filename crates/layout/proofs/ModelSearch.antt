@@ -14,16 +14,17 @@ use Rattle.catalog_frames.proofs.FramesByIndex.{frame-beyond}
 use Rattle.model_definitions.proofs.TreeFrames.{definition-frames}
 use Rattle.model_definitions.proofs.ModelFrames.{restFrames, frames-of-definitions}
 use Rattle.layout.specs.Reading.{topOf}
-use Rattle.layout.specs.InternalWalks.{onward, contentFrom, ParsesAt, Accepted, isModelOf}
+use Rattle.layout.specs.FrameWalk.{onward}
+use Rattle.layout.specs.InternalWalks.{contentFrom, ParsesAt, Accepted, isModelOf}
 use Rattle.layout.proofs.FramePosition.{length-onward, onward-more, onward-none, first-frame, placed}
 use Rattle.layout.proofs.PassedFrames.{passed}
 
--- The top group of the definition of an id, if it begins at frame i or behind.
+-- The top group of the definition of `id`, if its model frame is frame i or later.
 abbrev pub topFrom : List ℕ → ℕ → ℕ → Option Content
 topFrom ws id i = topOf id (parsed (onward ws i) .models)
 
 module _ (ws : List ℕ) (id i : ℕ) where
-  -- At its model frame it is found.
+  -- It is found at its model frame.
   pub search-found : i < length ws / 8 → isModelOf id (frameIn ws i) ≡ true → some (contentFrom ws (i + 1)) ≡ topFrom ws id i
   unfolding contentFrom parsed topOf
   search-found h t = rw (onward-more ws i h) (go (frameIn ws i) t)
@@ -39,7 +40,7 @@ module _ (ws : List ℕ) (id i : ℕ) where
       go endFrame q = clash (sym q)
       go malformed q = clash (sym q)
 
-  -- At any other frame it is looked for behind.
+  -- At any other frame, the search goes on with the next one.
   pub search-on : i < length ws / 8 → isModelOf id (frameIn ws i) ≡ false → topFrom ws id (i + 1) ≡ topFrom ws id i
   unfolding parsed topOf
   search-on h t = rw (onward-more ws i h) (go (frameIn ws i) t)
@@ -54,20 +55,20 @@ module _ (ws : List ℕ) (id i : ℕ) where
       go endFrame q = refl
       go malformed q = refl
 
-  -- Behind the last frame there is none.
+  -- After the last frame there is none.
   pub search-end : length ws / 8 ≤ i → none ≡ topFrom ws id i
   unfolding parsed topOf
   search-end h = rw (onward-none ws i h)
 
 -- ---- Model frames of an accepted catalog
 
--- At every frame stand the frames of what open groups still hold, and then those of the models behind.
+-- The frames from frame i on are those of the rest of the open groups, then those of the models after them.
 record At (ws : List ℕ) (i : ℕ) : Type 0 where
   left : List Content
   models : List Definition
   here : onward ws i ≡ restFrames left (catalogFrames models)
 
--- Behind a frame as well.
+-- If this holds at a frame, it holds at the next.
 at-next : (ws : List ℕ) (i : ℕ) → At ws i → At ws (i + 1)
 at-next ws i a = go (a .left) (a .models) (a .here)
   where
@@ -86,7 +87,7 @@ at-every : (ws : List ℕ) → Accepted ws → (i : ℕ) → At ws i
 at-every ws a zero = record { left = []; models = definitions ws; here = sym (frames-of-definitions ws (a .0) (a .1)) }
 at-every ws a (suc i) = rw (← add-one i) (at-next ws i (at-every ws a i))
 
--- Behind a model frame the walk stands at its definition.
+-- After a model frame, the walk is at its definition.
 pub model-accepted : (ws : List ℕ) (id i : ℕ) → Accepted ws → isModelOf id (frameIn ws i) ≡ true → ParsesAt ws (i + 1)
 model-accepted ws id i accepts t = let a = at-every ws accepts i in go (a .left) (a .models) (a .here)
   where

@@ -1,4 +1,4 @@
--- A number names one point of a sound definition, so the size of a point by its number is one size.
+-- A number belongs to one point of a sound definition, so points of equal number have one size.
 use mathlib.Core.Path.{_≡_, refl, sym, ap, subst, _∙_}
 use mathlib.Core.Bool.{true}
 use mathlib.Core.List.{List, [], _∷_, _++_, append-assoc, append-nil}
@@ -11,7 +11,7 @@ use Rattle.model_definitions.specs.Soundness.{SoundDefinition, numbersOf}
 use Rattle.model_definitions.proofs.GroupNumbers.{among-later}
 use Rattle.layout.specs.Tiling.{lowerPoints, definedPoints}
 
--- The points of frames.
+-- The points of these frames.
 abbrev pub framePoints : List Frame → List Point
 framePoints [] = []
 framePoints (modelFrame id ∷ fs) = framePoints fs
@@ -20,7 +20,7 @@ framePoints (pointFrame p ∷ fs) = p ∷ framePoints fs
 framePoints (endFrame ∷ fs) = framePoints fs
 framePoints (malformed ∷ fs) = framePoints fs
 
--- Those of point frames, of the frames of groups, and of a definition's frames.
+-- The points of point frames, of the frames of groups, and of a definition's frames.
 of-points : (ps : List Point) (fs : List Frame) → framePoints (pointFrames ps ++ fs) ≡ ps ++ framePoints fs
 of-points [] fs = refl
 of-points (p ∷ ps) fs = ap (λ qs. p ∷ qs) (of-points ps fs)
@@ -58,7 +58,7 @@ number-among (pointFrame q ∷ fs) p (later i) =
 number-among (endFrame ∷ fs) p i = number-among fs p i
 number-among (malformed ∷ fs) p i = number-among fs p i
 
--- Two points of the same number, where no number comes twice, are one.
+-- Two points with the same number are equal where no number is used twice.
 same-point : (fs : List Frame) → Distinct (numbersOf fs) → (p q : Point) → In p (framePoints fs) → In q (framePoints fs)
     → p .number ≡ q .number → p ≡ q
 same-point (modelFrame id ∷ fs) d p q i j e = same-point fs d p q i j e
@@ -72,7 +72,7 @@ same-point (pointFrame r ∷ fs) d p q (later i) (later j) e = same-point fs (d 
 same-point (endFrame ∷ fs) d p q i j e = same-point fs d p q i j e
 same-point (malformed ∷ fs) d p q i j e = same-point fs d p q i j e
 
--- So it is with the points of a sound definition.
+-- So two points of a sound definition with the same number are equal.
 pub one-point : (d : Definition) → SoundDefinition d → (p q : Point) → In p (definedPoints d) → In q (definedPoints d)
     → p .number ≡ q .number → p ≡ q
 one-point d s p q i j e =

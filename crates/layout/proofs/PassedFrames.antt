@@ -1,4 +1,4 @@
--- A walk passes the frames of the groups that are open, one after the other.
+-- A walk visits the frames of the open groups in order.
 use mathlib.Core.Path.{_≡_, refl, sym, ap, _∙_}
 use mathlib.Core.Bool.{false}
 use mathlib.Core.List.{List, [], _∷_, _++_}
@@ -8,17 +8,19 @@ use lib.ListN.{length, length-append}
 use Rattle.catalog_frames.specs.Frames.{Point, Frame, modelFrame, groupFrame, pointFrame, endFrame, malformed, frameIn}
 use Rattle.model_definitions.specs.Definitions.{Groups, noGroup, group, Content, pointFrames, groupFrames}
 use Rattle.model_definitions.proofs.ModelFrames.{restFrames}
-use Rattle.layout.specs.InternalWalks.{onward, contentFrom, ParsesAt, pastEnd, openAfter, framesToEnd, framesOfGroup, isModelOf}
+use Rattle.layout.specs.FrameWalk.{onward, openAfter, framesToEnd, framesOfGroup}
+use Rattle.layout.specs.InternalWalks.{contentFrom, ParsesAt, pastEnd, isModelOf}
 use Rattle.layout.proofs.FramePosition.{length-onward, onward-more, onward-none, parses-within, at-point, at-group, at-end, rest-there, rest-within}
 
--- What open groups still hold, behind a frame that is passed: its frames stand there, and it is no model frame.
+-- After frame i, in open groups with the contents `cs`: the contents that are left, whose frames follow; frame i is not a
+-- model frame.
 pub record Passed (ws : List ℕ) (i : ℕ) (cs : List Content) (rest : List Frame) : Type 0 where
   pub left : List Content
   pub there : onward ws (i + 1) ≡ restFrames left rest
   pub deep : length left ≡ openAfter (frameIn ws i) (length cs)
   pub inModel : (id : ℕ) → isModelOf id (frameIn ws i) ≡ false
 
--- Where a group is open, the frame is passed.
+-- This holds at each frame where a group is open.
 pub passed : (ws : List ℕ) (i : ℕ) (c : Content) (cs : List Content) (rest : List Frame)
     → onward ws i ≡ restFrames (c ∷ cs) rest → Passed ws i (c ∷ cs) rest
 passed ws i c cs rest e = go (c .points) (c .groups) e
@@ -51,7 +53,7 @@ passed ws i c cs rest e = go (c .points) (c .groups) e
         let f = t .0 in
         record { left = cs; there = t .1; deep = rw f (omega arith); inModel = λ id. rw f }
 
--- Each open group has an end frame to come.
+-- Each open group still has an end frame to come.
 ends-to-come : (cs : List Content) (rest : List Frame) → length cs ≤ length (restFrames cs rest)
 ends-to-come [] rest = omega arith
 ends-to-come (c ∷ cs) rest =
@@ -61,9 +63,9 @@ ends-to-come (c ∷ cs) rest =
     let b = length-append gs (endFrame ∷ restFrames cs rest) in
     omega arith
 
--- ---- Passing a group
+-- ---- The way through a group
 
--- On the way from a frame to the end of the group that is open there, so many groups are open.
+-- On the way from frame `first` to the end of the group that is open there: at frame `at`, `depth` groups are open.
 pub record Passing (ws : List ℕ) (first at depth : ℕ) : Type 0 where
   pub left : List Content
   pub following : List Frame
@@ -73,7 +75,7 @@ pub record Passing (ws : List ℕ) (first at depth : ℕ) : Type 0 where
   pub inside : pastEnd ws first ≤ length ws / 8
   pub within : at ≤ length ws / 8
 
--- It begins with that group alone.
+-- At the start, only that group is open.
 pub passing-start : (ws : List ℕ) (first : ℕ) → ParsesAt ws first → Passing ws first first 1
 passing-start ws first s =
     let c = contentFrom ws first in
@@ -89,7 +91,7 @@ passing-start ws first s =
     }
 
 module _ (ws : List ℕ) (first at depth : ℕ) (p : Passing ws first at depth) where
-  -- No more groups are open than there are frames to come.
+  -- No more groups are open than frames are left.
   pub passing-few : depth + at ≤ length ws / 8
   passing-few =
       let e = ends-to-come (p .left) (p .following) in
@@ -98,7 +100,7 @@ module _ (ws : List ℕ) (first at depth : ℕ) (p : Passing ws first at depth) 
       let w = p .within in
       omega arith
 
-  -- A frame is passed.
+  -- One frame further.
   pub passing-next : 0 < depth → Passing ws first (at + 1) (openAfter (frameIn ws at) depth)
   passing-next h = go (p .left) (p .deep) (p .here)
     where
@@ -118,7 +120,7 @@ module _ (ws : List ℕ) (first at depth : ℕ) (p : Passing ws first at depth) 
             within = omega arith;
           }
 
-  -- Where no group is open any more, all of the group is passed.
+  -- Where no group is open any more, the walk is past the end of the group.
   pub passing-done : depth ≤ 0 → at ≡ pastEnd ws first
   passing-done h = go (p .left) (p .deep) (p .here)
     where
@@ -133,7 +135,7 @@ module _ (ws : List ℕ) (first at depth : ℕ) (p : Passing ws first at depth) 
 
 -- ---- The number of frames to the end
 
--- With no open group left, or no frame left, the end is reached.
+-- With no open group left, or no frame left, the number is 0.
 pub at-the-end : (fs : List Frame) → framesToEnd fs 0 ≡ 0
 unfolding framesToEnd
 at-the-end [] = refl
@@ -143,14 +145,14 @@ pub no-frame-left : (ws : List ℕ) (at depth : ℕ) → length ws / 8 ≤ at �
 unfolding framesToEnd
 no-frame-left ws at depth h = rw (onward-none ws at h)
 
--- Any other frame is one of them, and the others are counted from the next frame on.
+-- At any other frame it is one more than from the next frame.
 pub one-frame-nearer : (ws : List ℕ) (at depth : ℕ) → at < length ws / 8 → 0 < depth
     → framesToEnd (onward ws at) depth ≡ suc (framesToEnd (onward ws (at + 1)) (openAfter (frameIn ws at) depth))
 unfolding framesToEnd
 one-frame-nearer ws at zero h d = absurd (omega arith)
 one-frame-nearer ws at (suc depth) h d = rw (onward-more ws at h)
 
--- A frame opens one group at most.
+-- A frame opens at most one group.
 pub opens-one : (f : Frame) (depth : ℕ) → openAfter f depth ≤ depth + 1
 opens-one (groupFrame h) depth = omega arith
 opens-one endFrame depth = omega arith
@@ -158,7 +160,7 @@ opens-one (modelFrame id) depth = omega arith
 opens-one (pointFrame p) depth = omega arith
 opens-one malformed depth = omega arith
 
--- The frames of a group, by whether there is a frame i.
+-- The number of frames of a group, where there is a frame i and where there is none.
 pub group-begins : (ws : List ℕ) (i : ℕ) → i < length ws / 8
     → framesOfGroup (onward ws i) ≡ suc (framesToEnd (onward ws (i + 1)) 1)
 group-begins ws i h = rw (onward-more ws i h)
@@ -166,7 +168,7 @@ group-begins ws i h = rw (onward-more ws i h)
 pub no-group-begins : (ws : List ℕ) (i : ℕ) → length ws / 8 ≤ i → framesOfGroup (onward ws i) ≡ 0
 no-group-begins ws i h = rw (onward-none ws i h)
 
--- From any frame on the way, the count leads past the end of the group.
+-- From any frame on the way, this number of frames further is past the end of the group.
 to-the-end : (n : ℕ) (ws : List ℕ) (first at depth : ℕ) → at + n ≡ length ws / 8 → Passing ws first at depth
     → at + framesToEnd (onward ws at) depth ≡ pastEnd ws first
 to-the-end zero ws first at depth e p =
@@ -181,7 +183,7 @@ to-the-end (suc n) ws first at (suc depth) e p =
     let rest = to-the-end n ws first (at + 1) (openAfter (frameIn ws at) (suc depth)) (omega arith) next in
     omega (arith, one-frame-nearer ws at (suc depth) (omega arith) (omega arith))
 
--- Where a group is open after frame i, frame i and the frames to the end of that group lead past its end.
+-- Where a group is open after frame i, the group's number of frames from frame i leads past its end.
 pub group-passed : (ws : List ℕ) (i : ℕ) → ParsesAt ws (i + 1) → i + framesOfGroup (onward ws i) ≡ pastEnd ws (i + 1)
 group-passed ws i s =
     let inside = parses-within ws (i + 1) s in

@@ -1,4 +1,4 @@
--- Where a point of a model lies, held against the place of another one.
+-- The registers of one point of a model compared with those of another.
 use mathlib.Core.Path.{_≡_}
 use mathlib.Core.Bool.{true}
 use mathlib.Core.Logic.{_⊎_}
@@ -7,7 +7,7 @@ use Rattle.model_definitions.specs.Definitions.{Content}
 use Rattle.layout.specs.Points.{ModelPoint}
 use Rattle.layout.specs.Paths.{depthIn, agreeTo, pathOf}
 
--- p is w, or it lies before or behind w; and a point of w's number in w's instance is w.
+-- p is w, or it ends before w or begins after it; and a point with w's number in w's instance is w.
 pub record Place (top : Content) (w p : ModelPoint) : Type 0 where
   pub same : p .offset ≡ w .offset → p ≡ w
   pub apart : (p .offset ≡ w .offset → ⊥)

@@ -1,4 +1,4 @@
--- Where a point of a model begins: by its number, and by those instance numbers of its path that lead to it.
+-- The offset of a point of a model, by its number and the instance numbers of its path that lead to it.
 use mathlib.Core.Path.{_≡_, refl, sym, ap, subst, _∙_}
 use mathlib.Core.Bool.{Bool, true, false}
 use mathlib.Core.List.{List, [], _∷_, _++_, append-nil}
@@ -28,13 +28,13 @@ use Rattle.layout.proofs.Depths.{agree-first}
 
 -- ---- The function
 
--- The registers of the points before the one with a number.
+-- The number of registers of the points before point n.
 unfoldable pub offsetIn : ℕ → List Point → ℕ
 offsetIn n [] = 0
 offsetIn n (q ∷ qs) = elim (eqb n (q .number)) [ true ↦ 0 | false ↦ q .size + offsetIn n qs ]
 
--- The registers before the point with a number, among groups and on a path into them: it goes down into the group that has it,
--- in the instance that the path names first.
+-- The number of registers before point n, in groups and on a path into them: in the group that has the point, it is in the
+-- instance with the path's first number, and the rest of the path leads into the groups inside.
 unfoldable pub addressIn : (Head → ℕ) → ℕ → List ℕ → Groups → ℕ
 addressIn count n path noGroup = 0
 addressIn count n path (group h ps inside following) =
@@ -47,9 +47,9 @@ addressIn count n path (group h ps inside following) =
       ]
     ]
 
--- ---- It looks only at the instance numbers that lead to the point
+-- ---- It depends only on the instance numbers that lead to the point
 
--- On paths that agree so far, the address is the same.
+-- On paths that agree in these numbers, the address is the same.
 pub agree-address : (count : Head → ℕ) (n : ℕ) (g : Groups) (xs ys : List ℕ) → length xs ≡ length ys
     → agreeTo (depthIn n g) xs ys ≡ true → addressIn count n xs g ≡ addressIn count n ys g
 unfolding addressIn depthIn
@@ -61,7 +61,7 @@ agree-address count n (group h ps inside following) xs ys l e =
     size : ℕ
     size = pointsSize ps + groupsSize count inside
 
-    -- The address by the two tests.
+    -- The address, by the two tests.
     Address : Bool → Bool → List ℕ → ℕ
     Address a b path =
         elim a [
@@ -87,7 +87,7 @@ agree-address count n (group h ps inside following) xs ys l e =
 
 -- ---- The numbers of groups
 
--- The number of a point of groups is among theirs.
+-- The number of a point of groups is among the numbers of the groups.
 pub lower-among : (p : Point) (g : Groups) → In p (lowerPoints g) → among (p .number) (numbersOf (groupFrames g)) ≡ true
 lower-among p g i =
     let frames : framePoints (groupFrames g) ≡ lowerPoints g =
@@ -96,7 +96,7 @@ lower-among p g i =
 
 -- ---- The points of an instance
 
--- A path of three numbers is that of a point on it.
+-- A point of an instance has the path of the instance.
 path-back : (body : List ℕ) (i : Instance) (offset : ℕ) (q : Point) → length (i .path) ≡ 3
     → pathOf (pointAt body i offset q) ≡ i .path
 unfolding pointAt
@@ -109,18 +109,18 @@ path-back body i offset q l = three (i .path) l
     three (x ∷ y ∷ z ∷ []) l = refl
     three (x ∷ y ∷ z ∷ u ∷ us) l = absurd (omega (arith, l))
 
--- A point shows what its registers hold.
+-- A point's raw value is that of its registers.
 abbrev pub Reads : List ℕ → ModelPoint → Type 0
 Reads body p = p .raw ≡ shownRaw (registersAt body (p .offset) (p .definition))
 
--- A point of an instance with a path and an offset: one of these points, behind those before it.
+-- A point of an instance with this path at this offset: it is one of these points, and is placed after those before it.
 pub record Own (body path : List ℕ) (offset : ℕ) (ps : List Point) (p : ModelPoint) : Type 0 where
   pub defined : In (p .definition) ps
   pub onPath : pathOf p ≡ path
   pub addressed : p .offset ≡ offset + offsetIn (p .definition .number) ps
   pub reads : Reads body p
 
--- Each point of an instance.
+-- Each listed point of an instance is so.
 pub each-own : (body : List ℕ) (i : Instance) (offset : ℕ) (ps : List Point) → length (i .path) ≡ 3
     → Distinct (numbersOf (pointFrames ps)) → Each (Own body (i .path) offset ps) (pointsAt body i offset ps)
 unfolding pointsAt pointAt offsetIn
@@ -152,8 +152,8 @@ each-own body i offset (q ∷ qs) l d =
 
 -- ---- The points of groups
 
--- A point of groups that lie from an offset on, where k instance numbers of a path lead to them: one of theirs, whose path begins
--- with these.
+-- A point of groups that are placed from `offset`, where the first k instance numbers of `path` lead to the groups: it is one
+-- of their points, and its path begins with these k numbers.
 pub record Lower (body : List ℕ) (count : Head → ℕ) (k : ℕ) (path : List ℕ) (offset : ℕ) (g : Groups) (p : ModelPoint)
     : Type 0 where
   pub defined : In (p .definition) (lowerPoints g)
@@ -167,7 +167,7 @@ module _ (body : List ℕ) (count : Head → ℕ) (k : ℕ) (path : List ℕ) (o
   abbrev size : ℕ
   size = pointsSize ps + groupsSize count inside
 
-  -- The number of an instance stands at place k of the paths into it, and the numbers before it stay.
+  -- The number of an instance is at place k of each path into it, and the numbers before it stay.
   kept : (j : ℕ) (xs : List ℕ) → ((i : ℕ) → i < suc k → getD xs i 0 ≡ getD (set path k j) i 0)
       → (getD xs k 0 ≡ j) × ((i : ℕ) → i < k → getD xs i 0 ≡ getD path i 0)
   kept j xs e = (
@@ -188,13 +188,13 @@ module _ (body : List ℕ) (count : Head → ℕ) (k : ℕ) (path : List ℕ) (o
   unfolding addressIn
   lower-address n xs e = rw (t .insidePoints n e, e, addressIn)
 
-  -- and of the groups behind it.
+  -- and of the groups after it.
   next-address : (n : ℕ) (xs : List ℕ) → among n (numbersOf (groupFrames following)) ≡ true
       → addressIn count n xs (group h ps inside following) ≡ count h * size + addressIn count n xs following
   unfolding addressIn
   next-address n xs e = rw (t .followingPoints n e, t .followingInside n e, addressIn)
 
-  -- A point of the group itself,
+  -- A point of the group's own points,
   of-own : (j : ℕ) (p : ModelPoint) → Own body (set path k j) (offset + j * size) ps p
       → Lower body count k path offset (group h ps inside following) p
   of-own j p o =
@@ -233,7 +233,7 @@ module _ (body : List ℕ) (count : Head → ℕ) (k : ℕ) (path : List ℕ) (o
         reads = o .reads;
       }
 
-  -- and of the groups behind it.
+  -- and of the groups after it.
   of-next : (p : ModelPoint) → Lower body count k path (offset + count h * size) following p
       → Lower body count k path offset (group h ps inside following) p
   of-next p o =
@@ -247,7 +247,7 @@ module _ (body : List ℕ) (count : Head → ℕ) (k : ℕ) (path : List ℕ) (o
         reads = o .reads;
       }
 
--- Each point of groups at a level below the top.
+-- Each listed point of groups below the top group is so.
 pub each-lower : (body : List ℕ) (count : Head → ℕ) (level : ℕ) (i : Instance) (offset : ℕ)
     (top enclosing : List Point) (g : Groups) → SoundGroups top enclosing level g → 2 ≤ level → length (i .path) ≡ 3
     → Distinct (numbersOf (groupFrames g))

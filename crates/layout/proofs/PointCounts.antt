@@ -1,4 +1,4 @@
--- How many points a model's groups have.
+-- The number of points in a model's groups.
 use mathlib.Core.Path.{_≡_, refl, ap, _∙_}
 use mathlib.Core.List.{List, [], _∷_, _++_}
 use Prim.Native.Nat.{ℕ, zero, suc, _+_, _*_, _-_, _≤_}
@@ -13,9 +13,9 @@ use Rattle.layout.specs.Layout.{measured, groupsSize, countsOf, topInsta
 use Rattle.layout.specs.Counts.{groupsPoints}
 use Rattle.layout.proofs.Sizes.{points-fit}
 
--- ---- The points that are placed, wherever that is
+-- ---- The points that are placed, at any offset
 
--- An instance has its own points.
+-- An instance has one listed point for each of its own points.
 pub points-counted : (body : List ℕ) (i : Instance) (offset : ℕ) (ps : List Point) → length (pointsAt body i offset ps) ≡ length ps
 unfolding pointsAt
 points-counted body i offset [] = refl
@@ -31,7 +31,7 @@ instances-counted k size one each (suc n) j offset =
     let r : length rest ≡ n * k = instances-counted k size one each n (suc j) (offset + size) in
     omega (arith, length-append (one j offset) rest, each j offset, r, suc-mul n k)
 
--- Groups have the points of their instances.
+-- Groups have the points of all their instances.
 pub groups-counted : (enter : Entering) (body : List ℕ) (count : Head → ℕ) (level : ℕ) (i : Instance) (offset : ℕ) (g : Groups)
     → length (groupsBy enter body count level i offset g) ≡ groupsPoints count g
 unfolding groupsBy measured
@@ -57,7 +57,7 @@ groups-counted enter body count level i offset (group h ps inside next) =
     ∙ ap (λ n. n + length rest) (instances-counted k size one each (count h) 0 offset)
     ∙ ap (λ n. count h * k + n) (groups-counted enter body count level i (offset + count h * size) next)
 
--- A model has the points of its top group and those of its groups.
+-- A model has the points of its top group and of the groups in it.
 pub content-counted : (c : Content) (body : List ℕ)
     → length (contentAt c body) ≡ length (c .points) + groupsPoints (countsOf c body) (c .groups)
 unfolding contentAt

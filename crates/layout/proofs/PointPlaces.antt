@@ -1,4 +1,4 @@
--- Where the points of one model lie: each is a point of the definition, lies in the body, and is apart from every other.
+-- The places of the points of one model: each is a point of the definition, is in the body, and overlaps no other.
 use mathlib.Core.Path.{_≡_, refl, sym, ap, _∙_}
 use mathlib.Core.Bool.{true, false}
 use mathlib.Core.List.{List, [], _∷_}
@@ -32,12 +32,13 @@ use Rattle.layout.proofs.PointAddresses.{offsetIn, addressIn, agree-add
 
 -- ---- The addresses of a model's points
 
--- A point is one of a definition's, begins at the address by its number and its path, and shows what its registers hold.
+-- A point is one of a definition's points, begins at the address by its number and its path, and has the raw value of its
+-- registers.
 abbrev At : Definition → List ℕ → (ℕ → List ℕ → ℕ) → ModelPoint → Type 0
 At d body address p =
     (In (p .definition) (definedPoints d)) × (p .offset ≡ address (p .definition .number) (pathOf p)) × Reads body p
 
--- So is each point of a model, and the address looks only at the instance numbers that lead to the point.
+-- Each point of a model is so, and the address depends only on the instance numbers that lead to the point.
 record Addressed (d : Definition) (body : List ℕ) (ps : List ModelPoint) : Type 0 where
   address : ℕ → List ℕ → ℕ
   near : (n : ℕ) (xs ys : List ℕ) → length xs ≡ length ys → agreeTo (depthIn n (d .top .groups)) xs ys ≡ true
@@ -48,7 +49,7 @@ record Addressed (d : Definition) (body : List ℕ) (ps : List ModelPoint) : Typ
 top-apart : (d : Definition) → SoundDefinition d → Apart (d .top .points) (d .top .groups) noGroup
 top-apart d s = apart (d .top .points) (d .top .groups) noGroup (s .distinct)
 
--- The registers before the point with a number, on a path into the groups of the top group.
+-- The number of registers before point n, on a path into the groups of the top group.
 unfoldable addressOf : Content → (Head → ℕ) → ℕ → List ℕ → ℕ
 addressOf c count n path =
     elim (among n (numbersOf (pointFrames (c .points)))) [
@@ -57,7 +58,7 @@ addressOf c count n path =
     ]
 
 module _ (d : Definition) (body : List ℕ) (count : Head → ℕ) where
-  -- It looks only at the instance numbers that lead to the point.
+  -- It depends only on the instance numbers that lead to the point.
   agree-top : (n : ℕ) (xs ys : List ℕ) → length xs ≡ length ys → agreeTo (depthIn n (d .top .groups)) xs ys ≡ true
       → addressOf (d .top) count n xs ≡ addressOf (d .top) count n ys
   unfolding addressOf
@@ -65,7 +66,7 @@ module _ (d : Definition) (body : List ℕ) (count : Head → ℕ) where
       by-same-test (λ a b. a ≡ b) (among n (numbersOf (pointFrames (d .top .points)))) (λ q. refl)
       (λ q. ap (λ a. pointsSize (d .top .points) + a) (agree-address count n (d .top .groups) xs ys l e))
 
-  -- A top point has its address,
+  -- A top point begins at its address,
   own-at : (p : ModelPoint) → Own body noInstance 0 (d .top .points) p → At d body (addressOf (d .top) count) p
   unfolding addressOf
   own-at p o =
@@ -76,7 +77,7 @@ module _ (d : Definition) (body : List ℕ) (count : Head → ℕ) where
         o .reads,
       )
 
-  -- and so has a point of the groups.
+  -- and so does a point of the groups.
   lower-at : SoundDefinition d → (p : ModelPoint)
       → Lower body count 0 noInstance (pointsSize (d .top .points)) (d .top .groups) p → At d body (addressOf (d .top) count) p
   unfolding addressOf
@@ -88,7 +89,7 @@ module _ (d : Definition) (body : List ℕ) (count : Head → ℕ) where
         o .reads,
       )
 
--- A model in full.
+-- A model that is read in full.
 content-addressed : (d : Definition) → SoundDefinition d → (body : List ℕ) → Addressed d body (contentAt (d .top) body)
 unfolding contentAt
 content-addressed d s body =
@@ -109,11 +110,11 @@ content-addressed d s body =
           (each-lower body count 2 top (pointsSize ps) ps ps g (s .groups) (omega arith) refl (t .insideDistinct)));
     }
 
--- All but the last of points are of them,
+-- The points but the last are among the points,
 pub in-but-last : (p : Point) (ps : List Point) → In p (allButLast ps) → In p ps
 in-but-last p ps = each-one (λ q. In q ps) (allButLast ps) (each-but-last (λ q. In q ps) ps (all-in ps)) p
 
--- have none of the numbers that these have not,
+-- have no number that the points do not have,
 none-but-last : (n : ℕ) (ps : List Point) → among n (numbersOf (pointFrames ps)) ≡ false
     → among n (numbersOf (pointFrames (allButLast ps))) ≡ false
 unfolding allButLast
@@ -124,7 +125,7 @@ none-but-last n (p ∷ q ∷ ps) e =
     neither (eqb n (p .number)) (among n (numbersOf (pointFrames (allButLast (q ∷ ps))))) .1
     (f .0, none-but-last n (q ∷ ps) (f .1))
 
--- and each its own where these have.
+-- and have distinct numbers if the points have.
 distinct-but-last : (ps : List Point) → Distinct (numbersOf (pointFrames ps)) → Distinct (numbersOf (pointFrames (allButLast ps)))
 unfolding allButLast
 distinct-but-last [] d = tt
@@ -148,7 +149,7 @@ pad-addressed d s id body =
           (each-own body (topInstance qs body) 0 qs refl (distinct-but-last ps (top-apart d s .pointsDistinct)));
     }
 
--- A model that is read by a sound definition.
+-- A model that a sound definition reads.
 read-addressed : (d : Definition) → SoundDefinition d → (id : ℕ) (body : List ℕ) (ps : List ModelPoint)
     → readBy id (d .top) body ≡ points ps → Addressed d body ps
 read-addressed d s id body =
@@ -162,15 +163,15 @@ module _ (d : Definition) (sound : SoundDefinition d) (body : List ℕ) (ps : Li
   addressed : Addressed d body ps
   addressed = read-addressed d sound (d .id) body ps read
 
-  -- Each point is one of the definition's, begins at its address and shows what its registers hold.
+  -- Each point is one of the definition's points, begins at its address and has the raw value of its registers.
   point-at : (p : ModelPoint) → In p ps → At d body (addressed .address) p
   point-at = each-one (At d body (addressed .address)) ps (addressed .each)
 
-  -- So each is one of the definition's,
+  -- So each is one of the definition's points,
   pub point-defined : (p : ModelPoint) → In p ps → In (p .definition) (definedPoints d)
   point-defined p i = point-at p i .0
 
-  -- its raw value is what its registers hold,
+  -- its raw value is that of its registers,
   pub point-reads : (p : ModelPoint) → In p ps → Reads body p
   point-reads p i = point-at p i .2
 
@@ -178,19 +179,19 @@ module _ (d : Definition) (sound : SoundDefinition d) (body : List ℕ) (ps : Li
   points-tile : PointsTile 0 (length body) ps
   points-tile = read-tiled d sound (d .id) body ps read .tiles
 
-  -- so each lies in the body,
+  -- so each is in the body,
   pub point-inside : (p : ModelPoint) → In p ps → p .offset + p .definition .size ≤ length body
   point-inside p i = inside (λ p. p .offset) (λ p. p .definition .size) 0 (length body) ps points-tile p i .2
 
-  -- and is apart from another one.
+  -- and overlaps no other point.
   pub point-places : (w : ModelPoint) → In w ps → Each (Place (d .top) w) ps
   point-places w i = each-any (Place (d .top) w) ps place
     where
-      -- Each takes a register or more.
+      -- Each takes at least one register.
       sized : (p : ModelPoint) → In p ps → 1 ≤ p .definition .size
       sized p j = inside (λ p. p .offset) (λ p. p .definition .size) 0 (length body) ps points-tile p j .1
 
-      -- The place of each, by the order of the two and by their addresses.
+      -- The place of each compared with w, by the order of the two and by their addresses.
       place : (p : ModelPoint) → In p ps → Place (d .top) w p
       place p j =
           let order = tiled.apart (λ p. p .offset) (λ p. p .definition .size) 0 (length body) ps points-tile w p i j in

@@ -1,4 +1,4 @@
--- The points of a model, as an accepted catalog reads them, lie in the model and are no more than its registers.
+-- The points of a model, as an accepted catalog reads them, are in the model, and there are no more of them than registers.
 use mathlib.Core.Path.{_≡_, sym, _∙_}
 use mathlib.Core.List.{List, [], _∷_}
 use Prim.Native.Nat.{ℕ, _≤_}
@@ -21,7 +21,7 @@ use Rattle.layout.proofs.ReadingSteps.{reading-none, reading-first}
 use Rattle.layout.proofs.BodyTiling.{read-tiled}
 use Rattle.layout.proofs.TiledApart.{few, inside}
 
--- What sound definitions read fills the body, by one of them.
+-- The points that sound definitions read fill the body, by one of the definitions.
 reading-tiled : (ds : List Definition) → Each SoundDefinition ds → (m : Model) (ps : List ModelPoint)
     → reading ds m ≡ points ps → (d : Definition) × BodyTiled d (length (m .body)) ps
 reading-tiled [] s m ps e = let n = sym (reading-none m) ∙ e in impossible (cc)
@@ -29,12 +29,12 @@ reading-tiled (d ∷ ds) s m ps e =
     by-test (λ r. r ≡ points ps → (d : Definition) × BodyTiled d (length (m .body)) ps) (eqb (d .id) (m .id))
     (λ t e. (d, read-tiled d (s .0) (m .id) (m .body) ps e)) (λ t. reading-tiled ds (s .1) m ps) (sym (reading-first d ds m) ∙ e)
 
--- So does what an accepted catalog reads.
+-- So do the points that an accepted catalog reads.
 accepted-tiled : (catalog : List ℕ) (n : ℕ) → checked catalog ≡ accepted n → (m : Model) (ps : List ModelPoint)
     → reading (definitions catalog) m ≡ points ps → (d : Definition) × BodyTiled d (length (m .body)) ps
 accepted-tiled catalog n e = reading-tiled (definitions catalog) (accepted-is-sound catalog n e .0 .each)
 
--- The points of a reading lie in the model: behind none lies the model's end.
+-- The points of a reading are in the model: none begins past the model's end.
 abbrev pub Inside : (Model → Reading) → Type 0
 Inside read = (m : Model) (ps : List ModelPoint) → read m ≡ points ps → Each (λ p. p .offset ≤ length (m .body)) ps
 

@@ -1,4 +1,4 @@
--- Two bodies whose top points of access R hold the same have the same counts: a count point is one of those.
+-- Two bodies that agree on the top points of access R have the same counts: each count point is one of these points.
 use mathlib.Core.Path.{_≡_, refl, sym, ap, _∙_}
 use mathlib.Core.Bool.{Bool, true, false, _&&_, _||_, and-false}
 use mathlib.Core.List.{List, [], _∷_, _++_}
@@ -19,12 +19,12 @@ use Rattle.layout.proofs.ScopeOnly.{Agree, groups-agree}
 
 -- ---- The points of access R
 
--- Those of these points.
+-- The points of access R among these.
 abbrev readOnlyPoints : List Point → List Point
 readOnlyPoints [] = []
 readOnlyPoints (p ∷ ps) = elim (eqb (p .access) readOnly) [ true ↦ p ∷ readOnlyPoints ps | false ↦ readOnlyPoints ps ]
 
--- Each is one of these points, and has access R.
+-- Each is one of these points and has access R.
 read-only-in : (p : Point) (ps : List Point) → In p (readOnlyPoints ps) → (In p ps) × (p .access ≡ readOnly)
 read-only-in p (q ∷ ps) i = go p q (eqb (q .access) readOnly) refl (read-only-in p ps) i
   where
@@ -36,7 +36,7 @@ read-only-in p (q ∷ ps) i = go p q (eqb (q .access) readOnly) refl (read-only-
     go p q true e rest (later i) = let r = rest i in (later (r .0), r .1)
     go p q false e rest i = let r = rest i in (later (r .0), r .1)
 
--- A count point is one of them.
+-- A count point is among them.
 count-point-kept : (n : ℕ) (ps : List Point) → hasCountPoint n ps ≡ true → hasCountPoint n (readOnlyPoints ps) ≡ true
 count-point-kept n [] e = e
 count-point-kept n (p ∷ ps) e = go (eqb (p .access) readOnly) refl e (count-point-kept n ps)
@@ -44,7 +44,7 @@ count-point-kept n (p ∷ ps) e = go (eqb (p .access) readOnly) refl e (count-po
     named : Bool
     named = eqb (p .number) n && eqb (p .typeCode) uint16
 
-    -- What one test implies.
+    -- An implication, with the same test before both sides.
     or-mono : (z a b : Bool) → (a ≡ true → b ≡ true) → z || a ≡ true → z || b ≡ true
     or-mono true a b f h = refl
     or-mono false a b f h = f h
@@ -57,7 +57,7 @@ count-point-kept n (p ∷ ps) e = go (eqb (p .access) readOnly) refl e (count-po
         ∙ or-mono (named && true) (hasCountPoint n ps) (hasCountPoint n (readOnlyPoints ps)) rest h
     go false a h rest = rest (sym (ap (λ (z : Bool). z || hasCountPoint n ps) (and-false named)) ∙ h)
 
--- So sound groups are sound by these alone as the points of the top group.
+-- So sound groups stay sound if these are the only points of the top group.
 counted-by-read-only : (top enclosing : List Point) (level : ℕ) (g : Groups) → SoundGroups top enclosing level g
     → SoundGroups (readOnlyPoints top) enclosing level g
 counted-by-read-only top enclosing level noGroup s = tt
@@ -82,7 +82,7 @@ module _ (c : Content) (sound : SoundGroups (c .points) (c .points) 2 (c .groups
     (len : length after ≡ length body)
     (agree : (p : Point) → In p (c .points) → p .access ≡ readOnly
     → topScope (c .points) after (p .number) ≡ topScope (c .points) body (p .number)) where
-  -- The scopes of the top group in the one,
+  -- The scope of the top group in the one body,
   abbrev old : Scope
   old = topScope (c .points) body
 
@@ -90,15 +90,15 @@ module _ (c : Content) (sound : SoundGroups (c .points) (c .points) 2 (c .groups
   abbrev now : Scope
   now = topScope (c .points) after
 
-  -- They agree on its points of access R,
+  -- They agree on the top points of access R,
   scopes : Agree (readOnlyPoints (c .points)) now old
   scopes p i = let r = read-only-in p (c .points) i in agree p (r .0) (r .1)
 
-  -- and its groups are sound by these.
+  -- and the groups are sound by these points.
   below : SoundGroups (readOnlyPoints (c .points)) (c .points) 2 (c .groups)
   below = counted-by-read-only (c .points) (c .points) 2 (c .groups) sound
 
-  -- The same count points are unimplemented.
+  -- A count point is unimplemented in both bodies or in neither.
   pub same-unimplemented : countUnimplemented now (c .groups) ≡ countUnimplemented old (c .groups)
   same-unimplemented = unimplemented-agrees now old (readOnlyPoints (c .points)) scopes (c .points) 2 (c .groups) below
 
@@ -112,7 +112,7 @@ module _ (c : Content) (sound : SoundGroups (c .points) (c .points) 2 (c .groups
   same-fill-size : fillSizeOf c after ≡ fillSizeOf c body
   same-fill-size = fills-agree now old (readOnlyPoints (c .points)) scopes pointsSize 0 (c .points) 2 (c .groups) below
 
-  -- so the one fits where the other does,
+  -- so the length fits in both bodies or in neither,
   pub same-fit : fits c after ≡ fits c body
   unfolding fits
   same-fit =
@@ -122,7 +122,7 @@ module _ (c : Content) (sound : SoundGroups (c .points) (c .points) 2 (c .groups
       ∙ ap (λ rest. by (length body) rest (fillSizeOf c after)) same-rest
       ∙ ap (by (length body) (restSize c body)) same-fill-size
 
-  -- and the same fills them.
+  -- and the fill group has the same count.
   same-fill : fillOf c after ≡ fillOf c body
   unfolding fillOf
   same-fill =
@@ -131,7 +131,7 @@ module _ (c : Content) (sound : SoundGroups (c .points) (c .points) 2 (c .groups
       ∙ ap (λ rest. by (length body) rest (fillSizeOf c after)) same-rest
       ∙ ap (by (length body) (restSize c body)) same-fill-size
 
-  -- The points of the groups are as by the counts of the other.
+  -- The points of the groups are the same by the counts of either body.
   pub same-groups : (i : Instance) (offset : ℕ)
       → groupsAt after (countsOf c after) 2 i offset (c .groups) ≡ groupsAt after (countsOf c body) 2 i offset (c .groups)
   same-groups i offset =

@@ -1,4 +1,4 @@
--- A model is read by the first definition of its id.
+-- A model is read by the first definition with its id.
 use mathlib.Core.Path.{_≡_, refl, sym, ap, _∙_}
 use mathlib.Core.Bool.{Bool, true, false}
 use mathlib.Core.List.{List, [], _∷_}
@@ -14,12 +14,12 @@ use Rattle.model_definitions.specs.Soundness.{idsOf}
 use Rattle.register_map.specs.Scan.{Model}
 use Rattle.layout.specs.Reading.{Reading, unknown, readBy, topOf, reading}
 
--- By none where there is none.
+-- Without definitions, a model is unknown.
 pub reading-none : (m : Model) → reading [] m ≡ unknown
 unfolding topOf reading
 reading-none m = refl
 
--- By the first one, if it has the id, else by the others.
+-- The first definition reads the model if it has the id, else the others do.
 pub reading-first : (d : Definition) (ds : List Definition) (m : Model) → reading (d ∷ ds) m
     ≡ elim (eqb (d .id) (m .id)) [ true ↦ readBy (m .id) (d .top) (m .body) | false ↦ reading ds m ]
 unfolding topOf reading
@@ -33,23 +33,23 @@ reading-first d ds m = go (eqb (d .id) (m .id))
     go true = refl
     go false = refl
 
--- By the first one.
+-- The first definition has the id.
 pub reading-here : (d : Definition) (ds : List Definition) (m : Model) → eqb (d .id) (m .id) ≡ true
     → reading (d ∷ ds) m ≡ readBy (m .id) (d .top) (m .body)
 reading-here d ds m e =
     reading-first d ds m ∙ ap (λ b. elim b [ true ↦ readBy (m .id) (d .top) (m .body) | false ↦ reading ds m ]) e
 
--- By the others.
+-- The first definition does not have the id.
 pub reading-later : (d : Definition) (ds : List Definition) (m : Model) → eqb (d .id) (m .id) ≡ false
     → reading (d ∷ ds) m ≡ reading ds m
 reading-later d ds m e =
     reading-first d ds m ∙ ap (λ b. elim b [ true ↦ readBy (m .id) (d .top) (m .body) | false ↦ reading ds m ]) e
 
--- A test of two numbers comes out as the other way round.
+-- A test that two numbers are equal is symmetric.
 other-way : (a b : ℕ) → eqb a b ≡ false → eqb b a ≡ false
 other-way a b e = ne-eqb b a (λ q. eqb-false a b e (sym q))
 
--- A model whose id no definition has is unknown, whatever is kept.
+-- A model whose id no definition has is unknown, whichever definitions are kept.
 pub unknown-left : (choice : List Bool) (ds : List Definition) (m : Model) → among (m .id) (idsOf ds) ≡ false
     → reading (keptBy choice ds) m ≡ unknown
 unknown-left [] [] m e = reading-none m

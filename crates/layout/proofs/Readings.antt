@@ -18,13 +18,13 @@ use Rattle.layout.specs.Layout.{topScope, countUnimplemented, fits, topI
 use Rattle.layout.specs.Reading.{Fault, Reading, unknown, faulty, points, belowTopPoints, countPointUnimplemented, notTheSize, endsWithPad, allButLast, padLeftOut, readFull, readBy}
 use Rattle.layout.specs.InternalWalks.{HasPoints}
 
--- A body that is laid out in full: it has room for the top points, its counts are given, and its length is the size.
+-- A body that is read in full: it has all the top points, no count point is unimplemented, and its length is the size.
 pub record Full (c : Content) (body : List ℕ) : Type 0 where
   pub capacity : pointsSize (c .points) ≤ length body
   pub counted : countUnimplemented (topScope (c .points) body) (c .groups) ≡ false
   pub fitting : fits c body ≡ true
 
--- How a model with points is read: with its last pad left out, or in full.
+-- The two ways to read a model with points: with its last pad left out, or in full.
 pub data HowRead (id : ℕ) (c : Content) (body : List ℕ) : Reading → Type 0 where
   leftOut : padLeftOut id c (length body) ≡ true
       → HowRead id c body
@@ -36,7 +36,7 @@ module _ (id : ℕ) (c : Content) (body : List ℕ) where
   abbrev pub pointsLeft : List ModelPoint
   pointsLeft = pointsAt body (topInstance (allButLast (c .points)) body) 0 (allButLast (c .points))
 
-  -- What holds of a model with its pad left out, of each fault, and of a model in full holds of what is read.
+  -- What holds of a model with its pad left out, of each fault, and of a model in full, holds of the reading.
   pub by-cases : (P : Reading → Type 0) → (padLeftOut id c (length body) ≡ true → P (points pointsLeft))
       → ((fault : Fault) → P (faulty fault))
       → (padLeftOut id c (length body) ≡ false → Full c body → P (points (contentAt c body))) → P (readBy id c body)
@@ -49,22 +49,22 @@ module _ (id : ℕ) (c : Content) (body : List ℕ) where
       (λ f. whole kept (record { capacity = ltb-false (length body) (pointsSize (c .points)) r; counted = u; fitting = f }))
       (λ _. bad notTheSize))))
 
-  -- What is read in the one way,
+  -- The reading with the pad left out,
   pub read-left : padLeftOut id c (length body) ≡ true → readBy id c body ≡ points pointsLeft
   unfolding readBy
   read-left e = simp (readBy, e)
 
-  -- and in the other.
+  -- and in full.
   pub read-full : padLeftOut id c (length body) ≡ false → Full c body → readBy id c body ≡ points (contentAt c body)
   unfolding readBy readFull
   read-full e f =
       simp (readBy, e, readFull, le-ltb (length body) (pointsSize (c .points)) (f .capacity), f .counted, f .fitting)
 
-  -- How a model with points is read.
+  -- A reading with points is one of the two.
   pub how-read : HasPoints (readBy id c body) → HowRead id c body (readBy id c body)
   how-read = by-cases (λ r. HasPoints r → HowRead id c body r) (λ t h. leftOut t) (λ fault h. absurd h) (λ k f h. full k f)
 
-  -- What holds of the points in either way holds of the points that are read.
+  -- What holds of the points in both ways holds of the points of the reading.
   pub by-reading : (P : List ModelPoint → Type 0) → (padLeftOut id c (length body) ≡ true → P pointsLeft)
       → (padLeftOut id c (length body) ≡ false → Full c body → P (contentAt c body))
       → (ps : List ModelPoint) → readBy id c body ≡ points ps → P ps
@@ -72,13 +72,13 @@ module _ (id : ℕ) (c : Content) (body : List ℕ) where
       by-cases (λ r. r ≡ points ps → P ps) (λ t e. let same : pointsLeft ≡ ps = cc in subst P same (left t))
       (λ fault e. impossible (cc)) (λ k f e. let same : contentAt c body ≡ ps = cc in subst P same (whole k f))
 
-  -- What a definition reads is not unknown.
+  -- The reading by a definition is not unknown.
   pub not-unknown : readBy id c body ≡ unknown → ⊥
   not-unknown = by-cases (λ r. r ≡ unknown → ⊥) (λ t e. impossible (cc)) (λ fault e. impossible (cc)) (λ k f e. impossible (cc))
 
 -- ---- Scale factors where the last pad is left out
 
--- A scale factor is no pad, so it is none that is left out.
+-- A scale factor is not a pad, so it is not left out.
 not-last : (q : Point) (ps : List Point) → endsWithPad ps ≡ true → q .typeCode ≡ sunssf → In q ps → In q (allButLast ps)
 unfolding endsWithPad allButLast
 not-last q (p ∷ []) e t first = let z = eqb-true (q .typeCode) pad e in absurd (omega (arith, z, t))

@@ -1,4 +1,4 @@
--- Points noted in the table: what is in reach by it, and which points begin before the end of a body.
+-- Points recorded in the table: the scope that it holds, and the points that begin before the end of a body.
 use mathlib.Core.Path.{_≡_, refl, ap, subst, fun-ext, _∙_}
 use mathlib.Core.Bool.{Bool, true, false}
 use mathlib.Core.List.{List, [], _∷_, _++_}
@@ -18,9 +18,10 @@ use Rattle.model_definitions.specs.Definitions.{pointsSize, pointFrames, groupF
 use Rattle.model_definitions.proofs.GroupSizes.{type-size}
 use Rattle.layout.specs.Points.{Scope}
 use Rattle.layout.specs.Layout.{withPoint, within, pointsAt}
-use Rattle.layout.specs.InternalWalks.{contentFrom, ParsesAt, scopeIn, instanceIn, tableWith, presentWithin, IsTable}
+use Rattle.layout.specs.PointTables.{scopeIn, tableWith, presentWithin}
+use Rattle.layout.specs.InternalWalks.{contentFrom, ParsesAt, instanceIn, IsTable}
 
--- ---- Noting
+-- ---- Recording
 
 pub table-with-length : (body : List ℕ) (offset : ℕ) (ps : List Point) (table : List ℕ)
     → length (tableWith body offset ps table) ≡ length table
@@ -30,7 +31,7 @@ table-with-length body offset (p ∷ ps) table =
     table-with-length body (offset + p .size) ps (set table (p .number) (getD body offset 0))
     ∙ length-set table (p .number) (getD body offset 0)
 
--- A point whose number the table has.
+-- Recording a point whose number the table has adds it to the scope.
 one-recorded : (table : List ℕ) (number register : ℕ) → number < length table → (n : ℕ)
     → scopeIn (set table number register) n ≡ withPoint number register (scopeIn table) n
 one-recorded table number register h n = go (eqb n number) refl
@@ -40,7 +41,7 @@ one-recorded table number register h n = go (eqb n number) refl
     go true e = rw (eqb-true n number e) (getD-set-same table number register 0 h)
     go false e = getD-set-other table number n register 0 (eqb-false n number e)
 
--- Behind the points of an instance the table holds the scope within it.
+-- After recording the points of an instance, the table holds the scope inside it.
 pub table-with-scope : (body : List ℕ) (offset : ℕ) (ps : List Point) (table : List ℕ) → IsTable table
     → Each (λ p. p .number < 65536) ps → scopeIn (tableWith body offset ps table) ≡ within body offset ps (scopeIn table)
 unfolding tableWith within
@@ -53,7 +54,7 @@ table-with-scope body offset (p ∷ ps) table t e =
 
 -- ---- Numbers
 
--- A point frame's number is one of the table's.
+-- The table has an entry for the number of a point frame.
 abbrev InTable : Frame → Type 0
 InTable (modelFrame id) = Unit {0}
 InTable (groupFrame h) = Unit {0}
@@ -82,7 +83,7 @@ points-in-table : (ps : List Point) (fs : List Frame) → Each InTable (pointFra
 points-in-table [] fs e = tt
 points-in-table (p ∷ ps) fs e = (e .0, points-in-table ps fs (e .1))
 
--- The words of a catalog are 16 bits, so the table has the number of each of its points.
+-- The words of a catalog are 16 bits, so the table has an entry for the number of each of its points.
 pub numbers-in-table : (ws : List ℕ) → ((k : ℕ) → getD ws k 0 < 65536) → (i : ℕ) → ParsesAt ws i
     → Each (λ p. p .number < 65536) (contentFrom ws i .points)
 numbers-in-table ws words i s =
@@ -92,7 +93,7 @@ numbers-in-table ws words i s =
 
 -- ---- Points that begin before the end
 
--- All, where they lie in the body.
+-- All points do, where they are in the body.
 pub present-all : (len offset : ℕ) (ps : List Point) → Each (λ p. isSizeOf (p .typeCode) (p .size) ≡ true) ps
     → offset + pointsSize ps ≤ len → presentWithin len offset ps ≡ ps
 unfolding presentWithin
@@ -101,19 +102,19 @@ present-all len offset (p ∷ ps) e h =
     let one = type-size (p .typeCode) (p .size) (e .0) .0 in
     simp (presentWithin, lt-ltb offset len (omega arith), present-all len (offset + p .size) ps (e .1) (omega arith))
 
--- None, behind the end.
+-- None does, past the end.
 pub present-past : (len offset : ℕ) (ps : List Point) → len ≤ offset → presentWithin len offset ps ≡ []
 unfolding presentWithin
 present-past len offset [] h = refl
 present-past len offset (p ∷ ps) h = simp (presentWithin, le-ltb offset len h)
 
--- The first, before the end, and those of the others.
+-- Before the end, the first point does, and those of the others that do.
 pub present-first : (len offset : ℕ) (p : Point) (ps : List Point) → offset < len
     → presentWithin len offset (p ∷ ps) ≡ p ∷ presentWithin len (offset + p .size) ps
 unfolding presentWithin
 present-first len offset p ps h = simp (presentWithin, lt-ltb offset len h)
 
--- Noting those that begin before the end: the first of them, and those of the others.
+-- Recording the points that begin before the end: the first point and then the others, no point, or none past the end.
 pub record-first : (body : List ℕ) (offset : ℕ) (p : Point) (ps : List Point) (table : List ℕ) → offset < length body
     → tableWith body (offset + p .size) (presentWithin (length body) (offset + p .size) ps) (set table (p .number) (getD body offset 0))
     ≡ tableWith body offset (presentWithin (length body) offset (p ∷ ps)) table

@@ -1,5 +1,5 @@
--- The points of sound groups depend on a scope only as far as it reaches: no point outside reach is asked for a scale factor or a
--- count. So what else a scope holds makes no difference.
+-- The points of sound groups depend only on the points in scope: no other point is looked up for a scale factor or a count. So
+-- it makes no difference what else a scope holds.
 use mathlib.Core.Path.{_≡_, refl, sym, ap, _∙_}
 use mathlib.Core.Bool.{Bool, true, false, _||_}
 use mathlib.Core.List.{List, [], _∷_, _++_}
@@ -29,7 +29,7 @@ Agree ps s t = (p : Point) → In p ps → s (p .number) ≡ t (p .number)
 
 -- ---- Scopes
 
--- Within an instance two scopes agree where they did, or where a point of the instance is meant.
+-- Inside an instance, two scopes agree on a number if they agreed before or if a point of the instance has it.
 within-agrees : (body : List ℕ) (offset : ℕ) (ps : List Point) (s t : Scope) (n : ℕ)
     → (among n (numbersOf (pointFrames ps)) ≡ false → s n ≡ t n)
     → within body offset ps s n ≡ within body offset ps t n
@@ -49,7 +49,7 @@ pub within-own : (body : List ℕ) (offset : ℕ) (ps : List Point) (s t : Scope
     → Agree ps (within body offset ps s) (within body offset ps t)
 within-own body offset ps s t p i = within-agrees body offset ps s t (p .number) (λ e. clash (sym (point-among p ps i) ∙ e))
 
--- They agree on the points of the instance and on all that they agreed on.
+-- They agree on the points of the instance and on all points on which they agreed before.
 pub scope-agrees : (body : List ℕ) (offset : ℕ) (ps enclosing : List Point) (s t : Scope) → Agree enclosing s t
     → Agree (ps ++ enclosing) (within body offset ps s) (within body offset ps t)
 scope-agrees body offset ps enclosing s t h p i =
@@ -86,7 +86,8 @@ module _ (p : Point) (r s : ℕ) (same : p .scaleKind ≡ scaleByPoint → r ≡
       go true false true e = same (eqb-true (p .scaleKind) scaleByPoint e)
       go true false false e = refl
 
--- A point by the raw number that it is classified by, the one that it shows, and the register of its scale point.
+-- A point by the raw value of all its registers, which gives its class, the raw value shown, and the register of its scale
+-- point.
 abbrev pub shownAs : List ℕ → ℕ → Point → ℕ → ℕ → ℕ → ModelPoint
 shownAs path offset p whole raw register =
     let status = statusOf p (classified (p .typeCode) whole) register in
@@ -119,7 +120,7 @@ shown-same path offset p whole raw r s same =
     ap (λ x. show x (scaleOf p x r)) (same-status p r s same c)
     ∙ ap (show (statusOf p c s)) (same-scale p r s same (statusOf p c s))
 
--- Instances that agree: the same path, and scopes that agree on these points.
+-- Instances that agree: they have the same path, and their scopes agree on these points.
 pub record Alike (ps : List Point) (i j : Instance) : Type 0 where
   pub samePath : i .path ≡ j .path
   pub agree : Agree ps (i .scope) (j .scope)
@@ -134,7 +135,7 @@ point-agrees body offset around p i j r h =
     ∙ shown-same (j .path) offset p (join registers) (shownRaw registers) (i .scope (p .scale)) (j .scope (p .scale)) (λ k.
     let f = r k in ap (i .scope) (sym (f .2)) ∙ h .agree (f .0) (f .1) ∙ ap (j .scope) (f .2))
 
--- Points whose scale factors resolve.
+-- So are points whose scale factors resolve.
 pub points-agree : (body : List ℕ) (offset : ℕ) (around ps : List Point) (i j : Instance) → Each (ScaleResolves around) ps
     → Alike around i j → pointsAt body i offset ps ≡ pointsAt body j offset ps
 unfolding pointsAt
@@ -144,7 +145,7 @@ points-agree body offset around (p ∷ ps) i j r h =
 
 -- ---- Groups
 
--- Instances of a group within instances that agree agree on its points too.
+-- Where two instances agree, the instances entered from them agree on the points of the entered group too.
 pub alike-entered : (body : List ℕ) (level n at : ℕ) (ps enclosing : List Point) (i j : Instance) → Alike enclosing i j
     → Alike (ps ++ enclosing) (entered body level n at ps i) (entered body level n at ps j)
 unfolding entered
@@ -155,7 +156,8 @@ alike-entered body level n at ps enclosing i j h =
     }
 
 module _ (body : List ℕ) (fill : ℕ) (top : List Point) (s s′ : Scope) (counts : Agree top s s′) where
-  -- The points of sound groups, in instances that agree on the points around them, by counts that agree on the top group.
+  -- The points of sound groups are the same in instances that agree on the enclosing points, by counts from scopes that agree
+  -- on the top group.
   pub groups-agree : (offset : ℕ) (enclosing : List Point) (level : ℕ) (g : Groups) → SoundGroups top enclosing level g
       → (i j : Instance) → Alike enclosing i j
       → groupsAt body (countOf s fill) level i offset g ≡ groupsAt body (countOf s′ fill) level j offset g

@@ -26,11 +26,11 @@ use Rattle.layout.specs.Counts.{or0}
 
 -- ---- Sound points
 
--- Each has a size of its type,
+-- Each point has a size of its type,
 pub points-sized : (inScope ps : List Point) → Each (SoundPoint inScope) ps → Each (λ p. isSizeOf (p .typeCode) (p .size) ≡ true) ps
 points-sized inScope ps = each-implied (SoundPoint inScope) (λ p. isSizeOf (p .typeCode) (p .size) ≡ true) (λ p s. s .sized) ps
 
--- takes a register or more,
+-- takes at least one register,
 pub points-fit : (inScope ps : List Point) → Each (SoundPoint inScope) ps → length ps ≤ pointsSize ps
 points-fit inScope [] e = omega arith
 points-fit inScope (p ∷ ps) e =
@@ -38,7 +38,7 @@ points-fit inScope (p ∷ ps) e =
     let r = points-fit inScope ps (e .1) in
     omega arith
 
--- and 64 at most.
+-- and at most 64.
 pub points-small : (inScope ps : List Point) → Each (SoundPoint inScope) ps → pointsSize ps ≤ 64 * length ps
 points-small inScope [] e = omega arith
 points-small inScope (p ∷ ps) e =
@@ -49,11 +49,11 @@ points-small inScope (p ∷ ps) e =
 -- ---- Groups
 
 module _ (s : Scope) (f : ℕ) where
-  -- The fill group has as many instances as fill the model.
+  -- The count of the fill group is the given one.
   pub count-of-fill : (h : Head) → h .countKind ≡ fill → countOf s f h ≡ f
   count-of-fill h e = rw e
 
-  -- The count of any other sound group does not depend on that.
+  -- The count of any other sound group does not depend on it.
   pub count-of-other : (h : Head) → h .countKind ≤ 2 → (h .countKind ≡ fill → ⊥) → countOf s f h ≡ countOf s 0 h
   count-of-other h k n = go (eqb (h .countKind) constantCount) (eqb (h .countKind) countByPoint) refl refl
     where
@@ -67,7 +67,7 @@ module _ (s : Scope) (f : ℕ) where
           let y = eqb-false (h .countKind) countByPoint q in
           absurd (n (omega arith))
 
-  -- No group below level 2 is the fill group, so what such groups measure does not depend on it either.
+  -- No group below level 2 is a fill group, so the weight of such groups does not depend on the fill count either.
   pub lower-measure : (weight : List Point → ℕ) (top enclosing : List Point) (level : ℕ) (g : Groups) → 3 ≤ level
       → SoundGroups top enclosing level g → measured weight (countOf s f) g ≡ measured weight (countOf s 0) g
   unfolding measured
@@ -79,7 +79,7 @@ module _ (s : Scope) (f : ℕ) where
       rw (c, i, b)
 
 module _ (weight : List Point → ℕ) (s : Scope) (f : ℕ) (top enclosing : List Point) where
-  -- Each instance of the fill group adds its measure to the rest.
+  -- Each instance of the fill group adds its weight to the rest.
   pub fill-adds : (g : Groups) → SoundGroups top enclosing 2 g
       → measured weight (countOf s f) g
       ≡ measured weight (countOf s 0) g + f * or0 (fillMeasured weight (countOf s 0) g)
@@ -111,7 +111,7 @@ module _ (weight : List Point → ℕ) (s : Scope) (f : ℕ) (top enclosing : Li
           let c = count-of-other s f h (e .0 .countKnown) n in
           rw (c, i) (omega arith)
 
-  -- Whatever fills the model, an instance of the fill group has one measure.
+  -- The weight of an instance of the fill group does not depend on the fill count.
   pub fill-same : (g : Groups) → SoundGroups top enclosing 2 g
       → fillMeasured weight (countOf s f) g ≡ fillMeasured weight (countOf s 0) g
   unfolding fillMeasured
@@ -145,11 +145,11 @@ fill-takes-registers count top enclosing level (group h ps inside following) e s
 -- ---- Refusal 29
 
 module _ (top enclosing : List Point) (c : Content) (body : List ℕ) (e : SoundGroups top enclosing 2 (c .groups)) where
-  -- The length fits just where it is the size by the counts, those of the fill group included.
-  pub fits-just-where : (fits c body ≡ true)
+  -- The length fits if and only if it is the size by the counts, with that of the fill group.
+  pub fits-iff-size : (fits c body ≡ true)
       ↔ (length body ≡ pointsSize (c .points) + groupsSize (countsOf c body) (c .groups))
   unfolding fits fillOf
-  fits-just-where = go (fillSizeOf c body) refl
+  fits-iff-size = go (fillSizeOf c body) refl
     where
       s : Scope
       s = topScope (c .points) body
@@ -187,14 +187,14 @@ module _ (top enclosing : List Point) (c : Content) (body : List ℕ) (e : Sound
                 rw (le-leb rest L u, v),
           )
 
-  -- Where it fits, the size by the counts is the length.
+  -- Where the length fits, it is the size by the counts.
   pub full-size : fits c body ≡ true → pointsSize (c .points) + groupsSize (countsOf c body) (c .groups) ≡ length body
-  full-size t = sym (fits-just-where .0 t)
+  full-size t = sym (fits-iff-size .0 t)
 
--- ---- Of an accepted catalog
+-- ---- For an accepted catalog
 
 module _ (ws : List ℕ) (n : ℕ) (e : checked ws ≡ accepted n) where
-  -- 29 is that the length is not the size by the counts, for every model and every body.
+  -- 29 arises if and only if the length is not the size by the counts, for every model and every body.
   pub fits-each : Each (λ d. (body : List ℕ)
       → (fits (d .top) body ≡ true)
       ↔ (length body ≡ pointsSize (d .top .points) + groupsSize (countsOf (d .top) body) (d .top .groups))) (definitions ws)
@@ -202,9 +202,9 @@ module _ (ws : List ℕ) (n : ℕ) (e : checked ws ≡ accepted n) where
       let P : Definition → Type 0 = λ d. (body : List ℕ)
       → (fits (d .top) body ≡ true)
       ↔ (length body ≡ pointsSize (d .top .points) + groupsSize (countsOf (d .top) body) (d .top .groups)) in
-      of-models P (λ d s body. fits-just-where (d .top .points) (d .top .points) (d .top) body (s .groups)) ws n e
+      of-models P (λ d s body. fits-iff-size (d .top .points) (d .top .points) (d .top) body (s .groups)) ws n e
 
-  -- The fill divides by at least 1.
+  -- The size that the fill count is divided by is at least 1.
   pub fill-size-above-0 : Each (λ d. (body : List ℕ) (size : ℕ) → fillSizeOf (d .top) body ≡ some size → 1 ≤ size)
       (definitions ws)
   fill-size-above-0 =

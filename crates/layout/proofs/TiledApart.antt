@@ -1,4 +1,4 @@
--- What tiling means for one element and for two: none is outside the bounds, and no two overlap.
+-- What tiling means for one element and for two: no element is outside the bounds, and no two overlap.
 use mathlib.Core.Path.{_≡_, refl}
 use mathlib.Core.List.{List, [], _∷_, _++_}
 use mathlib.Core.Logic.{_⊎_, inl, inr}
@@ -10,7 +10,7 @@ use Rattle.lists.proofs.InLaws.{in-append-right}
 use Rattle.layout.specs.Tiling.{Tiles}
 
 module _ {A : Type 0} (at size : A → ℕ) where
-  -- Tiling goes upward,
+  -- A tiling ends at or after its start,
   pub upward : (from to : ℕ) (xs : List A) → Tiles at size from to xs → from ≤ to
   upward from to [] t = omega (arith, t)
   upward from to (x ∷ xs) t = let r = upward (from + size x) to xs (t .2) in omega arith
@@ -20,7 +20,7 @@ module _ {A : Type 0} (at size : A → ℕ) where
   few from to [] t = omega (arith, t)
   few from to (x ∷ xs) t = let r = few (from + size x) to xs (t .2) in omega (arith, t .1, r)
 
-  -- Each takes a register or more, within the bounds.
+  -- Each element takes at least one register, and is within the bounds.
   pub inside : (from to : ℕ) (xs : List A) → Tiles at size from to xs → (x : A) → In x xs
       → (from ≤ at x) × (1 ≤ size x) × (at x + size x ≤ to)
   inside from to (y ∷ xs) t x first =
@@ -28,7 +28,7 @@ module _ {A : Type 0} (at size : A → ℕ) where
   inside from to (y ∷ xs) t x (later i) =
       let r = inside (from + size y) to xs (t .2) x i in (omega (arith, r .0), r .1, r .2)
 
-  -- Of two, one ends before the other begins, or they are the same.
+  -- Of two elements, one ends before the other begins, or they are the same.
   pub apart : (from to : ℕ) (xs : List A) → Tiles at size from to xs → (x y : A) → In x xs → In y xs
       → (y ≡ x) ⊎ ((at y + size y ≤ at x) ⊎ (at x + size x ≤ at y))
   apart from to (z ∷ xs) t x y first first = inl refl
@@ -38,7 +38,7 @@ module _ {A : Type 0} (at size : A → ℕ) where
       let r = inside (from + size z) to xs (t .2) x i in inr (inl (omega (arith, t .0, r .0)))
   apart from to (z ∷ xs) t x y (later i) (later j) = apart (from + size z) to xs (t .2) x y i j
 
-  -- They are in the order of their addresses.
+  -- The elements are in the order of their addresses.
   pub in-order : (from to : ℕ) (preceding : List A) (x : A) (between : List A) (y : A) (rest : List A)
       → Tiles at size from to (preceding ++ x ∷ (between ++ y ∷ rest)) → at x + size x ≤ at y
   in-order from to [] x between y rest t =

@@ -1,4 +1,5 @@
--- How a definition lays out a model (document 01, "The map"): sizes, counts, and where each point of each instance lies.
+-- The layout of a model by its definition (document 01, "The map"): sizes, counts, and the offset of each point of each
+-- instance.
 use mathlib.Core.Bool.{Bool, true, false, _&&_, _||_}
 use mathlib.Core.List.{List, [], _∷_, _++_}
 use mathlib.Core.Option.{Option, none, some}
@@ -11,19 +12,19 @@ use Rattle.layout.specs.Points.{ModelPoint, Scope, Instance, pointAt}
 
 -- ---- Scopes
 
--- A scope in which one more point is in reach.
+-- The scope with one more point: the point `number`, whose first register is `register`.
 abbrev pub withPoint : ℕ → ℕ → Scope → Scope
 withPoint number register scope n = elim (eqb n number) [ true ↦ register | false ↦ scope n ]
 
--- The scope within an instance: its own points, laid from an offset on, are in reach, and what was in reach around it. (In an
--- accepted map every point lies in the body: `proofs/Tiling.antt`.)
+-- The scope inside an instance whose own points are placed from `offset`: these points, and the points in scope around the
+-- instance. (In an accepted map every point is in the body: `proofs/BodyTiling.antt`.)
 unfoldable pub within : List ℕ → ℕ → List Point → Scope → Scope
 within body offset [] scope = scope
 within body offset (p ∷ ps) scope =
     within body (offset + p .size) ps (withPoint (p .number) (getD body offset 0) scope)
 
--- Nothing is in reach. (In an accepted catalog no point outside reach is asked for: `proofs/ScopeOnly.antt`. 8000 is no scale
--- factor.)
+-- The empty scope. (By an accepted catalog no result depends on a point out of scope: `proofs/ScopeOnly.antt`. 8000 is not a
+-- scale factor.)
 abbrev pub nothing : Scope
 nothing n = 0x8000
 
@@ -33,8 +34,8 @@ topScope ps body = within body 0 ps nothing
 
 -- ---- Sizes
 
--- How many instances a group has: the constant; the raw value of the count point, a point of the top group of the same model;
--- or as many as fill the model (an accepted catalog has no other kind).
+-- The number of instances of a group: the constant; the raw value of the count point, in the top group of the same model
+-- instance; or `filling`, the count of the fill group (an accepted catalog has no other count kind).
 abbrev pub countOf : Scope → ℕ → Head → ℕ
 countOf top filling h =
     elim (eqb (h .countKind) constantCount) [
@@ -42,14 +43,14 @@ countOf top filling h =
       | false ↦ elim (eqb (h .countKind) countByPoint) [ true ↦ top (h .count) | false ↦ filling ]
     ]
 
--- What sibling groups measure, by a weight of points: of each group, count × an instance, which is its points and the groups in
+-- The total weight of sibling groups: for each group, count × the weight of an instance, which is its points and the groups in
 -- it.
 unfoldable pub measured : (List Point → ℕ) → (Head → ℕ) → Groups → ℕ
 measured weight count noGroup = 0
 measured weight count (group h ps inside next) =
     count h * (weight ps + measured weight count inside) + measured weight count next
 
--- What an instance of the fill group measures, if one of these groups is it.
+-- The weight of one instance of the fill group, if one of these groups is a fill group.
 unfoldable pub fillMeasured : (List Point → ℕ) → (Head → ℕ) → Groups → Option ℕ
 fillMeasured weight count noGroup = none
 fillMeasured weight count (group h ps inside next) =
@@ -58,32 +59,32 @@ fillMeasured weight count (group h ps inside next) =
       | false ↦ fillMeasured weight count next
     ]
 
--- The registers of sibling groups.
+-- The registers of sibling groups: for each group, count × size, where the size is its points plus the groups in it.
 abbrev pub groupsSize : (Head → ℕ) → Groups → ℕ
 groupsSize = measured pointsSize
 
--- The size of an instance of the fill group, if one of these groups is it.
+-- The size of one instance of the fill group, if one of these groups is a fill group.
 abbrev pub fillSize : (Head → ℕ) → Groups → Option ℕ
 fillSize = fillMeasured pointsSize
 
--- 28: a count point of one of these groups, or of a group in them, reads FFFF.
+-- 28: does the count point of one of these groups, or of a group nested in them, read FFFF?
 unfoldable pub countUnimplemented : Scope → Groups → Bool
 countUnimplemented top noGroup = false
 countUnimplemented top (group h ps inside following) =
     (eqb (h .countKind) countByPoint && eqb (top (h .count)) 0xFFFF)
     || (countUnimplemented top inside || countUnimplemented top following)
 
--- The size of the rest: all but the fill group.
+-- The rest: the size of the model without the fill group.
 abbrev pub restSize : Content → List ℕ → ℕ
 restSize c body =
     pointsSize (c .points) + groupsSize (countOf (topScope (c .points) body) 0) (c .groups)
 
--- The size of an instance of the fill group, if the top group has one.
+-- The size of one instance of the fill group, if the top group has one.
 abbrev pub fillSizeOf : Content → List ℕ → Option ℕ
 fillSizeOf c body = fillSize (countOf (topScope (c .points) body) 0) (c .groups)
 
--- 29: the length is the size; with a fill group, it is not below the rest and leaves no remainder. (An instance of it takes a
--- register or more: `proofs/Sizes.antt`.)
+-- Does 29 not arise? The length is the size; with a fill group, the length is not below the rest and leaves no remainder. (An
+-- instance of the fill group has at least one register: `proofs/Sizes.antt`.)
 unfoldable pub fits : Content → List ℕ → Bool
 fits c body =
     elim (fillSizeOf c body) [
@@ -91,33 +92,33 @@ fits c body =
       | some size ↦ leb (restSize c body) (length body) && eqb ((length body - restSize c body) % size) 0
     ]
 
--- The fill: (length − the rest) / size.
+-- The count of the fill group: (length − the rest) / size. 0 without a fill group.
 unfoldable pub fillOf : Content → List ℕ → ℕ
 fillOf c body = elim (fillSizeOf c body) [ none ↦ 0 | some size ↦ (length body - restSize c body) / size ]
 
--- The count of each group of a model.
+-- The count of each group of a model with the top group `c` and this body.
 abbrev pub countsOf : Content → List ℕ → Head → ℕ
 countsOf c body = countOf (topScope (c .points) body) (fillOf c body)
 
 -- ---- Points
 
--- The points of an instance, placed from an offset on.
+-- The points of instance `i` of a group, placed from `offset`.
 unfoldable pub pointsAt : List ℕ → Instance → ℕ → List Point → List ModelPoint
 pointsAt body i offset [] = []
 pointsAt body i offset (p ∷ ps) = pointAt body i offset p ∷ pointsAt body i (offset + p .size) ps
 
--- n consecutive instances of a size, from number j and an offset on.
+-- The points of n consecutive instances of `size` registers each, numbered from `j` and placed from `offset`. `one` gives the
+-- points of one instance by its number and offset.
 unfoldable pub instances : ℕ → ℕ → ℕ → ℕ → (ℕ → ℕ → List ModelPoint) → List ModelPoint
 instances zero j offset size one = []
 instances (suc n) j offset size one = one j offset ++ instances n (suc j) (offset + size) size one
 
--- How instance j of a group of a level comes about, by the offset and the group's own points that are placed there, within the
--- instance around it.
+-- How an instance is entered: its level, its number, its offset, its own points and the enclosing instance give the instance.
 abbrev pub Entering : Type 0
 Entering = ℕ → ℕ → ℕ → List Point → Instance → Instance
 
--- The points of sibling groups of a level, placed from an offset on: each group's instances in full, an instance's own points
--- first. Where they are depends in no way on what an instance is.
+-- The points of sibling groups at `level`, placed from `offset`: the instances of each group in full, each with its own points
+-- first. The offsets do not depend on `enter`.
 unfoldable pub groupsBy : Entering → List ℕ → (Head → ℕ) → ℕ → Instance → ℕ → Groups → List ModelPoint
 groupsBy enter body count level i offset noGroup = []
 groupsBy enter body count level i offset (group h ps inside next) =
@@ -126,25 +127,25 @@ groupsBy enter body count level i offset (group h ps inside next) =
     ++ groupsBy enter body count (suc level) (enter level j at ps i) (at + pointsSize ps) inside)
     ++ groupsBy enter body count level i (offset + count h * (pointsSize ps + groupsSize count inside)) next
 
--- Within an instance its own points come into scope, and its number is that of its level (place 0, 1 or 2 of the path for level
--- 2, 3 or 4).
+-- Inside an instance its own points are in scope, and j is the instance number at its level (place 0, 1 or 2 of the path for
+-- level 2, 3 or 4).
 unfoldable pub entered : List ℕ → Entering
 entered body level j offset ps around =
     record { scope = within body offset ps (around .scope); path = set (around .path) (level - 2) j }
 
--- The points of sibling groups.
+-- The points of sibling groups at a level, placed from an offset.
 abbrev pub groupsAt : List ℕ → (Head → ℕ) → ℕ → Instance → ℕ → Groups → List ModelPoint
 groupsAt body = groupsBy (entered body) body
 
--- The path of the top group: no instance number.
+-- The path of the top group: no instance numbers.
 abbrev pub noInstance : List ℕ
 noInstance = 0 ∷ 0 ∷ 0 ∷ []
 
--- The top group of a model, of which there is one instance.
+-- The one instance of the top group of a model.
 abbrev pub topInstance : List Point → List ℕ → Instance
 topInstance ps body = record { scope = topScope ps body; path = noInstance }
 
--- The points of a model: those of its top group, then those of its groups.
+-- The points of a model: the points of its top group, then those of the groups in it.
 unfoldable pub contentAt : Content → List ℕ → List ModelPoint
 contentAt c body =
     pointsAt body (topInstance (c .points) body) 0 (c .points)

@@ -5,4 +5,6 @@ pub mod Counts
 pub mod Paths
 pub mod Locating
 pub mod Tiling
+pub mod FrameWalk
+pub mod PointTables
 pub mod InternalWalks

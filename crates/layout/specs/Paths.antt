@@ -1,4 +1,4 @@
--- The instance numbers that lead to a point.
+-- Paths: the instance numbers that lead to a point.
 use mathlib.Core.Bool.{Bool, true, false, _&&_}
 use mathlib.Core.List.{List, [], _∷_}
 use Prim.Native.Nat.{ℕ, zero, suc}
@@ -9,8 +9,8 @@ use Rattle.model_definitions.specs.Definitions.{Groups, noGroup, group, pointFr
 use Rattle.model_definitions.specs.Soundness.{numbersOf}
 use Rattle.layout.specs.Points.{ModelPoint}
 
--- How many instance numbers lead to the point with a number: 0 for one that is in none of these groups, so for a point of the
--- top group.
+-- The number of instance numbers that lead to the point `number`: 0 if none of these groups has it, as for a point of the top
+-- group.
 unfoldable pub depthIn : ℕ → Groups → ℕ
 depthIn number noGroup = 0
 depthIn number (group h ps inside following) =
@@ -22,21 +22,21 @@ depthIn number (group h ps inside following) =
       ]
     ]
 
--- Do two paths agree in their first so many numbers, as far as both go? (A path has three.)
+-- Do two paths agree in their first n numbers, as far as both go? (A path has three.)
 abbrev pub agreeTo : ℕ → List ℕ → List ℕ → Bool
 agreeTo zero xs ys = true
 agreeTo (suc n) [] ys = true
 agreeTo (suc n) (x ∷ xs) [] = true
 agreeTo (suc n) (x ∷ xs) (y ∷ ys) = eqb x y && agreeTo n xs ys
 
--- The instance numbers of a point.
+-- The path of a point: its instance numbers at levels 2, 3 and 4.
 abbrev pub pathOf : ModelPoint → List ℕ
 pathOf p = p .level2 ∷ p .level3 ∷ p .level4 ∷ []
 
--- Are a point's instance numbers at levels 2, 3 and 4 those of a path? (A level that it does not have has 0.)
+-- Does a point have the instance numbers of `path` at levels 2, 3 and 4? (At a level that it lacks, a point has 0.)
 abbrev pub isAt : List ℕ → ModelPoint → Bool
 isAt path p = eqb (p .level2) (getD path 0 0) && (eqb (p .level3) (getD path 1 0) && eqb (p .level4) (getD path 2 0))
 
--- Is it the point with a number at a path?
+-- Is it the point `number` with the instance path `path`?
 abbrev pub isPoint : ℕ → List ℕ → ModelPoint → Bool
 isPoint number path p = eqb (p .definition .number) number && isAt path p

@@ -8,8 +8,8 @@ use Rattle.registers.specs.Registers.{join, shownRaw}
 use Rattle.values.specs.Classes.{value, unimplemented, outOfRange, Classified, ofClass, tooWide, unknownType, classified}
 use Rattle.catalog_frames.specs.Frames.{Point, fixedScale, scaleByPoint, sunssf}
 
--- A point of a model: where it lies behind the length register, the point of the catalog that it is by, its instance numbers at
--- levels 2, 3 and 4 (0 where absent), its status, raw value and scale.
+-- A point of a model: its offset in the body (0 is the register after the length), its definition in the catalog, its instance
+-- numbers at levels 2, 3 and 4 (0 where absent), its status, raw value and scale.
 pub record ModelPoint : Type 0 where
   pub offset : ℕ
   pub definition : Point
@@ -20,18 +20,18 @@ pub record ModelPoint : Type 0 where
   pub raw : ℕ
   pub scale : ℕ
 
--- The first register of the point with a number, for the points in scope: those of the same instance and of the instances
--- around it.
+-- The first register of each point in scope, by the point's number. In scope are the points of the same instance and of the
+-- enclosing instances.
 abbrev pub Scope : Type 0
 Scope = ℕ → ℕ
 
--- An instance of a group, as its points see it: what is in scope, and the instance numbers at levels 2, 3 and 4 on the way to it
--- (three numbers, 0 where absent).
+-- An instance of a group: the points in scope inside it, and its path, the instance numbers at levels 2, 3 and 4 (three
+-- numbers, 0 where absent).
 pub record Instance : Type 0 where
   pub scope : Scope
   pub path : List ℕ
 
--- The status of a value by its scale factor: 3 where the scale point is unimplemented, 4 where it is out of range, else 0.
+-- The status of a value by the class of its scale point: 3 if that is unimplemented, 4 if it is out of range, else 0.
 abbrev pub scaleStatus : Classified → ℕ
 scaleStatus (ofClass value) = 0
 scaleStatus (ofClass unimplemented) = 3
@@ -39,9 +39,9 @@ scaleStatus (ofClass outOfRange) = 4
 scaleStatus tooWide = 4
 scaleStatus unknownType = 4
 
--- The status of a point by what its registers are and the register of its scale point, the first that applies: unimplemented 2
--- where mandatory, else 1; out of range 5; then by the scale point, if it has one. (The registers of
--- a point of an accepted catalog, 16 bits each, are never too wide or of an unknown type: `proofs/PointClasses.antt`.)
+-- The status of a point by the class of its registers and the register of its scale point, the first that applies:
+-- unimplemented and mandatory 2, unimplemented 1; out of range 5; then by the scale point, if it has one. (By an accepted
+-- catalog, 16-bit registers are never too wide or of an unknown type: `shown_points/proofs/PointClasses.antt`.)
 abbrev pub statusOf : Point → Classified → ℕ → ℕ
 statusOf p (ofClass unimplemented) register = elim (eqb (p .mandatory) 1) [ true ↦ 2 | false ↦ 1 ]
 statusOf p (ofClass outOfRange) register = 5
@@ -50,8 +50,8 @@ statusOf p unknownType register = 5
 statusOf p (ofClass value) register =
     elim (eqb (p .scaleKind) scaleByPoint) [ true ↦ scaleStatus (classified sunssf register) | false ↦ 0 ]
 
--- The scale shown: the fixed one or the scale point's register, as 16-bit two's complement; 0 unless the status is 0 and it
--- has one.
+-- The scale shown, as 16-bit two's complement: the fixed scale or the scale point's register; 0 unless the status is 0 and the
+-- point has a scale.
 abbrev pub scaleOf : Point → ℕ → ℕ → ℕ
 scaleOf p status register =
     elim (eqb status 0) [
@@ -62,16 +62,16 @@ scaleOf p status register =
       ]
     ]
 
--- The registers of a point at an offset. (In an accepted map they all lie in the body: `proofs/Tiling.antt`.)
+-- The registers of a point at an offset. (In an accepted map they are all in the body: `proofs/BodyTiling.antt`.)
 abbrev pub registersAt : List ℕ → ℕ → Point → List ℕ
 registersAt body offset p = take (p .size) (drop offset body)
 
--- A point's status in a body at an offset.
+-- The status of a point at an offset of the body.
 abbrev pub statusAt : List ℕ → Scope → ℕ → Point → ℕ
 statusAt body scope offset p =
     statusOf p (classified (p .typeCode) (join (registersAt body offset p))) (scope (p .scale))
 
--- A point of an instance, at an offset.
+-- A point of instance `i`, at an offset of the body.
 unfoldable pub pointAt : List ℕ → Instance → ℕ → Point → ModelPoint
 pointAt body i offset p =
     record {

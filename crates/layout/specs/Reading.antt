@@ -1,4 +1,4 @@
--- What a definition says of one model's body, alone (document 01, "Listing", 27 to 29): a fault, or its points.
+-- The reading of one model's body by its definition (document 01, "Listing", 27 to 29): a fault, or its points.
 use mathlib.Core.Bool.{Bool, true, false, _&&_}
 use mathlib.Core.List.{List, [], _∷_}
 use mathlib.Core.Option.{Option, none, some}
@@ -11,17 +11,17 @@ use Rattle.register_map.specs.Scan.{Model}
 use Rattle.layout.specs.Points.{ModelPoint}
 use Rattle.layout.specs.Layout.{topScope, countUnimplemented, fits, topInstance, pointsAt, contentAt}
 
--- 27: the length is under the top points. 28: a count point is unimplemented. 29: the length is not the size.
+-- 27: the length is under the top points. 28: a count point reads FFFF. 29: the length is not the size.
 pub data Fault : Type 0 where
   belowTopPoints countPointUnimplemented notTheSize : Fault
 
--- The number of the refusal.
+-- The number of the refusal for a fault.
 abbrev pub faultNumber : Fault → ℕ
 faultNumber belowTopPoints = 27
 faultNumber countPointUnimplemented = 28
 faultNumber notTheSize = 29
 
--- What a catalog says of a model: nothing where it lacks its id; else a fault or the points.
+-- The reading of a model by a catalog: unknown if its id is not in the catalog, else a fault or the points.
 pub data Reading : Type 0 where
   unknown : Reading
   faulty : Fault → Reading
@@ -33,7 +33,7 @@ endsWithPad [] = false
 endsWithPad (p ∷ []) = eqb (p .typeCode) pad
 endsWithPad (p ∷ q ∷ ps) = endsWithPad (q ∷ ps)
 
--- All but the last.
+-- All points but the last.
 unfoldable pub allButLast : List Point → List Point
 allButLast [] = []
 allButLast (p ∷ []) = []
@@ -44,13 +44,13 @@ abbrev pub hasNoGroup : Groups → Bool
 hasNoGroup noGroup = true
 hasNoGroup (group h ps inside following) = false
 
--- Is the last pad left out? Document 01 allows it in a model of id 1 that has no groups and is one register shorter than its
--- points.
+-- Is the last pad left out? Document 01 allows it in model 1 without groups whose last point is a pad, where the length is one
+-- short of the top size.
 abbrev pub padLeftOut : ℕ → Content → ℕ → Bool
 padLeftOut id c len =
     eqb id 1 && (hasNoGroup (c .groups) && (endsWithPad (c .points) && eqb (len + 1) (pointsSize (c .points))))
 
--- 27, 28 and 29 in order, else the points.
+-- The first of 27, 28 and 29 that applies, else the points.
 unfoldable pub readFull : Content → List ℕ → Reading
 readFull c body =
     elim (ltb (length body) (pointsSize (c .points))) [
@@ -61,7 +61,8 @@ readFull c body =
       ]
     ]
 
--- A model of an id by the top group of its definition. A pad that is left out has no record, and 27 and 29 do not arise.
+-- The reading of a model with this id by the top group of its definition. A pad that is left out has no record, and 27 and 29
+-- do not arise.
 unfoldable pub readBy : ℕ → Content → List ℕ → Reading
 readBy id c body =
     elim (padLeftOut id c (length body)) [
@@ -69,11 +70,11 @@ readBy id c body =
       | false ↦ readFull c body
     ]
 
--- The top group of the first definition of an id, if there is one.
+-- The top group of the first definition with this id, if there is one.
 unfoldable pub topOf : ℕ → List Definition → Option Content
 topOf id [] = none
 topOf id (d ∷ ds) = elim (eqb (d .id) id) [ true ↦ some (d .top) | false ↦ topOf id ds ]
 
--- A model by the definitions of a catalog.
+-- The reading of a model by the definitions of a catalog.
 unfoldable pub reading : List Definition → Model → Reading
 reading ds m = elim (topOf (m .id) ds) [ none ↦ unknown | some c ↦ readBy (m .id) c (m .body) ]

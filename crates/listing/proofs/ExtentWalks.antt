@@ -8,7 +8,8 @@ use lib.ListN.{length, length-append}
 use Rattle.catalog_frames.specs.Frames.{Point, Head, endFrame, fill, frameIn}
 use Rattle.model_definitions.specs.Definitions.{Groups, noGroup, group, pointsSize, pointFrames, groupFrames}
 use Rattle.layout.specs.Points.{Scope}
-use Rattle.layout.specs.InternalWalks.{contentFrom, pastEnd, headOf, AtGroups}
+use Rattle.layout.specs.FrameWalk.{headOf}
+use Rattle.layout.specs.InternalWalks.{contentFrom, pastEnd, AtGroups}
 use Rattle.layout.proofs.FramePosition as position
 use Rattle.layout.proofs.GroupDescent as groups
 use Rattle.layout.proofs.Sizes.{points-small}

@@ -17,7 +17,8 @@ use Rattle.model_definitions.proofs.GroupNumbers.{none-of-parts, NoneOf}
 use Rattle.layout.specs.Points.{ModelPoint, Scope, Instance}
 use Rattle.layout.specs.Layout.{withPoint, within, countOf, measured, groupsSize, pointsAt, instances, entered, groupsBy, groupsAt}
 use Rattle.layout.specs.Counts.{groupsPoints}
-use Rattle.layout.specs.InternalWalks.{scopeIn, instanceIn, AgreeExcept, IsTable}
+use Rattle.layout.specs.PointTables.{scopeIn}
+use Rattle.layout.specs.InternalWalks.{instanceIn, AgreeExcept, IsTable}
 use Rattle.layout.proofs.GroupDescent.{SoundBelow, beside}
 use Rattle.layout.proofs.CountsAgree as counts
 use Rattle.layout.proofs.ScopeOnly.{Agree, scope-agrees, Alike, alike-entered, groups-agree, points-agree}

@@ -11,7 +11,9 @@ use Rattle.model_definitions.specs.Soundness.{numbersOf}
 use Rattle.layout.specs.Points.{Scope}
 use Rattle.layout.specs.Layout.{within, countOf, measured, groupsSize, pointsAt, entered, groupsAt}
 use Rattle.layout.specs.Counts.{groupsPoints}
-use Rattle.layout.specs.InternalWalks.{contentFrom, ParsesAt, pastEnd, headOf, levelOf, scopeIn, instanceIn, tableWith, AgreeExcept, IsTable}
+use Rattle.layout.specs.FrameWalk.{headOf}
+use Rattle.layout.specs.PointTables.{scopeIn, tableWith}
+use Rattle.layout.specs.InternalWalks.{contentFrom, ParsesAt, pastEnd, levelOf, instanceIn, AgreeExcept, IsTable}
 use Rattle.layout.proofs.FramePosition as position
 use Rattle.layout.proofs.GroupDescent.{SoundBelow, below, sound-below, position-at}
 use Rattle.layout.proofs.CountsAgree as counts

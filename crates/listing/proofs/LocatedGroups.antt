@@ -9,7 +9,9 @@ use lib.ListN.{getD}
 use Rattle.catalog_frames.specs.Frames.{Point, Head, frameIn}
 use Rattle.model_definitions.specs.Definitions.{Groups, group, pointsSize}
 use Rattle.layout.specs.Layout.{countOf, measured, groupsSize}
-use Rattle.layout.specs.InternalWalks.{contentFrom, ParsesAt, pastEnd, headOf, levelOf, scopeIn, presentWithin, AtGroups}
+use Rattle.layout.specs.FrameWalk.{headOf}
+use Rattle.layout.specs.PointTables.{scopeIn, presentWithin}
+use Rattle.layout.specs.InternalWalks.{contentFrom, ParsesAt, pastEnd, levelOf, AtGroups}
 use Rattle.layout.specs.Locating.{Located, orElse, locatedOwn, locatedIn}
 use Rattle.layout.proofs.FramePosition as position
 use Rattle.layout.proofs.GroupDescent as groups

@@ -16,7 +16,8 @@ use Rattle.layout.specs.Layout.{countOf, measured, groupsSize, countsOf, noInst
 use Rattle.layout.specs.Points.{ModelPoint}
 use Rattle.layout.specs.Paths.{isPoint}
 use Rattle.layout.specs.Reading.{Reading, unknown, faulty, points, allButLast, readBy, hasNoGroup}
-use Rattle.layout.specs.InternalWalks.{contentFrom, Accepted, scopeIn, instanceIn, pointsOf, HasPoints, Ready}
+use Rattle.layout.specs.PointTables.{scopeIn}
+use Rattle.layout.specs.InternalWalks.{contentFrom, Accepted, instanceIn, pointsOf, HasPoints, Ready}
 use Rattle.layout.specs.Locating.{Located, locationOf, firstLocation, orElse, locatedOwn, locatedIn}
 use Rattle.layout.proofs.Readings.{HowRead, leftOut, full}
 use Rattle.layout.proofs.FramePosition as position

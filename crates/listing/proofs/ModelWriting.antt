@@ -11,7 +11,8 @@ use Rattle.model_definitions.specs.Soundness.{ScaleResolves}
 use Rattle.layout.specs.Layout.{countOf, groupsSize, countsOf, pointsAt, groupsAt, noInstance, topInstance, contentAt}
 use Rattle.layout.specs.Counts.{groupsPoints}
 use Rattle.layout.specs.Reading.{Reading, points, allButLast, readBy, reading}
-use Rattle.layout.specs.InternalWalks.{contentFrom, Accepted, scopeIn, instanceIn, presentWithin, AtGroups, pointsOf, HasPoints, Ready}
+use Rattle.layout.specs.PointTables.{scopeIn, presentWithin}
+use Rattle.layout.specs.InternalWalks.{contentFrom, Accepted, instanceIn, AtGroups, pointsOf, HasPoints, Ready}
 use Rattle.layout.proofs.Readings.{Full, HowRead, leftOut, full, resolves-left}
 use Rattle.layout.proofs.FramePosition as position
 use Rattle.layout.proofs.AcceptedModels as models

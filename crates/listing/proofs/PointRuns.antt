@@ -14,7 +14,9 @@ use Rattle.frame_rules.specs.FrameTests.{isSizeOf}
 use Rattle.model_definitions.specs.Definitions.{pointsSize}
 use Rattle.layout.specs.Points.{ModelPoint, registersAt, pointAt}
 use Rattle.layout.specs.Layout.{pointsAt}
-use Rattle.layout.specs.InternalWalks.{contentFrom, pointOf, scopeIn, instanceIn, presentWithin}
+use Rattle.layout.specs.FrameWalk.{pointOf}
+use Rattle.layout.specs.PointTables.{scopeIn, presentWithin}
+use Rattle.layout.specs.InternalWalks.{contentFrom, instanceIn}
 use Rattle.shown_points.specs.CodeTypes.{PointShown, toSpecShown, shownBy}
 use Rattle.shown_points.specs.declared.Shown.{Shown}
 use Rattle.layout.proofs.FramePosition as position

@@ -17,7 +17,8 @@ use Rattle.model_definitions.proofs.References.{points-resolve}
 use Rattle.layout.specs.Points.{ModelPoint, Scope}
 use Rattle.layout.specs.Layout.{nothing, within, topScope, countOf, measured, groupsSize, fillSizeOf, fillOf, countsOf, pointsAt, entered, groupsAt, noInstance, topInstance, contentAt, restSize}
 use Rattle.layout.specs.Reading.{Reading, points, readBy, reading}
-use Rattle.layout.specs.InternalWalks.{contentFrom, Accepted, scopeIn, instanceIn, presentWithin, IsTable, HasPoints, Ready}
+use Rattle.layout.specs.PointTables.{scopeIn, presentWithin}
+use Rattle.layout.specs.InternalWalks.{contentFrom, Accepted, instanceIn, IsTable, HasPoints, Ready}
 use Rattle.layout.proofs.Readings.{Full, HowRead, how-read}
 use Rattle.layout.proofs.AcceptedModels as models
 use Rattle.layout.proofs.CountsAgree as counts

@@ -11,7 +11,8 @@ use Rattle.model_definitions.specs.Definitions.{Content, definitions, pointsSiz
 use Rattle.model_definitions.specs.Soundness.{SoundPoint, SoundGroups}
 use Rattle.layout.specs.Layout.{nothing, topScope, fits, fillOf, contentAt}
 use Rattle.layout.specs.Reading.{padLeftOut, readBy, topOf}
-use Rattle.layout.specs.InternalWalks.{contentFrom, ParsesAt, Accepted, scopeIn, tableWith, presentWithin, IsTable, surveyedRefused, surveyedPoints, surveyed, Ready, AtGroups}
+use Rattle.layout.specs.PointTables.{scopeIn, tableWith, presentWithin}
+use Rattle.layout.specs.InternalWalks.{contentFrom, ParsesAt, Accepted, IsTable, surveyedRefused, surveyedPoints, surveyed, Ready, AtGroups}
 use Rattle.layout.proofs.FramePosition as position
 use Rattle.layout.proofs.AcceptedModels.{accepted-few, top-points-sound, top-groups-sound}
 use Rattle.layout.proofs.Sizes.{points-sized}

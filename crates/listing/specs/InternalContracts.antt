@@ -18,7 +18,8 @@ use Rattle.layout.specs.Counts.{groupsPoints, fillPoints, or0}
 use Rattle.definition_frames.specs.CodeTypes as DefinitionFrames
 use Rattle.group_instances.specs.Fills.{filled}
 use Rattle.layout.specs.Locating.{Located, orElse, locatedOwn, locatedIn}
-use Rattle.layout.specs.InternalWalks.{contentFrom, ParsesAt, pastEnd, Ready, presentWithin, scopeIn, IsTable, AtGroups}
+use Rattle.layout.specs.PointTables.{presentWithin, scopeIn}
+use Rattle.layout.specs.InternalWalks.{contentFrom, ParsesAt, pastEnd, Ready, IsTable, AtGroups}
 use Rattle.listing.specs.Listing as Listing
 use Rattle.listing.specs.Finding as Finding
 use Rattle.listing.specs.declared.frames.Found.{Found}

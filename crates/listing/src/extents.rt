@@ -10,7 +10,8 @@ use group_instances::is_unimplemented;
 ghost use mathlib.Core.Path.{_≡_};
 ghost use Prim.Native.Nat.{_+_, _*_, _≤_, min};
 ghost use Rattle.catalog_frames.specs.CodeTypes.{toSpecHead};
-ghost use Rattle.layout.specs.InternalWalks.{contentFrom, pastEnd, scopeIn, IsTable, AtGroups};
+ghost use Rattle.layout.specs.PointTables.{scopeIn};
+ghost use Rattle.layout.specs.InternalWalks.{contentFrom, pastEnd, IsTable, AtGroups};
 ghost use Rattle.listing.specs.InternalContracts.{ExtentOf, SameExtent, WithGroup};
 
 // A size with nested counts may need more than 64 bits. No map has more registers than CAP, so sizes and numbers

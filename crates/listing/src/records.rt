@@ -23,7 +23,8 @@ ghost use Rattle.model_definitions.specs.Soundness as Soundness;
 ghost use Rattle.catalog_frames.specs.CodeTypes.{toSpecPoint};
 ghost use Rattle.layout.specs.Points.{pointAt};
 ghost use Rattle.layout.specs.Layout.{within, countOf, pointsAt, groupsAt};
-ghost use Rattle.layout.specs.InternalWalks.{contentFrom, Accepted, levelOf, scopeIn, instanceIn, tableWith, IsTable, AgreeExcept, pointsOf, HasPoints, Ready, readIn, presentPoints};
+ghost use Rattle.layout.specs.PointTables.{scopeIn, tableWith};
+ghost use Rattle.layout.specs.InternalWalks.{contentFrom, Accepted, levelOf, instanceIn, IsTable, AgreeExcept, pointsOf, HasPoints, Ready, readIn, presentPoints};
 ghost use Rattle.listing.specs.Listing.{recordWidth};
 ghost use Rattle.listing.specs.InternalContracts.{written, PointFits, RunAsks, AfterRun, GroupsAsk, AfterGroups};
 

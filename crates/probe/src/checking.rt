@@ -1,4 +1,4 @@
-// The command `check CATALOG`: how many models a catalog has, or why it is refused.
+// The command `check CATALOG`: the number of models in a catalog, or the refusal.
 use crate::fields;
 use crate::fields::CAPACITY;
 use crate::fields::WORD_DIGITS;
@@ -6,7 +6,7 @@ use crate::output;
 use crate::plants::CATALOG_CAPACITY;
 use catalog::Checked;
 
-// Answers the fields from `at` on. False, with nothing written, where they are bad.
+// Runs the command on the fields from `at` on. False, with nothing written, where they are bad.
 pub(crate) fn run(line: &[u8], at: usize) -> bool {
     let mut catalog = [0u16; CAPACITY];
     let stored = fields::words_field(line, at, WORD_DIGITS, CATALOG_CAPACITY, &mut catalog);
@@ -17,7 +17,7 @@ pub(crate) fn run(line: &[u8], at: usize) -> bool {
     )
 }
 
-// Writes the answer where the line is good, and says whether it is.
+// Writes the result if the line is good, and returns whether it is.
 fn check_if(is_good: bool, catalog: &[u16; CAPACITY], count: usize) -> bool {
     if is_good {
         write_checked(fields::first(catalog, count));
@@ -25,7 +25,7 @@ fn check_if(is_good: bool, catalog: &[u16; CAPACITY], count: usize) -> bool {
     is_good
 }
 
-// Writes what `check` answers.
+// Writes the result of `check`.
 fn write_checked(catalog: &[u16]) {
     let checked = catalog::check(catalog);
     match checked {

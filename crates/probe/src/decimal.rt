@@ -10,7 +10,7 @@ ghost use Prim.Native.Nat.{_≤_};
 // The longest buffer that a line can ask for.
 const CAPACITY: usize = 64;
 
-// Answers the fields from `at` on. False, with nothing written, where they are bad.
+// Runs the command on the fields from `at` on. False, with nothing written, where they are bad.
 pub(crate) fn run(line: &[u8], at: usize) -> bool {
     let triple = quantity::triple_at(line, at);
     let capacity = fields::decimal_field(line, triple.next, CAPACITY as u64);
@@ -21,7 +21,7 @@ pub(crate) fn run(line: &[u8], at: usize) -> bool {
     is_good
 }
 
-// Writes what `decimal` returns for a buffer of `length` bytes.
+// Writes the result of `decimal` with a buffer of `length` bytes.
 fn write_in(triple: Triple, length: usize)
     requires { ⌜ length ≤ 64 ⌝ }
 {
@@ -30,13 +30,13 @@ fn write_in(triple: Triple, length: usize)
     write_decimal(quantity, &mut buffer[0..length]);
 }
 
-// Writes what `decimal` answers when it is given `out`.
+// Writes the result of `decimal` with the buffer `out`.
 fn write_decimal(quantity: Quantity, out: &mut [u8]) {
     let written = display::decimal(quantity.type_code, quantity.raw, quantity.scale, out);
     write_written(written, out);
 }
 
-// Writes an answer of `decimal`, which put its text into `out`.
+// Writes a result of `decimal`, whose text is in `out`.
 fn write_written(written: DecimalText, out: &[u8]) {
     match written {
         DecimalText::Length(n) => output::text_of(out, n),

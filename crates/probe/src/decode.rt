@@ -5,7 +5,7 @@ use crate::fields::WORD_DIGITS;
 use crate::output;
 use values::Value;
 
-// Answers the fields from `at` on. False, with nothing written, where they are bad.
+// Runs the command on the fields from `at` on. False, with nothing written, where they are bad.
 pub(crate) fn run(line: &[u8], at: usize) -> bool {
     let code = fields::u16_field(line, at);
     let mut words = [0u16; CAPACITY];
@@ -14,7 +14,7 @@ pub(crate) fn run(line: &[u8], at: usize) -> bool {
     decode_if(is_good, code.value, &words)
 }
 
-// Writes the answer where the line is good, and says whether it is.
+// Writes the result if the line is good, and returns whether it is.
 fn decode_if(is_good: bool, type_code: u16, words: &[u16; CAPACITY]) -> bool {
     if is_good {
         write_value(type_code, [words[0], words[1], words[2], words[3]]);
@@ -22,7 +22,7 @@ fn decode_if(is_good: bool, type_code: u16, words: &[u16; CAPACITY]) -> bool {
     is_good
 }
 
-// Writes what `decode` answers.
+// Writes the result of `decode`.
 fn write_value(type_code: u16, registers: [u16; 4]) {
     let value = values::decode(type_code, registers);
     match value {

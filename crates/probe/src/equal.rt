@@ -5,7 +5,7 @@ use crate::quantity;
 use crate::quantity::Triple;
 use display::Equality;
 
-// Answers the fields from `at` on. False, with nothing written, where they are bad.
+// Runs the command on the fields from `at` on. False, with nothing written, where they are bad.
 pub(crate) fn run(line: &[u8], at: usize) -> bool {
     let first = quantity::triple_at(line, at);
     let second = quantity::triple_at(line, first.next);
@@ -16,7 +16,7 @@ pub(crate) fn run(line: &[u8], at: usize) -> bool {
     is_good
 }
 
-// Writes what `equal_quantities` answers.
+// Writes the result of `equal_quantities`.
 fn write_equality(first: Triple, second: Triple) {
     let a = first.quantity;
     let b = second.quantity;

@@ -1,9 +1,9 @@
-// The command `events CODE RAW`: how many bits of a bitfield are set, and which is the lowest.
+// The command `events CODE RAW`: the number of bits of a bitfield that are set, and the lowest of them.
 use crate::fields;
 use crate::output;
 use display::EventBits;
 
-// Answers the fields from `at` on. False, with nothing written, where they are bad.
+// Runs the command on the fields from `at` on. False, with nothing written, where they are bad.
 pub(crate) fn run(line: &[u8], at: usize) -> bool {
     let code = fields::u16_field(line, at);
     let number = fields::decimal_field(line, code.next, u64::MAX);
@@ -14,7 +14,7 @@ pub(crate) fn run(line: &[u8], at: usize) -> bool {
     is_good
 }
 
-// Writes what `event_bits` answers.
+// Writes the result of `event_bits`.
 fn write_bits(type_code: u16, raw: u64) {
     let bits = display::event_bits(type_code, raw);
     match bits {

@@ -1,5 +1,5 @@
-// The fields of a line. A field is one space and at least one byte after it, up to the next space or
-// the line's end. A position may be any number: past the line's end stands no field.
+// The fields of a line. A field is one space and at least one byte after it, up to the next space or the line's end.
+// A position may be any number: past the line's end there is no field.
 use input::Digit;
 ghost use mathlib.Core.Bool.{true};
 ghost use mathlib.Core.Path.{_≡_};
@@ -7,7 +7,7 @@ ghost use Prim.Native.Nat.{_+_, _*_, _≤_, _<_, min};
 ghost use lib.ListN.{length};
 ghost use Rattle.io.specs.Counts.{Counts};
 
-// Where a field's text lies in its line, and the position after it. Where there is no field the text is empty.
+// The position of a field's text in its line, and the position after it. Where there is no field, the text is empty.
 struct Span {
     start: usize,
     end: usize,
@@ -26,24 +26,24 @@ pub(crate) struct Number16 {
     pub(crate) next: usize,
 }
 
-// How many words were stored, and the position after their field.
+// The number of words that were stored, and the position after their field.
 pub(crate) struct Stored {
     pub(crate) count: usize,
     pub(crate) next: usize,
 }
 
-// The position after a bad field. No field is there, so what is read on from a bad field is bad too, and the line
-// is never read to its end.
+// The position after a bad field. No field is there, so everything read after a bad field is bad too, and the line is
+// never read to its end.
 const NOWHERE: usize = usize::MAX;
 
 // The hexadecimal digits of a word.
 pub(crate) const WORD_DIGITS: usize = 4;
 
-// The capacity for the words of a field. It is one number for all, so that one function can fill it as an array: where an
-// array is made and lent as a slice, the prover counts its elements.
+// The capacity for the words of a field. It is one number for all fields, so that one function can fill any of them
+// as an array: where an array is made and lent as a slice, the prover counts its elements.
 pub(crate) const CAPACITY: usize = 81920;
 
-// Where `byte` stands first in `s` from `start` on, or the end of `s` where it doesn't.
+// The position of the first `byte` in `s` from `start` on, or the end of `s` if there is none.
 pub(crate) fn find(s: &[u8], start: usize, byte: u8) -> usize
     ensures { λ r. ⌜ min start (length (now (s .entry))) ≤ r ⌝ }
     ensures { λ r. ⌜ Counts r (now (s .entry)) ⌝ }
@@ -58,7 +58,7 @@ pub(crate) fn find(s: &[u8], start: usize, byte: u8) -> usize
     s.len()
 }
 
-// Is the line read to its end? What is left would be a surplus field.
+// Is the line read to its end? Anything left would be a surplus field.
 pub(crate) fn nothing_left(line: &[u8], at: usize) -> bool {
     at == line.len()
 }
@@ -77,7 +77,7 @@ fn field_at(line: &[u8], at: usize) -> Span
     span_of(start, find(line, start, b' '))
 }
 
-// The field whose text lies there. An empty text is no field.
+// The field with the text from `start` to `end`. An empty text is no field.
 fn span_of(start: usize, end: usize) -> Span
     ensures { λ r. ⌜ (r .start ≡ start) × (r .end ≡ end) ⌝ }
 {
@@ -85,7 +85,7 @@ fn span_of(start: usize, end: usize) -> Span
     Span { start, end, next }
 }
 
-// The position after a field that may be bad.
+// The position after a field: `next` if the field is good.
 fn next_if(is_good: bool, next: usize) -> usize {
     if is_good { next } else { NOWHERE }
 }
@@ -115,7 +115,7 @@ pub(crate) fn decimal_field(line: &[u8], at: usize, bound: u64) -> Number
     }
 }
 
-// Is `digit` a digit that keeps the number within the bound when it is put after `value`? So no number of digits
+// Is `digit` a digit that keeps the number within the bound when it is appended to `value`? So no number of digits
 // overflows.
 fn digit_fits(value: u64, digit: u64, bound: u64) -> bool
     ensures { λ r. ⌜ (r ≡ true → value * 10 + digit ≤ bound) ⌝ }
@@ -135,7 +135,7 @@ pub(crate) fn u16_field(line: &[u8], at: usize) -> Number16 {
     }
 }
 
-// The value of a decimal digit, and 10 for any other byte.
+// The value of a decimal digit; 10 for any other byte.
 fn decimal_digit(b: u8) -> u64 {
     match b {
         b'0'..=b'9' => (b - b'0') as u64,
@@ -143,9 +143,9 @@ fn decimal_digit(b: u8) -> u64 {
     }
 }
 
-// Stores the words of the field at `at`, of `digits` digits each and at most `limit` of them, at the start of `out`; `-`
-// is no words. A word of fewer than four digits is stored with what stood in `out` before its digits. Where the field is
-// bad, some words may have been stored.
+// Stores the words of the field at `at`, of `digits` digits each and at most `limit` of them, at the start of `out`;
+// `-` is no words. A word of fewer than four digits keeps the low digits of its old value before its own. Where the
+// field is bad, some words may have been stored.
 pub(crate) fn words_field(
     line: &[u8],
     at: usize,
@@ -167,7 +167,7 @@ pub(crate) fn words_field(
     }
 }
 
-// The first words of `s`, as far as it goes.
+// The first `count` words of `s`; all of `s` if it has fewer.
 pub(crate) fn first<'a>(s: &'a [u16; CAPACITY], count: usize) -> &'a [u16] {
     part(s, count)
 }
@@ -179,7 +179,7 @@ fn part<'a>(s: &'a [u16], count: usize) -> &'a [u16] {
     &s[0..count]
 }
 
-// Where the digits of the text from `start` to `end` begin: past the text where it is `-`.
+// The start of the digits in the text from `start` to `end`: past the text where it is `-`.
 fn digits_start(line: &[u8], start: usize, end: usize) -> usize
     requires { ⌜ (start ≤ end) × (end ≤ length (now line)) ⌝ }
     ensures { λ r. ⌜ (start ≤ r) × (r ≤ end) ⌝ }
@@ -190,7 +190,8 @@ fn digits_start(line: &[u8], start: usize, end: usize) -> usize
     start
 }
 
-// Stores the digits from `start` to `end`. False where a byte is no digit, or where there are more words than `limit`.
+// Stores the digits from `start` to `end`. False where a byte is not a digit, or where there are more words than
+// `limit`.
 fn store(
     line: &[u8],
     start: usize,
@@ -214,14 +215,14 @@ fn store(
     true
 }
 
-// The word with its digits moved by one place, and `digit` as the last.
+// The word with its digits moved left by one place, and `digit` as the last.
 fn with_digit(word: u16, digit: u16) -> u16
     requires { ⌜ digit ≤ 15 ⌝ }
 {
     word % 4096 * 16 + digit
 }
 
-// The value of a hexadecimal digit of either case, and 16 for any other byte.
+// The value of a hexadecimal digit of either case; 16 for any other byte.
 fn hex_digit(b: u8) -> u16 {
     let digit = input::digit_of(b);
     match digit {

@@ -1,4 +1,4 @@
-// The command `list ENTRIES CATALOG MAP`: the points of a register map by a catalog, put into a list of ENTRIES
+// The command `list ENTRIES CATALOG MAP`: the points of a register map by a catalog, stored in a list of ENTRIES
 // numbers.
 use crate::fields;
 use crate::fields::CAPACITY;
@@ -14,7 +14,7 @@ ghost use Prim.Native.Nat.{_≤_};
 // The longest list that a line can ask for.
 const LIST_CAPACITY: usize = 20000;
 
-// Answers the fields from `at` on. False, with nothing written, where they are bad.
+// Runs the command on the fields from `at` on. False, with nothing written, where they are bad.
 pub(crate) fn run(line: &[u8], at: usize) -> bool {
     let mut catalog = [0u16; CAPACITY];
     let mut map = [0u16; CAPACITY];
@@ -30,7 +30,7 @@ pub(crate) fn run(line: &[u8], at: usize) -> bool {
     list_if(plant, &catalog, &map, capacity.value as usize)
 }
 
-// Writes the answer where the line is good, and says whether it is.
+// Writes the result if the line is good, and returns whether it is.
 fn list_if(plant: Plant, catalog: &[u16; CAPACITY], map: &[u16; CAPACITY], entries: usize) -> bool
     requires { ⌜ entries ≤ 20000 ⌝ }
 {
@@ -44,7 +44,7 @@ fn list_if(plant: Plant, catalog: &[u16; CAPACITY], map: &[u16; CAPACITY], entri
     plant.is_whole
 }
 
-// Writes what `list` returns when it is given `entries` entries.
+// Writes the result of `list` with a list of `entries` entries.
 fn list_in(catalog: &[u16], map: &[u16], entries: usize)
     requires { ⌜ entries ≤ 20000 ⌝ }
 {
@@ -52,13 +52,13 @@ fn list_in(catalog: &[u16], map: &[u16], entries: usize)
     write_listing(catalog, map, &mut list[0..entries]);
 }
 
-// Writes what `list` answers when it is given `out`.
+// Writes the result of `list` with the list `out`.
 fn write_listing(catalog: &[u16], map: &[u16], out: &mut [u64]) {
     let listing = listing::list(catalog, map, out);
     write_points(listing, out);
 }
 
-// Writes an answer of `list`, with the list that it filled.
+// Writes a result of `list`, with the list that it filled.
 fn write_points(listing: Listing, list: &[u64]) {
     match listing {
         Listing::Listed { points, headers } => {
@@ -77,7 +77,7 @@ fn write_points(listing: Listing, list: &[u64]) {
     }
 }
 
-// Writes the records of so many points, as far as the list goes.
+// Writes the records of `points` points, as far as the list goes.
 fn write_records(list: &[u64], points: usize) {
     let mut i = 0;
     while i < list.len() {
@@ -89,7 +89,7 @@ fn write_records(list: &[u64], points: usize) {
     }
 }
 
-// What is written before a number of a record.
+// The text before a number of a record.
 fn gap_before(field: usize) -> usize {
     match field {
         0 => output::SLASH,

@@ -1,7 +1,7 @@
-// Runs one call of the libraries for each line of standard input, and writes one answer line for
-// each, in order. A line is a command's word and its fields, with one space before each field. A line
-// of more than 524,288 bytes without its LF has no answer, nor has any after it. Every line that
-// begins in the first 16,777,216 bytes is reached.
+// Runs one call of the libraries for each line of standard input, and writes one result line for each, in order. A
+// line is a command's word and its fields, with one space before each field. A line of more than 524,288 bytes
+// without its LF has no result line, and neither has any line after it. Every line that begins in the first
+// 16,777,216 bytes is processed.
 mod checking;
 mod decimal;
 mod decode;
@@ -20,15 +20,15 @@ use libc::STDIN_FILENO;
 ghost use Prim.Native.Nat.{_≤_};
 ghost use lib.ListN.{length};
 
-// How much of the input is held at a time: the longest line, and its LF.
+// The size of the input buffer: the longest line and its LF.
 const CAPACITY: usize = 524289;
 
-// How often the buffer is filled, so that the program ends on an endless input. A line that one round
-// cuts ends in the next, so two rounds in a row answer more than CAPACITY bytes, and all of them more
-// than 32 * CAPACITY.
+// The number of times the buffer is filled, so that the program ends on an endless input. A line that one round cuts
+// ends in the next, so two consecutive rounds process more than CAPACITY bytes, and all rounds more than 32 *
+// CAPACITY.
 const ROUNDS: usize = 64;
 
-// The words of the commands: the length, and then a byte for each letter.
+// The words of the commands as numbers: the length, then a byte for each letter.
 const DECODE: u64 = 0x06_64_65_63_6F_64_65;
 
 const TEXT: u64 = 0x04_74_65_78_74;
@@ -49,32 +49,32 @@ const PARSE: u64 = 0x05_70_61_72_73_65;
 
 fn main() {
     let mut input = [0u8; CAPACITY];
-    answer_input(&mut input);
+    process_input(&mut input);
 }
 
-// Processes the input, round by round. Once it has ended, or where a line is longer than the buffer, the
-// rounds that are left answer nothing.
-fn answer_input(input: &mut [u8]) {
+// Processes the input, round by round. Once it has ended, or after a line that is longer than the buffer, the rounds
+// that are left write nothing.
+fn process_input(input: &mut [u8]) {
     let mut kept = 0;
     let mut round = 0;
     while round < ROUNDS {
-        kept = answer_round(input, kept);
+        kept = process_round(input, kept);
         round += 1;
     }
 }
 
-// Fills the buffer after the bytes that were kept, and processes its whole lines. The line that is cut
-// moves to the front, so that each round begins with a line's first byte. Returns how much is kept.
-fn answer_round(input: &mut [u8], kept: usize) -> usize
+// Fills the buffer after the bytes that were kept, and processes its whole lines. The line that is cut moves to the
+// front, so that each round begins with a line's first byte. Returns the number of bytes kept.
+fn process_round(input: &mut [u8], kept: usize) -> usize
     requires { ⌜ kept ≤ length (now input) ⌝ }
     ensures { λ r. ⌜ r ≤ length (now (input .exit)) ⌝ }
 {
     let count = fill(input, kept);
-    let at = answer_lines(&input[0..count]);
+    let at = process_lines(&input[0..count]);
     move_to_front(input, at, count)
 }
 
-// Fills the buffer after the bytes that were kept, and returns how many it then holds.
+// Fills the buffer after the bytes that were kept, and returns the number of bytes that it then holds.
 fn fill(input: &mut [u8], kept: usize) -> usize
     requires { ⌜ kept ≤ length (now input) ⌝ }
     ensures { λ r. ⌜ r ≤ length (now (input .exit)) ⌝ }
@@ -82,9 +82,9 @@ fn fill(input: &mut [u8], kept: usize) -> usize
     kept + io::read_full(STDIN_FILENO, &mut input[kept..])
 }
 
-// Answers the whole lines, and returns where the one begins that is cut, or the end of `input` where
-// none is. A line is cut where no LF ends it and the buffer is full: else the input has ended.
-fn answer_lines(input: &[u8]) -> usize
+// Processes the whole lines, and returns the start of the line that is cut, or the end of `input` if none is. A line
+// is cut where no LF ends it and the buffer is full: otherwise the input has ended.
+fn process_lines(input: &[u8]) -> usize
     ensures { λ r. ⌜ r ≤ length (now (input .entry)) ⌝ }
 {
     let mut at = 0;
@@ -93,13 +93,13 @@ fn answer_lines(input: &[u8]) -> usize
         if end == CAPACITY {
             return at;
         }
-        answer(&input[at..end]);
+        process_line(&input[at..end]);
         at = end + 1;
     }
     input.len()
 }
 
-// Moves the bytes from `start` to `end` to the front, and returns how many they are.
+// Moves the bytes from `start` to `end` to the front, and returns their number.
 fn move_to_front(input: &mut [u8], start: usize, end: usize) -> usize
     requires { ⌜ (start ≤ end) × (end ≤ length (now input)) ⌝ }
     ensures { λ r. ⌜ r ≤ length (now (input .exit)) ⌝ }
@@ -112,8 +112,8 @@ fn move_to_front(input: &mut [u8], start: usize, end: usize) -> usize
     end - start
 }
 
-// Writes the line's one answer.
-fn answer(line: &[u8]) {
+// Writes the one result line of a line.
+fn process_line(line: &[u8]) {
     if !run(line) {
         output::say(output::BAD_LINE);
     }
@@ -138,7 +138,7 @@ fn run(line: &[u8]) -> bool {
     }
 }
 
-// The word before `end` as a number, as the commands' words are above, and 0 where it is too long for that.
+// The word before `end` as a number, in the form of the commands' words above; 0 if it is too long for that.
 fn word_of(line: &[u8], end: usize) -> u64
     requires { ⌜ end ≤ length (now line) ⌝ }
 {

@@ -1,11 +1,11 @@
-// The pieces of an answer line, written to standard output. A write that fails is passed over:
-// there is nowhere to report it.
+// The parts of a result line, written to standard output. A write that fails is ignored: there is nowhere to report
+// it.
 use crate::fields;
 use libc::STDOUT_FILENO;
 ghost use Prim.Native.Nat.{_<_};
 
-// The texts of results, by their number in `say`. (A byte string where each is written costs the prover six times as
-// much as a number.)
+// The texts of results, by their number in `say`. (A byte string at each place where one is written costs the prover
+// six times as much as a number.)
 pub(crate) const MODELS: usize = 0;
 
 pub(crate) const REFUSED: usize = 1;
@@ -46,7 +46,7 @@ pub(crate) const DASH: usize = 18;
 
 pub(crate) const END_LINE: usize = 19;
 
-// Writes a text by its number.
+// Writes the text with this number.
 pub(crate) fn say(number: usize) {
     say_part(
         b"models |refused | at |points | headers | / | |parsed |written |signed |signed -|unsigned |float |not given|out of range|yes|no|bad line|-|\n|",
@@ -83,13 +83,13 @@ pub(crate) fn unsigned(n: u64) {
     io::print_decimal(STDOUT_FILENO, n);
 }
 
-// A text and a number.
+// Writes a text and then a number.
 pub(crate) fn counted(number: usize, n: u64) {
     say(number);
     unsigned(n);
 }
 
-// In decimal, with a minus below 0. For the least number -n is out of range, and -1 - n is not.
+// Writes a number in decimal, with a minus below 0. For the least number, -n is out of range and -1 - n is not.
 pub(crate) fn signed(n: i64) {
     if n < 0 {
         counted(MINUS, (-1 - n) as u64 + 1);
@@ -98,18 +98,18 @@ pub(crate) fn signed(n: i64) {
     }
 }
 
-// The answer of a call that refuses.
+// Writes a refusal without a place,
 pub(crate) fn refused(number: u16) {
     counted(REFUSED, number as u64);
 }
 
-// The same, with a place.
+// and with a place.
 pub(crate) fn refused_at(number: u16, place: usize) {
     refused(number);
     counted(AT, place as u64);
 }
 
-// The first words of `s`, as far as it goes: four hexadecimal digits for each, run together, and `-` for none.
+// Writes the first `count` words of `s`, as far as it goes: four hexadecimal digits each, run together; `-` for none.
 pub(crate) fn words(s: &[u16], count: usize) {
     if count == 0 {
         say(DASH);
@@ -124,14 +124,14 @@ pub(crate) fn words(s: &[u16], count: usize) {
     }
 }
 
-// The bits of a float, in eight hexadecimal digits.
+// Writes the bits of a float in eight hexadecimal digits.
 pub(crate) fn float(bits: u32) {
     say(FLOAT);
     hex4((bits / 65536) as u16);
     hex4((bits % 65536) as u16);
 }
 
-// Four hexadecimal digits, in upper case.
+// Writes four hexadecimal digits in upper case.
 fn hex4(n: u16) {
     let digits = [
         hex_glyph(n / 4096),

@@ -1,18 +1,17 @@
-// The command `parse BYTES`: the catalog and the map that the bytes of an input hold, with the room of `readplant`.
+// The command `parse BYTES`: the catalog and the map in the bytes of an input, with the capacity of `readplant`.
 use crate::fields;
 use crate::fields::CAPACITY;
 use crate::output;
 use input::FRAME_WORDS;
 use input::Parsed;
 
-// The hexadecimal digits of a byte. A line can fill the capacity: more than any input that is not
-// refused.
+// The hexadecimal digits of a byte. A line can fill the capacity, which is more than any input that is not refused.
 const BYTE_DIGITS: usize = 2;
 
-// The room for the words of the catalog, and for the registers of the map.
+// The capacity for the words of the catalog, and for the registers of the map.
 const PARSED_CAPACITY: usize = 8192;
 
-// Answers the fields from `at` on. False, with nothing written, where they are bad.
+// Runs the command on the fields from `at` on. False, with nothing written, where they are bad.
 pub(crate) fn run(line: &[u8], at: usize) -> bool {
     let mut words = [0u16; CAPACITY];
     let stored = fields::words_field(line, at, BYTE_DIGITS, CAPACITY, &mut words);
@@ -23,7 +22,7 @@ pub(crate) fn run(line: &[u8], at: usize) -> bool {
     )
 }
 
-// Writes the answer where the line is good, and says whether it is.
+// Writes the result if the line is good, and returns whether it is.
 fn parse_if(is_good: bool, words: &[u16; CAPACITY], count: usize) -> bool {
     if is_good {
         let mut bytes = [0u8; CAPACITY];
@@ -42,19 +41,19 @@ fn copy_bytes(words: &[u16; CAPACITY], bytes: &mut [u8; CAPACITY]) {
     }
 }
 
-// Writes the answer for the first bytes. (Lent as an array, `bytes` asks no proof of its length.)
+// Writes the result for the first `count` bytes. (Lent as an array, `bytes` needs no proof of its length.)
 fn parse_bytes(bytes: &[u8; CAPACITY], count: usize) {
     parse_part(bytes, count);
 }
 
-// The same of the first `count` bytes; nothing where there are fewer.
+// The same for a slice; nothing where it has fewer.
 fn parse_part(bytes: &[u8], count: usize) {
     if count <= bytes.len() {
         parse_in(&bytes[0..count]);
     }
 }
 
-// Writes what `parse` answers.
+// Writes the result of `parse`.
 fn parse_in(text: &[u8]) {
     let mut catalog = [0u16; PARSED_CAPACITY];
     let mut map = [0u16; PARSED_CAPACITY];
@@ -62,11 +61,12 @@ fn parse_in(text: &[u8]) {
     write_parsed(parsed, &catalog, &map);
 }
 
-// Writes an answer of `parse`, with what it stored.
+// Writes a result of `parse`, with what it stored.
 fn write_parsed(parsed: Parsed, catalog: &[u16; PARSED_CAPACITY], map: &[u16; PARSED_CAPACITY]) {
     match parsed {
         Parsed::Of { frames, registers } => {
-            // The frames fit the capacity, so the remainder is their number. It shows that the product fits.
+            // The frames fit the capacity, so the remainder is their number. It shows the prover that the product
+            // fits.
             let words = frames % PARSED_CAPACITY * FRAME_WORDS;
             output::say(output::PARSED);
             output::words(catalog, words);

@@ -1,23 +1,23 @@
-// Two fields of words, with which a line must end: CATALOG MAP, or FALLBACK MAP.
+// Two fields of words that end a line: CATALOG MAP, or FALLBACK MAP.
 use crate::fields;
 use crate::fields::CAPACITY;
 use crate::fields::WORD_DIGITS;
 ghost use Prim.Native.Nat.{_≤_};
 
-// How many words a line can give as the catalog: one frame more than a catalog may have.
+// The most words that a line can give as the catalog: one frame more than a catalog may have.
 pub(crate) const CATALOG_CAPACITY: usize = 32776;
 
-// How many words a line can give as the map: one more than a map may have.
+// The most words that a line can give as the map: one more than a map may have.
 pub(crate) const MAP_CAPACITY: usize = 65537;
 
-// How many words were stored of each, and whether they are good and the line ends there.
+// The number of words stored of each, and whether both fields are good and end the line.
 pub(crate) struct Plant {
     pub(crate) words: usize,
     pub(crate) registers: usize,
     pub(crate) is_whole: bool,
 }
 
-// Stores the words of the field at `at` and those of the next, at most `most` and `most_registers`.
+// Stores the words of the field at `at` and those of the next: at most `most` words and `most_registers` words.
 pub(crate) fn plant_at(
     line: &[u8],
     at: usize,

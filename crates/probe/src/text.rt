@@ -5,20 +5,20 @@ use crate::output;
 use crate::plants::Plant;
 use crate::plants::plant_at;
 
-// How many words a line can give as the fallback.
+// The most words that a line can give as the fallback.
 const FALLBACK_CAPACITY: usize = 1024;
 
-// How many words a line can give as the map.
+// The most words that a line can give as the map.
 const MAP_CAPACITY: usize = 65536;
 
-// Where a text lies, and the position after the fields.
+// The address and size of a text, and the position after their fields.
 struct Asked {
     address: u64,
     size: u64,
     next: usize,
 }
 
-// Answers the fields from `at` on. False, with nothing written, where they are bad.
+// Runs the command on the fields from `at` on. False, with nothing written, where they are bad.
 pub(crate) fn run(line: &[u8], at: usize) -> bool {
     let mut fallback = [0u16; CAPACITY];
     let mut map = [0u16; CAPACITY];
@@ -34,7 +34,7 @@ pub(crate) fn run(line: &[u8], at: usize) -> bool {
     text_if(plant, &fallback, &map, asked)
 }
 
-// The numbers from `at` on.
+// The address and size from `at` on.
 fn asked_at(line: &[u8], at: usize) -> Asked {
     let address = fields::decimal_field(line, at, u64::MAX);
     let size = fields::decimal_field(line, address.next, u64::MAX);
@@ -45,7 +45,7 @@ fn asked_at(line: &[u8], at: usize) -> Asked {
     }
 }
 
-// Writes the answer where the line is good, and says whether it is.
+// Writes the result if the line is good, and returns whether it is.
 fn text_if<'a>(
     plant: Plant,
     fallback: &'a [u16; CAPACITY],
@@ -62,7 +62,7 @@ fn text_if<'a>(
     plant.is_whole
 }
 
-// Writes what `text` answers, which is a part of one of the two slices: hence one lifetime for both.
+// Writes the result of `text`, which is a part of one of the two slices: hence one lifetime for both.
 fn write_text<'a>(map: &'a [u16], asked: Asked, fallback: &'a [u16]) {
     let words = display::text(map, asked.address as usize, asked.size as usize, fallback);
     output::words(words, words.len());

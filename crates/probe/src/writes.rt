@@ -1,4 +1,4 @@
-// The command `write MODEL POINT I2 I3 I4 RAW CATALOG MAP`: RAW written to a point of a register map, by the index of
+// The command `write MODEL POINT I2 I3 I4 RAW CATALOG MAP`: writes RAW to a point of a register map, by the index of
 // its model, its number and its instance numbers at levels 2, 3 and 4.
 use crate::fields;
 use crate::fields::CAPACITY;
@@ -10,7 +10,7 @@ use crate::plants::plant_at;
 use listing::InstancePath;
 use writing::Written;
 
-// What a line writes and where, and the position after its last field.
+// The point and the raw value that a line writes, and the position after these fields.
 struct Write {
     model: u64,
     point: u16,
@@ -25,7 +25,7 @@ struct Path {
     next: usize,
 }
 
-// Answers the fields from `at` on. False, with nothing written, where they are bad.
+// Runs the command on the fields from `at` on. False, with nothing written, where they are bad.
 pub(crate) fn run(line: &[u8], at: usize) -> bool {
     let mut catalog = [0u16; CAPACITY];
     let mut map = [0u16; CAPACITY];
@@ -41,7 +41,7 @@ pub(crate) fn run(line: &[u8], at: usize) -> bool {
     write_if(plant, &catalog, &mut map, asked)
 }
 
-// The numbers from `at` on.
+// The point and the raw value from `at` on.
 fn write_at(line: &[u8], at: usize) -> Write {
     let model = fields::decimal_field(line, at, u64::MAX);
     let point = fields::u16_field(line, model.next);
@@ -71,7 +71,7 @@ fn path_at(line: &[u8], at: usize) -> Path {
     }
 }
 
-// Writes the answer where the line is good, and says whether it is.
+// Writes the result if the line is good, and returns whether it is.
 fn write_if(
     plant: Plant,
     catalog: &[u16; CAPACITY],
@@ -89,14 +89,14 @@ fn write_if(
     plant.is_whole
 }
 
-// The same in the first `registers` of `map`; nothing where it has fewer.
+// The same in the first `registers` registers of `map`; nothing where it has fewer.
 fn write_part(catalog: &[u16], map: &mut [u16], registers: usize, asked: Write) {
     if registers <= map.len() {
         write_in(catalog, &mut map[0..registers], asked);
     }
 }
 
-// Writes what `write` returns, and the map after it.
+// Writes the result of `write`, and the map after it.
 fn write_in(catalog: &[u16], map: &mut [u16], asked: Write) {
     let path = asked.path;
     let written = writing::write(
@@ -110,7 +110,7 @@ fn write_in(catalog: &[u16], map: &mut [u16], asked: Write) {
     write_written(written, map);
 }
 
-// Writes an answer of `write`, and the map after it.
+// Writes a result of `write`, with the map after it.
 fn write_written(written: Written, map: &[u16]) {
     match written {
         Written::Done => {

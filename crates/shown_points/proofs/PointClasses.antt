@@ -1,4 +1,5 @@
--- The class of a point's registers, by what the code looks at: the raw value of up to four, and whether all of more are 0.
+-- The class of a point's registers as the code finds it: by the raw value of up to four registers, and for more by whether all
+-- are 0.
 use mathlib.Core.Path.{_≡_, refl, sym, ap, subst, _∙_}
 use mathlib.Core.Bool.{Bool, true, false, _&&_}
 use mathlib.Core.List.{List, [], _∷_}
@@ -27,7 +28,7 @@ use Rattle.layout.specs.Points.{registersAt}
 use Rattle.shown_points.specs.CodeTypes.{registersClass, toSpecShown, shownBy}
 use Rattle.shown_points.specs.declared.Shown.{Shown}
 
--- The row of a type and its size by it.
+-- A type with this size has a row, and the size is at most the row's.
 pub row-of-size : (code size : ℕ) → isSizeOf code size ≡ true → (r : TypeRow) × (rowOf code ≡ some r) × (size ≤ r .most)
 unfolding isSizeOf registersOf
 row-of-size code size = go (rowOf code) refl
@@ -44,12 +45,12 @@ row-of-size code size = go (rowOf code) refl
         let s = both (leb (r .fewest) size) (leb size (r .most)) e in
         (r, q, leb-true size (r .most) (s .1))
 
--- The row that an option holds, or another.
+-- The row in an option, or `other`.
 abbrev rowOr : TypeRow → Option TypeRow → TypeRow
 rowOr other none = other
 rowOr other (some r) = r
 
--- A type of more than four registers is unimplemented where all are 0, and has a value by any other pattern.
+-- A type of more than four registers is unimplemented if all are 0, and any other pattern is in range.
 wide-row : (code : ℕ) (r : TypeRow) → rowOf code ≡ some r → 4 < r .most → (r .unimplemented ≡ pattern 0) × (r .range ≡ whole)
 unfolding rows rowAmong
 wide-row code r e w = go (decLe code 18) (decLe code 19) (decLe code 20)
@@ -79,18 +80,18 @@ wide-class code raw r e w fits n =
     let range : inRange r raw ≡ true = simp (inRange, row .1) in
     of-class code raw r e (lt-leb (2 ^ (16 * r .most)) raw fits) ∙ ap ofClass (in-range r raw given range)
 
--- Elements that are all 16 bits are registers.
+-- A list whose elements are all below 65,536 is a list of registers.
 each-register : (rs : List ℕ) → ((k : ℕ) → getD rs k 0 < 65536) → AreRegisters rs
 each-register [] h = tt
 each-register (r ∷ rs) h = (h 0, each-register rs (λ k. h (suc k)))
 
--- Registers of a size that their type may have are a pattern of the type.
+-- Registers of a size that their type may have are not too wide for the type.
 fits-type : (rs : List ℕ) (r : TypeRow) → AreRegisters rs → length rs ≤ r .most → join rs < 2 ^ (16 * r .most)
 fits-type rs r a most =
     rw (← sixteen-each (r .most))
     (omega (arith, join-bound rs a, pow-le-pow-right {n = 65536} (omega arith) {i = length rs} {j = r .most} most))
 
--- So they have a class: they are never too wide, and the type is known.
+-- So they have a class: they are not too wide, and the type is known.
 pub always-classed : (code : ℕ) (rs : List ℕ) → isSizeOf code (length rs) ≡ true → AreRegisters rs
     → (c : Class) × (classified code (join rs) ≡ ofClass c)
 unfolding tooWide
@@ -99,7 +100,7 @@ always-classed code rs s a =
     let r = row .0 in
     (classOf r (join rs), of-class code (join rs) r (row .1) (lt-leb (2 ^ (16 * r .most)) (join rs) (fits-type rs r a (row .2))))
 
--- Of more than four registers that are not all 0, the class is that of 1.
+-- More than four registers that are not all 0 have the class of 1.
 wide-value : (code : ℕ) (rs : List ℕ) → isSizeOf code (length rs) ≡ true → 4 < length rs → AreRegisters rs → (join rs ≡ 0 → ⊥)
     → classified code 1 ≡ classified code (join rs)
 wide-value code rs s w a n =
@@ -111,15 +112,15 @@ wide-value code rs s w a n =
     let one : 1 < 2 ^ (16 * r .most) = omega (arith, bound) in
     wide-class code 1 r e (omega arith) one (λ q. omega arith) ∙ sym (wide-class code (join rs) r e (omega arith) bound n)
 
--- ---- The class that is found of any registers
+-- ---- The class that `show` gives any registers
 
 module _ (code : ℕ) (rs : List ℕ) where
-  -- Up to four.
+  -- Up to four registers.
   pub few-class : length rs ≤ 4 → registersClass code rs ≡ classified code (join rs)
   unfolding registersClass
   few-class few = simp (registersClass, le-leb (length rs) 4 few)
 
-  -- More than four that are all 0, or not.
+  -- More than four registers, all 0 or not.
   pub zero-class : 4 < length rs → allZero rs ≡ true → registersClass code rs ≡ classified code 0
   unfolding registersClass
   zero-class many e = simp (registersClass, lt-leb (length rs) 4 many, e)
@@ -140,7 +141,7 @@ module _ (code : ℕ) (rs : List ℕ) where
           other-class (omega arith) e
           ∙ wide-value code rs s (omega arith) a (eqb-false (join rs) 0 (sym (zero-joined rs) ∙ e))
 
--- What is shown of the registers of a point in a body: by the class of their raw value.
+-- What is shown of a point's registers in a body is by the class of their raw value.
 pub shown-at : (p : Point) (body : List ℕ) (offset : ℕ) → ((k : ℕ) → getD body k 0 < 65536)
     → isSizeOf (p .typeCode) (p .size) ≡ true → offset + p .size ≤ length body
     → (rs : List ℕ) → rs ≡ registersAt body offset p → (register : ℕ) (r : Shown)

@@ -16,18 +16,18 @@ module _ (p : Point) (register : ℕ) where
   pub value-scaled : p .scaleKind ≡ scaleByPoint → statusOf p (ofClass value) register ≡ scaleStatus (classified sunssf register)
   value-scaled e = simp (statusOf, eq-eqb (p .scaleKind) scaleByPoint e)
 
-  -- Unimplemented, though mandatory or not.
+  -- An unimplemented point, mandatory or not.
   pub missing-mandatory : p .mandatory ≡ 1 → statusOf p (ofClass unimplemented) register ≡ 2
   missing-mandatory e = simp (statusOf, eq-eqb (p .mandatory) 1 e)
 
   pub missing-optional : (p .mandatory ≡ 1 → ⊥) → statusOf p (ofClass unimplemented) register ≡ 1
   missing-optional n = simp (statusOf, ne-eqb (p .mandatory) 1 n)
 
-  -- No value, no scale.
+  -- Where the status is not 0, the scale is 0.
   pub no-value : (status : ℕ) → (status ≡ 0 → ⊥) → scaleOf p status register ≡ 0
   no-value status n = simp (scaleOf, ne-eqb status 0 n)
 
-  -- The scale of a value by its kind.
+  -- Where the status is 0, the scale is by the scale kind.
   pub scale-fixed : (status : ℕ) → status ≡ 0 → p .scaleKind ≡ fixedScale → scaleOf p status register ≡ p .scale
   scale-fixed status s e = simp (scaleOf, eq-eqb status 0 s, eq-eqb (p .scaleKind) fixedScale e)
 

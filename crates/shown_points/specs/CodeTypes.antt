@@ -1,4 +1,4 @@
--- What the code's types mean.
+-- What `show` returns, and the class of registers that it uses.
 use mathlib.Core.Bool.{true, false}
 use mathlib.Core.List.{List}
 use Prim.Native.Nat.{ℕ}
@@ -10,8 +10,9 @@ use Rattle.catalog_frames.specs.Frames as Frames
 use Rattle.layout.specs.Points.{statusOf, scaleOf}
 use Rattle.shown_points.specs.declared.Shown.{Shown}
 
--- The class that `show` finds of any registers: up to four, the class of their raw value; of more, the class of 0 where all are
--- 0, else that of 1. (It is the class of the raw value for any size that the type may have: `proofs/PointClasses.antt`.)
+-- The class that `show` gives any registers: up to four, the class of their raw value; more than four, the class of 0 if all
+-- are 0, else the class of 1. (It is the class of the raw value for any size that the type may have:
+-- `proofs/PointClasses.antt`.)
 unfoldable pub registersClass : ℕ → List ℕ → Classified
 registersClass code rs =
     elim (leb (length rs) 4) [
@@ -25,10 +26,11 @@ pub record PointShown : Type 0 where
   pub raw : ℕ
   pub scale : ℕ
 
+-- The result of `show`.
 abbrev pub toSpecShown : Shown → PointShown
 toSpecShown s = record { status = s .status; raw = s .raw; scale = s .scale }
 
--- What is shown of a point by the class of its registers, these, and the register of its scale point.
+-- What is shown of a point with these registers of this class, where `register` is the register of its scale point.
 abbrev pub shownBy : Frames.Point → Classified → List ℕ → ℕ → PointShown
 shownBy p class registers register =
     let status = statusOf p class register in

@@ -1,4 +1,4 @@
-// What a record shows of a point: its status, raw value and scale.
+// What a record shows of a point: its status, raw value and scale (document 01, "Status of a point" and "Listing").
 use catalog::FIXED_SCALE;
 use catalog::Point;
 use catalog::SCALE_BY_POINT;
@@ -23,7 +23,7 @@ pub struct Shown {
     pub scale: u64,
 }
 
-// A point by its registers and the register of its scale point.
+// What is shown of a point, by its registers and the register of its scale point.
 pub fn show(point: Point, registers: &[u16], scale_register: u16) -> Shown
     ensures { λ r. ⌜ toSpecShown r
         ≡ shownBy (toSpecPoint point) (registersClass (toSpecPoint point .typeCode) (now (registers .entry))) (now (registers .entry)) «scale_register» ⌝ }
@@ -37,8 +37,8 @@ pub fn show(point: Point, registers: &[u16], scale_register: u16) -> Shown
     }
 }
 
-// The class of a point's registers. Types of more than four registers are unimplemented where all are 0, and
-// else have a value, so any raw value but 0 can replace theirs.
+// The class of a point's registers. A type of more than four registers is unimplemented if all are 0, and has a value
+// otherwise, so 0 or 1 replaces the raw value, which may not fit 64 bits.
 fn class_of(type_code: u16, registers: &[u16]) -> Classified
     ensures { λ r. ⌜ toSpecClassified r ≡ registersClass «type_code» (now (registers .entry)) ⌝ }
 {
@@ -51,7 +51,7 @@ fn class_of(type_code: u16, registers: &[u16]) -> Classified
     classify(type_code, 1)
 }
 
-// The first status that applies.
+// The status of a point, the first that applies.
 fn status_of(point: Point, class: Classified, scale_register: u16) -> u64
     ensures { λ r. ⌜ r ≡ statusOf (toSpecPoint point) (toSpecClassified class) «scale_register» ⌝ }
 {
@@ -62,7 +62,7 @@ fn status_of(point: Point, class: Classified, scale_register: u16) -> u64
     }
 }
 
-// The status by the class of the registers, and for a value by the scale point's.
+// The status by the class of the registers, and for a value by the class of the scale point.
 fn status_of_class(point: Point, class: Class, scale_register: u16) -> u64
     ensures { λ r. ⌜ r ≡ statusOf (toSpecPoint point) (ofClass (toSpecClass class)) «scale_register» ⌝ }
 {
@@ -99,7 +99,7 @@ fn scale_status(register: u16) -> u64
     }
 }
 
-// The scale: 0 unless the status is 0 and the point has one.
+// The scale shown: 0 unless the status is 0 and the point has a scale.
 fn scale_of(point: Point, status: u64, scale_register: u16) -> u64
     ensures { λ r. ⌜ r ≡ scaleOf (toSpecPoint point) status «scale_register» ⌝ }
 {

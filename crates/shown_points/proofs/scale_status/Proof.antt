@@ -1,4 +1,4 @@
--- `shown_points::scale_status` meets its contract: the register of a scale point is classified.
+-- `shown_points::scale_status` meets its contract: the status by the class of the scale point's register.
 use borrow.Author.Needs.{needs}
 use Rattle.shown_points.proofs.scale_status.Statement.{statement}
 use Rattle.shown_points.proofs.scale_status.Tie as tie

@@ -1,4 +1,4 @@
--- `shown_points::status_of` meets its contract: the status, by what the registers were found to be.
+-- `shown_points::status_of` meets its contract: the status by the class of the registers.
 use borrow.Author.Needs.{needs}
 use Rattle.shown_points.proofs.status_of.Statement.{statement}
 use Rattle.shown_points.proofs.status_of.Tie as tie

@@ -1,10 +1,11 @@
--- `definition_frames::frames::after_group` meets its contract: the frames passed and those still to the end are those of the group.
+-- `definition_frames::frames::after_group` meets its contract: the frames visited and the frames to the end are together those
+-- of the group.
 use mathlib.Core.Path.{_≡_, refl, ap, _∙_}
 use Prim.Native.Nat.{ℕ, _+_, _-_, _/_, _≤_}
 use native.Mathlib.Omega.{arith}
 use lib.ListN.{length}
 use Rattle.catalog_frames.specs.Frames.{frameIn}
-use Rattle.layout.specs.InternalWalks.{onward, framesToEnd, framesOfGroup}
+use Rattle.layout.specs.FrameWalk.{onward, framesToEnd, framesOfGroup}
 use Rattle.layout.proofs.PassedFrames as passed
 use Rattle.definition_frames.proofs.frames.after_group.Statement.{statement}
 use Rattle.definition_frames.proofs.frames.after_group.Tie as tie

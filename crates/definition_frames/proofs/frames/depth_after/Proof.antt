@@ -2,7 +2,7 @@
 use mathlib.Core.Path.{sym, ap, _∙_}
 use borrow.Author.Needs.{needs}
 use Rattle.catalog_frames.specs.CodeTypes.{toSpecFrame}
-use Rattle.layout.specs.InternalWalks.{openAfter}
+use Rattle.layout.specs.FrameWalk.{openAfter}
 use Rattle.definition_frames.proofs.frames.depth_after.Statement.{statement}
 use Rattle.definition_frames.proofs.frames.depth_after.Tie as tie
 

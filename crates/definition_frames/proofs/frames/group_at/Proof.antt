@@ -2,7 +2,7 @@
 use mathlib.Core.Path.{sym, ap, _∙_}
 use borrow.Author.Needs.{needs}
 use Rattle.catalog_frames.specs.CodeTypes.{toSpecFrame}
-use Rattle.layout.specs.InternalWalks.{headOf}
+use Rattle.layout.specs.FrameWalk.{headOf}
 use Rattle.definition_frames.proofs.frames.group_at.Statement.{statement}
 use Rattle.definition_frames.proofs.frames.group_at.Tie as tie
 

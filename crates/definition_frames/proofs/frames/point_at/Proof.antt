@@ -2,7 +2,7 @@
 use mathlib.Core.Path.{sym, ap, _∙_}
 use borrow.Author.Needs.{needs}
 use Rattle.catalog_frames.specs.CodeTypes.{toSpecFrame}
-use Rattle.layout.specs.InternalWalks.{pointOf}
+use Rattle.layout.specs.FrameWalk.{pointOf}
 use Rattle.definition_frames.proofs.frames.point_at.Statement.{statement}
 use Rattle.definition_frames.proofs.frames.point_at.Tie as tie
 

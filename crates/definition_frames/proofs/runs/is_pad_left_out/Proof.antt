@@ -1,11 +1,11 @@
--- `definition_frames::runs::is_pad_left_out` meets its contract: its tests are those of `lacksPad`, the group last.
+-- `definition_frames::runs::is_pad_left_out` meets its contract: its tests are those of `lacksPad`, in the same order.
 use mathlib.Core.Path.{_≡_, sym, ap, _∙_}
 use Prim.Native.Nat.{_+_}
 use native.Mathlib.Omega.{arith}
 use borrow.Author.Needs.{needs}
 use borrow.Author.Tests.{not-true, not-false}
 use Rattle.catalog_frames.specs.Frames.{frameIn}
-use Rattle.layout.specs.InternalWalks.{headOf}
+use Rattle.layout.specs.FrameWalk.{headOf}
 use Rattle.definition_frames.specs.CodeTypes.{toSpecGroupOr, isNone, lacksPad, toSpecRun}
 use Rattle.definition_frames.proofs.PadTests as pads
 use Rattle.definition_frames.proofs.runs.is_pad_left_out.Statement.{statement}
@@ -39,7 +39,7 @@ returns-4 c =
 enum-told : tie.Need-enum-told
 enum-told c = search needs
 
--- One register short, the group decides.
+-- Where the length is one register short, the next frame decides.
 by-group : (c : tie.After-group-at) → let a = c .before .before .before .before .before .before .before .before .before .args in
     isNone (toSpecGroupOr (c .group-at .result))
     ≡ lacksPad (a .id) (toSpecRun (a .run)) (headOf (frameIn (a .catalog .now) (a .run .next))) (a .length)

@@ -1,4 +1,5 @@
--- `definition_frames::runs::run_extent` meets its contract: the points counted and those that are left are those of the run.
+-- `definition_frames::runs::run_extent` meets its contract: the points counted and the points that are left are together those
+-- of the run.
 use mathlib.Core.Path.{_≡_, sym, ap, _∙_}
 use mathlib.Core.List.{_∷_}
 use Prim.Native.Nat.{ℕ, suc, _+_, _-_, _≤_}
@@ -8,7 +9,7 @@ use lib.ListN.{take}
 use lib.Seq.{take-nil}
 use Rattle.catalog.specs.Rules.{run}
 use Rattle.catalog_frames.specs.CodeTypes.{toSpecPoint}
-use Rattle.layout.specs.InternalWalks.{onward}
+use Rattle.layout.specs.FrameWalk.{onward}
 use Rattle.definition_frames.specs.CodeTypes.{toSpecPointOr}
 use Rattle.layout.proofs.FrameRuns.{run-more, run-ends}
 use Rattle.definition_frames.proofs.RunSteps.{RunFrom, run-begins, run-goes, run-stops, to-spec-run}

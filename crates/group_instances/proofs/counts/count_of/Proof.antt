@@ -1,4 +1,4 @@
--- `group_instances::counts::count_of` meets its contract.
+-- `group_instances::counts::count_of` meets its contract: the count by its kind, with a bound.
 use mathlib.Core.Path.{_≡_}
 use mathlib.Core.Bool.{Bool, true, false}
 use Prim.Native.Nat.{ℕ}
@@ -10,11 +10,11 @@ use Rattle.catalog_frames.specs.Frames.{Head, constantCount, countByPoint}
 use Rattle.catalog_frames.specs.CodeTypes.{toSpecHead}
 use Rattle.layout.specs.Points.{Scope}
 use Rattle.layout.specs.Layout.{countOf}
-use Rattle.layout.specs.InternalWalks.{scopeIn}
+use Rattle.layout.specs.PointTables.{scopeIn}
 use Rattle.group_instances.proofs.counts.count_of.Statement.{statement}
 use Rattle.group_instances.proofs.counts.count_of.Tie as tie
 
--- A count that is neither a constant nor that of a point is the fill.
+-- A group whose count is neither a constant nor a point's value has the fill count.
 fills : (s : Scope) (f : ℕ) (h : Head) → (h .countKind ≡ constantCount → ⊥) → (h .countKind ≡ countByPoint → ⊥)
     → f ≡ countOf s f h
 fills s f h a b = go (eqb (h .countKind) constantCount) (eqb (h .countKind) countByPoint) (ne-eqb _ _ a) (ne-eqb _ _ b)

@@ -1,4 +1,4 @@
--- `group_instances::counts::is_unimplemented` meets its contract.
+-- `group_instances::counts::is_unimplemented` meets its contract: the entry of the count point is compared with FFFF.
 use borrow.Author.Needs.{needs}
 use borrow.Author.Tests.{eq-eqb, ne-eqb}
 use Rattle.group_instances.proofs.counts.is_unimplemented.Statement.{statement}

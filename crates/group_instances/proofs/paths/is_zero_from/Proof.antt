@@ -1,5 +1,5 @@
--- `group_instances::paths::is_zero_from` meets its contract: a path has three numbers, so the part that is tested is all from
--- the place on.
+-- `group_instances::paths::is_zero_from` meets its contract: a path has three numbers, so the part that is tested is
+-- everything from `place` on.
 use mathlib.Core.Path.{_≡_, ap, _∙_}
 use native.Mathlib.Omega.{arith}
 use borrow.Author.Needs.{needs}

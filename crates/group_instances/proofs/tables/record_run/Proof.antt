@@ -1,4 +1,5 @@
--- `group_instances::tables::record_run` meets its contract: recording the points that are left gives what recording all gives.
+-- `group_instances::tables::record_run` meets its contract: recording the points that are left gives the same table as
+-- recording all points at the start.
 use mathlib.Core.Path.{_≡_, refl, sym, ap, _∙_}
 use mathlib.Core.List.{List}
 use Prim.Native.Nat.{_+_, _-_, _/_}
@@ -8,7 +9,8 @@ use lib.ListN.{length, getD, length-set}
 use Rattle.catalog_frames.specs.Frames.{Point}
 use Rattle.catalog.specs.Rules.{run}
 use Rattle.catalog_frames.specs.CodeTypes.{toSpecPoint}
-use Rattle.layout.specs.InternalWalks.{onward, tableWith, presentWithin}
+use Rattle.layout.specs.FrameWalk.{onward}
+use Rattle.layout.specs.PointTables.{tableWith, presentWithin}
 use Rattle.definition_frames.specs.CodeTypes.{toSpecPointOr}
 use Rattle.layout.proofs.FrameRuns.{run-more, run-ends}
 use Rattle.layout.proofs.RecordedPoints.{record-first, record-none, record-past}

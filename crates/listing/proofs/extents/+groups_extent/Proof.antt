@@ -3,7 +3,8 @@ use mathlib.Core.Path.{_≡_, refl, sym, ap, subst, _∙_}
 use Prim.Native.Nat.{ℕ, _+_, _-_, _/_, _<_}
 use native.Mathlib.Omega.{arith}
 use lib.ListN.{length}
-use Rattle.layout.specs.InternalWalks.{contentFrom, scopeIn, AtGroups}
+use Rattle.layout.specs.PointTables.{scopeIn}
+use Rattle.layout.specs.InternalWalks.{contentFrom, AtGroups}
 use Rattle.layout.proofs.FramePosition as position
 use Rattle.definition_frames.proofs.RunSteps.{content-run}
 use Rattle.layout.proofs.GroupDescent as groups

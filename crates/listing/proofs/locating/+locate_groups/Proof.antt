@@ -9,7 +9,8 @@ use borrow.Fn.PlainCycle.{Measures, is, falls, and}
 use lib.ListN.{length, getD}
 use Rattle.catalog_frames.specs.CodeTypes.{toSpecHead}
 use Rattle.layout.specs.Layout.{countOf}
-use Rattle.layout.specs.InternalWalks.{contentFrom, levelOf, scopeIn}
+use Rattle.layout.specs.PointTables.{scopeIn}
+use Rattle.layout.specs.InternalWalks.{contentFrom, levelOf}
 use Rattle.layout.specs.Locating.{locatedIn}
 use Rattle.layout.proofs.FramePosition as position
 use Rattle.definition_frames.specs.CodeTypes.{toSpecGroupOr}

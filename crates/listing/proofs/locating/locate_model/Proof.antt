@@ -5,7 +5,8 @@ use Prim.Native.Nat.{ℕ}
 use borrow.Author.Needs.{needs}
 use Rattle.model_definitions.specs.Definitions.{Groups, pointsSize}
 use Rattle.layout.specs.Layout.{countOf}
-use Rattle.layout.specs.InternalWalks.{contentFrom, scopeIn}
+use Rattle.layout.specs.PointTables.{scopeIn}
+use Rattle.layout.specs.InternalWalks.{contentFrom}
 use Rattle.layout.specs.Locating.{Located, orElse, locatedIn}
 use Rattle.layout.proofs.FramePosition as position
 use Rattle.definition_frames.proofs.RunSteps.{content-run}

@@ -7,7 +7,8 @@ use native.Mathlib.Omega.{arith}
 use borrow.Author.Needs.{needs}
 use lib.ListN.{drop}
 use Rattle.registers.specs.Registers.{allZero}
-use Rattle.layout.specs.InternalWalks.{contentFrom, presentWithin}
+use Rattle.layout.specs.PointTables.{presentWithin}
+use Rattle.layout.specs.InternalWalks.{contentFrom}
 use Rattle.layout.specs.Locating.{Located, locatedAmong}
 use Rattle.listing.proofs.locating.locate_own.Statement.{statement}
 use Rattle.listing.proofs.locating.locate_own.Tie as tie

@@ -7,7 +7,8 @@ use borrow.Author.Needs.{needs}
 use lib.ListN.{length}
 use Rattle.catalog_frames.specs.Frames.{Point}
 use Rattle.catalog_frames.specs.CodeTypes.{toSpecPoint}
-use Rattle.layout.specs.InternalWalks.{contentFrom, ParsesAt, presentWithin}
+use Rattle.layout.specs.PointTables.{presentWithin}
+use Rattle.layout.specs.InternalWalks.{contentFrom, ParsesAt}
 use Rattle.layout.specs.Locating.{locatedAmong}
 use Rattle.layout.proofs.FramePosition as position
 use Rattle.layout.proofs.LocatingSteps.{none-left, none-past, found-first, not-first}

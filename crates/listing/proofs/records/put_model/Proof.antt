@@ -6,7 +6,8 @@ use native.Mathlib.Omega.{arith}
 use lib.ListN.{length, getD}
 use Rattle.model_definitions.specs.Definitions.{pointsSize}
 use Rattle.layout.specs.Layout.{noInstance}
-use Rattle.layout.specs.InternalWalks.{contentFrom, instanceIn, presentWithin}
+use Rattle.layout.specs.PointTables.{presentWithin}
+use Rattle.layout.specs.InternalWalks.{contentFrom, instanceIn}
 use Rattle.layout.proofs.PointCounts as counts
 use Rattle.listing.specs.InternalContracts.{written}
 use Rattle.listing.proofs.ModelWriting as model

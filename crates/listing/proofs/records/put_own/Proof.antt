@@ -7,7 +7,8 @@ use borrow.Author.Needs.{needs}
 use lib.ListN.{length, getD}
 use Rattle.catalog_frames.specs.Frames.{Point}
 use Rattle.layout.specs.Points.{ModelPoint}
-use Rattle.layout.specs.InternalWalks.{contentFrom, tableWith, presentWithin}
+use Rattle.layout.specs.PointTables.{tableWith, presentWithin}
+use Rattle.layout.specs.InternalWalks.{contentFrom}
 use Rattle.layout.proofs.FramePosition.{parses-within}
 use Rattle.layout.proofs.FrameRuns.{content-recorded}
 use Rattle.layout.proofs.RecordedPoints.{table-with-length, numbers-in-table, present-all, own-points}

@@ -7,7 +7,8 @@ use lib.ListN.{getD}
 use lib.Seq.{sets}
 use Rattle.catalog_frames.specs.CodeTypes.{toSpecPoint}
 use Rattle.layout.specs.Points.{pointAt}
-use Rattle.layout.specs.InternalWalks.{scopeIn, instanceIn}
+use Rattle.layout.specs.PointTables.{scopeIn}
+use Rattle.layout.specs.InternalWalks.{instanceIn}
 use Rattle.shown_points.proofs.PointClasses.{shown-at}
 use Rattle.listing.specs.Listing.{recordWidth}
 use Rattle.listing.proofs.PointRuns.{shown-numbers}

@@ -6,7 +6,9 @@ use lib.ListN.{length, getD}
 use Rattle.catalog.specs.Rules.{run}
 use Rattle.model_definitions.specs.Definitions.{pointsSize}
 use Rattle.layout.specs.Reading.{padLeftOut}
-use Rattle.layout.specs.InternalWalks.{onward, contentFrom, tableWith, presentWithin, presentPoints}
+use Rattle.layout.specs.FrameWalk.{onward}
+use Rattle.layout.specs.PointTables.{tableWith, presentWithin}
+use Rattle.layout.specs.InternalWalks.{contentFrom, presentPoints}
 use Rattle.layout.proofs.FrameRuns.{content-recorded}
 use Rattle.definition_frames.proofs.RunSteps.{content-run}
 use Rattle.definition_frames.proofs.PadTests.{content-pad}

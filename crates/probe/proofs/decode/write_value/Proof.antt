@@ -1,4 +1,4 @@
--- `probe::decode::write_value` is safe: a float's bits are asked for only where it is no NaN, which is what `values::decode` says of its answer.
+-- `probe::decode::write_value` is safe: it takes the bits only of a float that is not a NaN, by what `values::decode` ensures.
 use mathlib.Core.Path.{sym, ap, _∙_}
 use Rattle.values.specs.CodeTypes.{toSpecValue}
 use Rattle.values.proofs.NoNaN.{no-nan}

@@ -1,4 +1,4 @@
--- `probe::output::say_part` is safe, and ends by the count of the bars.
+-- `probe::output::say_part` is safe, and ends since it counts the bars.
 use Prim.Native.Nat.{_-_}
 use borrow.Author.Needs.{needs}
 use Rattle.probe.proofs.output.say_part.Statement.{statement}

@@ -1,4 +1,4 @@
--- `probe::output::signed` meets its contract: -1 less a number below 0 is a number from 0 on.
+-- `probe::output::signed` meets its contract: -1 - n is not below 0 for n below 0.
 use Prim.Native.Nat.{ℕ, suc, _-_, _<_, _^_}
 use native.Mathlib.Omega.{arith}
 use mathlib.Core.Path.{_≡_}
@@ -14,7 +14,7 @@ use mir.Facts.{fits-ofZ, sfits-toZ, toZ-pos}
 use Rattle.probe.proofs.output.signed.Statement.{statement}
 use Rattle.probe.proofs.output.signed.Tie as tie
 
--- what a number below 0 leaves of -1
+-- -1 - z as a natural number, for z below 0.
 record Left (z : ℤ) : Type 0 where
   number : ℕ
   small : number < 2 ^ 63

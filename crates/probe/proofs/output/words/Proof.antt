@@ -1,4 +1,4 @@
--- `probe::output::words` is safe, and ends by the count.
+-- `probe::output::words` is safe, and ends since it counts up to `count`.
 use Prim.Native.Nat.{_-_}
 use borrow.Author.Needs.{needs}
 use Rattle.probe.proofs.output.words.Statement.{statement}

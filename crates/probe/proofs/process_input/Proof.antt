@@ -1,11 +1,11 @@
--- `probe::answer_input` is safe, and ends by the count of its rounds. The loop's invariant: the buffer keeps its length, and what
--- was kept fits there.
+-- `probe::process_input` is safe, and ends since it counts its rounds. The loop's invariant: the buffer keeps its length, and
+-- the bytes kept fit in it.
 use Prim.Native.Nat.{_≤_, _-_}
 use mathlib.Core.Path.{_≡_}
 use lib.ListN.{length}
 use borrow.Author.Needs.{needs}
-use Rattle.probe.proofs.answer_input.Statement.{statement}
-use Rattle.probe.proofs.answer_input.Tie as tie
+use Rattle.probe.proofs.process_input.Statement.{statement}
+use Rattle.probe.proofs.process_input.Tie as tie
 
 abbrev Inv-loop : tie.InvT-loop
 Inv-loop input₀ kept₀ round₀ input kept round = (length input ≡ length input₀) × (kept ≤ length input)
@@ -13,8 +13,8 @@ Inv-loop input₀ kept₀ round₀ input kept round = (length input ≡ length i
 abbrev μ-loop : tie.MeasureT-loop
 μ-loop input₀ kept₀ round₀ input kept round = 64 - round
 
-pub answer-input-spec : {M : Type 1} → statement M
-answer-input-spec =
+pub process-input-spec : {M : Type 1} → statement M
+process-input-spec =
     tie.close
     (tie.spec
     Inv-loop

@@ -1,9 +1,9 @@
--- `probe::answer_lines` meets its contract, and ends: each line starts after the one before it.
+-- `probe::process_lines` meets its contract, and ends: each line starts after the one before it.
 use Prim.Native.Nat.{_-_}
 use lib.ListN.{length}
 use borrow.Author.Needs.{needs}
-use Rattle.probe.proofs.answer_lines.Statement.{statement}
-use Rattle.probe.proofs.answer_lines.Tie as tie
+use Rattle.probe.proofs.process_lines.Statement.{statement}
+use Rattle.probe.proofs.process_lines.Tie as tie
 
 abbrev Inv-loop : tie.InvT-loop
 Inv-loop input at₀ at = Unit {0}
@@ -11,8 +11,8 @@ Inv-loop input at₀ at = Unit {0}
 abbrev μ-loop : tie.MeasureT-loop
 μ-loop input at₀ at = length input - at
 
-pub answer-lines-spec : {M : Type 1} → statement M
-answer-lines-spec =
+pub process-lines-spec : {M : Type 1} → statement M
+process-lines-spec =
     tie.close
     (tie.spec
     Inv-loop
