@@ -20,7 +20,7 @@ use Rattle.layout.proofs.GroupDescent.{top-groups}
 use Rattle.layout.proofs.ScopeOnly.{Agree, within-own}
 use Rattle.layout.proofs.RecordedPoints.{table-with-length, table-with-scope, numbers-in-table, present-all}
 use Rattle.layout.proofs.LeftOutPad.{but-one, left-out, no-fill}
-use Rattle.listing.specs.CodeTypes.{toSpecSurvey}
+use Rattle.listing.specs.InternalCodeTypes.{toSpecSurvey}
 use Rattle.listing.specs.InternalContracts.{RunOf, ExtentOf, fittedBy, ReadyBy}
 use Rattle.definition_frames.specs.declared.runs.Run.{Run}
 use Rattle.listing.specs.declared.extents.Extent.{Extent}

@@ -28,7 +28,7 @@ use Rattle.layout.proofs.LeftOutPad.{but-one, left-out}
 use Rattle.layout.proofs.CountsAgree.{measures-agree, fills-agree, unimplemented-agrees}
 use Rattle.group_instances.specs.Fills.{filled}
 use Rattle.group_instances.proofs.FillCounts as fills
-use Rattle.listing.specs.CodeTypes.{toSpecSurvey}
+use Rattle.listing.specs.InternalCodeTypes.{toSpecSurvey}
 use Rattle.listing.specs.InternalContracts.{ExtentOf, surveyedBy, fittedBy, ReadyBy}
 use Rattle.definition_frames.specs.declared.runs.Run.{Run}
 use Rattle.listing.specs.declared.extents.Extent.{Extent}

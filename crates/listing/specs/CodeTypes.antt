@@ -1,22 +1,15 @@
--- The code's types as values of the definitions: what `list` and `find` return, and the results of private functions.
+-- The code's types as values of the definitions: what `list` and `find` return.
 use mathlib.Core.Path.{_≡_}
-use mathlib.Core.Option.{Option, none, some}
 use mathlib.Core.List.{List}
 use Prim.Native.Nat.{ℕ, _+_, _-_, _/_, _≤_}
 use lib.ListN.{length}
 use Rattle.catalog_frames.specs.CodeTypes.{toSpecPoint}
-use Rattle.model_definitions.specs.Definitions.{Content}
 use Rattle.register_map.specs.Scan.{scan}
-use Rattle.layout.specs.Locating as Locating
-use Rattle.layout.specs.InternalWalks.{contentFrom, Surveyed, surveyedUnknown, surveyedRefused, surveyedPoints}
 use Rattle.listing.specs.Listing as Listing
 use Rattle.listing.specs.declared.Listing as Code
 use Rattle.listing.specs.Finding as Finding
 use Rattle.listing.specs.declared.search.Finding as CodeFinding
 use Rattle.listing.specs.declared.search.Target.{Target}
-use Rattle.listing.specs.declared.frames.Found.{Found}
-use Rattle.listing.specs.declared.surveys.Survey.{Survey}
-use Rattle.listing.specs.declared.locating.Located.{Located}
 
 -- What `list` returns. A refusal has no field for the count of points: it means count 0.
 abbrev pub toSpecListing : Code.Listing → Listing.Result
@@ -42,19 +35,3 @@ abbrev pub toSpecFinding : CodeFinding.Finding → Finding.Result
 toSpecFinding (CodeFinding.Finding.Found t) = Finding.foundResult (toSpecTarget t)
 toSpecFinding CodeFinding.Finding.Nothing = Finding.nothingResult
 toSpecFinding (CodeFinding.Finding.Refused number place) = Finding.refusedResult number place
-
--- Internal: the top group of the definition that `find_model` found, if any.
-abbrev pub toSpecFound : List ℕ → Found → Option Content
-toSpecFound ws (Found.At i) = some (contentFrom ws i)
-toSpecFound ws Found.Nothing = none
-
--- Internal: the result of a survey.
-abbrev pub toSpecSurvey : Survey → Surveyed
-toSpecSurvey Survey.Unknown = surveyedUnknown
-toSpecSurvey (Survey.Refused number) = surveyedRefused number
-toSpecSurvey (Survey.Points first points fill) = surveyedPoints points
-
--- Internal: the point that was located, if any.
-abbrev pub toSpecLocated : Located → Option Locating.Located
-toSpecLocated (Located.At l) = some (record { offset = l .offset; definition = toSpecPoint (l .point) })
-toSpecLocated Located.Nothing = none

@@ -6,7 +6,7 @@ ghost use Rattle.catalog_frames.specs.Frames.{frameIn};
 ghost use Rattle.model_definitions.specs.Definitions.{definitions};
 ghost use Rattle.layout.specs.Reading.{topOf};
 ghost use Rattle.layout.specs.InternalWalks.{Accepted, isModelOf};
-ghost use Rattle.listing.specs.CodeTypes.{toSpecFound};
+ghost use Rattle.listing.specs.InternalCodeTypes.{toSpecFound};
 ghost use Rattle.listing.specs.InternalContracts.{FoundParses};
 
 // The frame where a definition begins, right after its model frame; or that the catalog lacks it.

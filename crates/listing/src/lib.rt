@@ -37,6 +37,7 @@ ghost use Rattle.layout.specs.Reading.{reading};
 ghost use Rattle.layout.specs.InternalWalks.{Accepted, IsTable, pointsOf, readIn};
 ghost use Rattle.listing.specs.Listing as Listings;
 ghost use Rattle.listing.specs.CodeTypes.{toSpecListing, HeadersCounted};
+ghost use Rattle.listing.specs.Calls.{ListCall};
 ghost use Rattle.listing.specs.InternalContracts.{written, bodyAt, WalkFits};
 
 // What `list` returns: the count of points and the number of headers; or a refusal's number, its place and the
@@ -61,6 +62,7 @@ pub fn list(catalog: &[u16], map: &[u16], out: &mut [u64]) -> Listing
     ensures { λ r. ⌜ toSpecListing r ≡ Listings.result (Listings.listing (now (catalog .entry)) (now (map .entry)) (length (now (out .entry)))) ⌝ }
     ensures { λ _. ⌜ now (out .exit) ≡ Listings.stored (Listings.listing (now (catalog .entry)) (now (map .entry)) (length (now (out .entry)))) (now (out .entry)) ⌝ }
     ensures { λ r. ⌜ HeadersCounted (now (map .entry)) r ⌝ }
+    ensures { λ r. ⌜ ListCall (now (catalog .entry)) (now (map .entry)) (now (out .entry)) r (now (out .exit)) ⌝ }
 {
     let mut table = [0u16; NUMBERS];
     let survey = survey_plant(catalog, map, &mut table);

@@ -24,7 +24,7 @@ ghost use Rattle.layout.specs.FrameWalk.{headOf};
 ghost use Rattle.layout.specs.PointTables.{scopeIn, presentWithin};
 ghost use Rattle.layout.specs.InternalWalks.{contentFrom, ParsesAt, levelOf, IsTable, AtGroups};
 ghost use Rattle.layout.specs.Locating.{locatedAmong, locatedOwn, locatedIn};
-ghost use Rattle.listing.specs.CodeTypes.{toSpecLocated};
+ghost use Rattle.listing.specs.InternalCodeTypes.{toSpecLocated};
 ghost use Rattle.listing.specs.InternalContracts.{ModelAsks, locatedWithin, LocateAsks, ShapeOf};
 
 // The search key: a point's number and its instance path.

@@ -17,7 +17,7 @@ ghost use lib.ListN.{length};
 ghost use Rattle.model_definitions.specs.Definitions.{definitions};
 ghost use Rattle.layout.specs.Reading.{readBy, topOf};
 ghost use Rattle.layout.specs.InternalWalks.{contentFrom, ParsesAt, Accepted, IsTable, surveyed, readIn};
-ghost use Rattle.listing.specs.CodeTypes.{toSpecSurvey};
+ghost use Rattle.listing.specs.InternalCodeTypes.{toSpecSurvey};
 ghost use Rattle.listing.specs.InternalContracts.{ReadyBy, fittedBy};
 
 // The result of a survey: the catalog lacks the model's id; a refusal (27 to 29); or the frame where the definition

@@ -10,6 +10,7 @@ use Rattle.listing.specs.declared.Listing as Code
 use Rattle.listing.specs.Listing.{walked, allRecords, listing, listedResult, result, stored, recordWidth}
 use Rattle.listing.specs.InternalContracts.{WalkFits}
 use Rattle.listing.specs.CodeTypes.{toSpecListing, HeadersCounted}
+use Rattle.listing.specs.Calls.{ListCall}
 use Rattle.listing.proofs.ListingCases.{Walks, records-walk, listing-records}
 use Rattle.listing.proofs.ResultCases.{result-listed}
 use Rattle.listing.proofs.HeadersCounted.{headers-counted}
@@ -30,12 +31,13 @@ survey-walk catalog registers out points headers e capacity =
     let fits = has-capacity out (allRecords catalog registers) points headers e capacity .0 in
     (w, subst (λ a. WalkFits a out) (sym (w .walks)) fits, w .walks)
 
--- The headers follow from the result.
+-- The headers follow from the result, and both equations make the call.
 with-headers : (catalog map out : List ℕ) (r : Code.Listing) {out′ : List ℕ}
     → Answered (listing catalog map (length out)) out (toSpecListing r) out′
     → (toSpecListing r ≡ result (listing catalog map (length out)))
-    × ((out′ ≡ stored (listing catalog map (length out)) out) × HeadersCounted map r)
-with-headers catalog map out r w = (w .0, (w .1, headers-counted catalog map (length out) r (w .0)))
+    × ((out′ ≡ stored (listing catalog map (length out)) out) × (HeadersCounted map r × ListCall catalog map out r out′))
+with-headers catalog map out r w =
+    (w .0, (w .1, (headers-counted catalog map (length out) r (w .0), record { result = w .0; list = w .1 })))
 
 slice-aggregate-survey-plant : tie.Need-slice-aggregate-survey-plant
 slice-aggregate-survey-plant c = sym (length-replicate {A = ℕ} 65536 0)

@@ -10,7 +10,7 @@ use Rattle.layout.specs.Points.{ModelPoint}
 use Rattle.layout.specs.Reading.{Reading}
 use Rattle.layout.specs.InternalWalks.{pointsOf, readIn}
 use Rattle.listing.specs.Listing.{recordWidth}
-use Rattle.listing.specs.CodeTypes.{toSpecSurvey}
+use Rattle.listing.specs.InternalCodeTypes.{toSpecSurvey}
 use Rattle.listing.specs.InternalContracts.{ReadyBy, written}
 use Rattle.listing.proofs.MapSurvey.{no-points-unknown, no-points-refused, has-points}
 use Rattle.listing.proofs.MapRecords.{nothing-written}

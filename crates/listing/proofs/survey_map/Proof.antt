@@ -12,7 +12,7 @@ use Rattle.register_map.proofs.HeaderCases.{model-ends}
 use Rattle.layout.specs.Reading.{reading}
 use Rattle.layout.specs.InternalWalks.{IsTable, surveyed}
 use Rattle.layout.proofs.PointsInside.{points-few}
-use Rattle.listing.specs.CodeTypes.{toSpecSurvey}
+use Rattle.listing.specs.InternalCodeTypes.{toSpecSurvey}
 use Rattle.listing.proofs.MapSteps.{body-length}
 use Rattle.listing.proofs.MapSurvey.{Surveying, survey-starts, survey-ends, survey-refused, survey-late, survey-unknown, survey-faulty, more-fit, survey-points}
 use Rattle.listing.proofs.survey_map.Statement.{statement}

@@ -14,7 +14,7 @@ use Rattle.layout.specs.InternalWalks.{contentFrom, levelOf}
 use Rattle.layout.specs.Locating.{locatedIn}
 use Rattle.layout.proofs.FramePosition as position
 use Rattle.definition_frames.specs.CodeTypes.{toSpecGroupOr}
-use Rattle.listing.specs.CodeTypes.{toSpecLocated}
+use Rattle.listing.specs.InternalCodeTypes.{toSpecLocated}
 use Rattle.listing.specs.InternalContracts.{LocateAsks}
 use Rattle.listing.proofs.LocatedGroups as steps
 use Rattle.listing.proofs.LocatedGroups.{AtGroup}

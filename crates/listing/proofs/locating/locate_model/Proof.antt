@@ -10,7 +10,7 @@ use Rattle.layout.specs.InternalWalks.{contentFrom}
 use Rattle.layout.specs.Locating.{Located, orElse, locatedIn}
 use Rattle.layout.proofs.FramePosition as position
 use Rattle.definition_frames.proofs.RunSteps.{content-run}
-use Rattle.listing.specs.CodeTypes.{toSpecLocated}
+use Rattle.listing.specs.InternalCodeTypes.{toSpecLocated}
 use Rattle.listing.specs.InternalContracts.{RunOf, LocateAsks}
 use Rattle.listing.proofs.locating.locate_model.Statement.{statement}
 use Rattle.listing.proofs.locating.locate_model.Tie as tie

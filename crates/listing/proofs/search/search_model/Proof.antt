@@ -11,7 +11,7 @@ use Rattle.layout.specs.Paths.{isPoint}
 use Rattle.layout.specs.Reading.{Reading}
 use Rattle.layout.specs.InternalWalks.{readIn}
 use Rattle.listing.specs.Finding.{nothingResult, foundResult}
-use Rattle.listing.specs.CodeTypes.{toSpecSurvey, toSpecLocated}
+use Rattle.listing.specs.InternalCodeTypes.{toSpecSurvey, toSpecLocated}
 use Rattle.listing.specs.InternalContracts.{ReadyBy, resultAt}
 use Rattle.listing.proofs.MapSurvey.{no-points-unknown, no-points-refused, has-points}
 use Rattle.listing.proofs.LocatedModels as model

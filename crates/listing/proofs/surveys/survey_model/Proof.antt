@@ -3,7 +3,7 @@ use mathlib.Core.Path.{sym, ap, subst, _∙_}
 use Rattle.model_definitions.specs.Definitions.{definitions}
 use Rattle.layout.specs.InternalWalks.{contentFrom, surveyed}
 use Rattle.layout.proofs.AcceptedModels.{read-known, read-unknown}
-use Rattle.listing.specs.CodeTypes.{toSpecFound}
+use Rattle.listing.specs.InternalCodeTypes.{toSpecFound}
 use Rattle.listing.specs.InternalContracts.{FoundParses}
 use Rattle.listing.proofs.surveys.survey_model.Statement.{statement}
 use Rattle.listing.proofs.surveys.survey_model.Tie as tie
