@@ -1,5 +1,6 @@
 -- The claims
 pub mod ReadBack
+pub mod WrittenReadsBack
 pub mod OtherRecords
 pub mod NoSuchPoint
 pub mod SameValue

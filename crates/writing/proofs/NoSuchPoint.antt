@@ -9,36 +9,15 @@ use Rattle.lists.specs.Members.{In}
 use Rattle.lists.proofs.TestOutcomes.{impossible}
 use Rattle.lists.proofs.FirstFound.{not-none, none-found}
 use Rattle.layout.specs.Paths.{pathOf}
-use Rattle.listing.specs.Listing.{Record, listed, allRecords, listing}
-use Rattle.listing.specs.Finding.{isRecord, finding, targetOf}
-use Rattle.listing.specs.Finding as Finding
+use Rattle.listing.specs.Listing.{Record, listed, allRecords}
+use Rattle.listing.specs.Finding.{isRecord, targetOf}
 use Rattle.listing.proofs.WalkSteps.{not-listed}
 use Rattle.listed_records.proofs.ListingInversion.{listed-walks}
 use Rattle.listing.proofs.ListingCases.{walk-records}
 use Rattle.listed_records.proofs.OneRecord.{own-found}
 use Rattle.writing.specs.Writing.{Answer, refused, writing}
+use Rattle.writing.specs.NoSuchPoint.{Missing, NoSuchPointExact}
 use Rattle.writing.proofs.WritingCases.{Case, listingRefused, noPoint, pointRefused, pointWritten, writing-case, finding-found, records-number, refusal-number}
-
--- There is no such point: of all records that the map has, and so of those that a listing shows, none is that of the point asked for.
-pub record Missing (catalog map : List ℕ) (index number : ℕ) (path : List ℕ) : Type 0 where
-  pub records : List Record
-  pub headers : ℕ
-  pub all : allRecords catalog map ≡ listed records headers
-  pub none : Each (λ r. isRecord index number path r ≡ false) records
-  pub unlisted : (capacity : ℕ) (rs : List Record) (n : ℕ) → listing catalog map capacity ≡ listed rs n
-      → Each (λ r. isRecord index number path r ≡ false) rs
-
--- What is claimed of 31. A point that listing shows, with any room, is found by its index, number and path, and none else; so it
--- is never refused so, whatever the raw value. And where a write is refused so, the place is 0 and there is no such point.
-pub record NoSuchPointExact (catalog map : List ℕ) : Type 0 where
-  pub shownIsIt : (capacity : ℕ) (rs : List Record) (headers : ℕ) → listing catalog map capacity ≡ listed rs headers
-      → (r : Record) → In r rs
-      → finding catalog map (r .index) (r .point .definition .number) (pathOf (r .point)) ≡ Finding.found r
-  pub shownIsFound : (capacity : ℕ) (rs : List Record) (headers : ℕ) → listing catalog map capacity ≡ listed rs headers
-      → (r : Record) → In r rs → (raw place : ℕ)
-      → writing catalog map (r .index) (r .point .definition .number) (pathOf (r .point)) raw ≡ refused 31 place → ⊥
-  pub refusedIsMissing : (index number : ℕ) (path : List ℕ) (raw place : ℕ)
-      → writing catalog map index number path raw ≡ refused 31 place → (place ≡ 0) × Missing catalog map index number path
 
 module _ (catalog map : List ℕ) where
   -- A point that is one of all records is not refused so, in whatever way the answer is reached.

@@ -11,49 +11,20 @@ use lib.Dec.{eqb}
 use lib.ListN.{length, take}
 use lib.Seq.{take-at}
 use Rattle.lists.specs.Members.{In}
-use Rattle.lists.specs.Tests.{firstWith}
 use Rattle.lists.specs.Each.{Pairwise}
 use Rattle.lists.proofs.FirstFound.{found-in}
 use Rattle.lists.proofs.PairwiseLaws.{pairwise-at, pairwise-implied}
 use Rattle.model_definitions.specs.Definitions.{Content, Definition, definitions}
 use Rattle.register_map.specs.Scan.{totalSize, scan}
 use Rattle.layout.specs.Reading.{topOf}
-use Rattle.listing.specs.Listing.{Record, listed, allRecords, listing}
+use Rattle.listing.specs.Listing.{Record, listed, allRecords}
 use Rattle.listing.specs.Finding.{isRecord}
 use Rattle.listed_records.proofs.RecordSources.{record-source}
 use Rattle.writing.specs.Writing.{written, writing}
-use Rattle.writing.specs.AfterWriting.{isScaleFactorOf, Holds, rescaled, RecordAfter}
+use Rattle.writing.specs.AfterWriting.{isScaleFactorOf, RecordAfter}
+use Rattle.writing.specs.OtherRecords.{Change, OtherRecords}
 use Rattle.writing.proofs.AfterCases.{after-unchanged, after-here, after-scaled, after-unscaled}
 use Rattle.writing.proofs.ReadBack.{read-back, shown-after}
-
--- A record r has become s by writing a raw value to the point of the record w, in a model with this top group. It keeps its
--- index, id and address. One of another model is unchanged. One of the same model that is not w, by its address, is unchanged
--- where w is not its scale factor; where w is, only its status and scale change. And w itself holds the raw value.
-pub record Change (top : Content) (w : Record) (raw : ℕ) (r s : Record) : Type 0 where
-  pub index : s .index ≡ r .index
-  pub id : s .id ≡ r .id
-  pub address : s .address ≡ r .address
-  pub unchanged : (r .index ≡ w .index → ⊥) → s ≡ r
-  pub unscaled : (r .address ≡ w .address → ⊥) → isScaleFactorOf top (w .point) (r .point) ≡ false → s ≡ r
-  pub scaled : r .index ≡ w .index → (r .address ≡ w .address → ⊥) → isScaleFactorOf top (w .point) (r .point) ≡ true
-      → s ≡ record { index = r .index; id = r .id; address = r .address; point = rescaled raw (r .point) }
-  pub holds : r .index ≡ w .index → r .address ≡ w .address → Holds raw (r .point) (s .point)
-
--- What an accepted write makes of the records, and so of what a listing shows, whatever the room: as many as before, in the same
--- order, each changed so by the point that was found.
-pub record OtherRecords (catalog map : List ℕ) (index number : ℕ) (path : List ℕ) (raw : ℕ) (new : List ℕ) : Type 0 where
-  pub before : List Record
-  pub after : List Record
-  pub headers : ℕ
-  pub allBefore : allRecords catalog map ≡ listed before headers
-  pub allAfter : allRecords catalog new ≡ listed after headers
-  pub point : Record
-  pub found : firstWith (isRecord index number path) before ≡ some point
-  pub top : Content
-  pub known : topOf (point .id) (definitions catalog) ≡ some top
-  pub changes : Pairwise (Change top point raw) before after
-  pub shown : (capacity : ℕ) (rs : List Record) (n : ℕ) → listing catalog map capacity ≡ listed rs n
-      → (rs ≡ before) × (listing catalog new capacity ≡ listed after n)
 
 module _ (catalog map : List ℕ) (rs : List Record) (headers : ℕ) (all : allRecords catalog map ≡ listed rs headers) where
   -- A record's address, by its index and its offset.

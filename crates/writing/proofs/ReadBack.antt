@@ -2,13 +2,10 @@
 use mathlib.Core.Path.{_≡_, sym, ap, subst, _∙_}
 use mathlib.Core.List.{List}
 use mathlib.Core.Logic.{_⊎_}
-use mathlib.Core.Option.{none, some}
 use Prim.Native.Nat.{ℕ, _+_, _≤_, _<_}
 use native.Mathlib.Omega.{arith}
 use lib.ListN.{length, getD}
 use lib.Seq.{length-sets}
-use Rattle.lists.specs.Tests.{firstWith}
-use Rattle.lists.specs.Each.{Pairwise}
 use Rattle.lists.proofs.PairwiseLaws.{pairwise-length, pairwise-found}
 use Rattle.registers.specs.Registers.{split}
 use Rattle.registers.proofs.Splitting.{split-length}
@@ -18,36 +15,12 @@ use Rattle.listing.specs.Listing.{Record, listed, allRecords, withCapacity, lis
 use Rattle.listing.specs.Finding.{isRecord, targetOf}
 use Rattle.listing.proofs.ListingCases.{with-capacity, listing-records, walk-records}
 use Rattle.listed_records.proofs.ListingInversion.{listed-walks}
-use Rattle.writing.specs.Writing.{refusal, rewritten, written, writing}
+use Rattle.writing.specs.Writing.{rewritten, written, writing}
 use Rattle.writing.specs.AfterWriting.{RecordAfter}
+use Rattle.writing.specs.ReadBack.{ReadBack}
 use Rattle.writing.proofs.WritingCases.{accepted-write}
 use Rattle.writing.proofs.AfterCases.{same-record, after-written}
 use Rattle.writing.proofs.MapAfter.{map-after}
-
--- What an accepted write comes to. Before: the records of the map, and the one of the point asked for, which is not refused.
--- After: as many records, each as writing makes it; the point asked for, at its address, has the raw value, and is neither
--- unimplemented nor out of range. Registers that are not the point's are as they were.
-pub record ReadBack (catalog map : List ℕ) (index number : ℕ) (path : List ℕ) (raw : ℕ) (new : List ℕ) : Type 0 where
-  pub before : List Record
-  pub headers : ℕ
-  pub allBefore : allRecords catalog map ≡ listed before headers
-  pub point : Record
-  pub found : firstWith (isRecord index number path) before ≡ some point
-  pub accepted : refusal (targetOf point) raw ≡ none
-  pub rewrites : new ≡ rewritten (targetOf point) raw map
-  pub after : List Record
-  pub allAfter : allRecords catalog new ≡ listed after headers
-  pub pairs : Pairwise (RecordAfter (definitions catalog) point raw) before after
-  pub pointAfter : Record
-  pub foundAfter : firstWith (isRecord index number path) after ≡ some pointAfter
-  pub holds : pointAfter .point .raw ≡ raw
-  pub address : pointAfter .address ≡ point .address
-  pub implemented : pointAfter .point .status ≡ 1 → ⊥
-  pub mandatory : pointAfter .point .status ≡ 2 → ⊥
-  pub inRange : pointAfter .point .status ≡ 5 → ⊥
-  pub sameLength : length new ≡ length map
-  pub outside : (k : ℕ) → (k < point .address) ⊎ (point .address + point .point .definition .size ≤ k)
-      → getD new k 0 ≡ getD map k 0
 
 module _ (w : Record) (raw : ℕ) (map : List ℕ) where
   -- The map stays as long as it was,

@@ -1,5 +1,5 @@
 -- Writes on one plant, computed by the definitions: a scale factor in a group of two instances, and each refusal.
-use mathlib.Core.Path.{_≡_, refl}
+use mathlib.Core.Path.{_≡_, refl, sym, ap}
 use mathlib.Core.Bool.{Bool, true, false}
 use mathlib.Core.List.{List, [], _∷_, _++_, map}
 use mathlib.Core.Option.{Option, none, some}
@@ -23,9 +23,14 @@ use Rattle.listing.specs.Listing as Listing
 use Rattle.listing.specs.Listing.{Record, recordNumbers, walk, recordsBy, allRecords, withCapacity, listing}
 use Rattle.listing.specs.Finding.{isRecord, finding}
 use Rattle.listed_records.proofs.WorkedCases.{Shown, listed, shown, model, times, point, uint16, scaled, sunssf, end, joined, body, row}
-use Rattle.writing.specs.Writing.{refusal, rewritten, Answer, refused, written, writing}
+use Rattle.writing.specs.Writing.{refusal, rewritten, Answer, refused, written, mapAfter, writing, result}
 use Rattle.writing.specs.AfterWriting.{isScaleFactorOf}
-use Rattle.writing.proofs.OtherRecords.{OtherRecords, other-records}
+use Rattle.writing.specs.Calls.{WriteCall}
+use Rattle.writing.specs.ReadBack.{ReadBack}
+use Rattle.writing.specs.OtherRecords.{OtherRecords}
+use Rattle.writing.specs.declared.Written.{Written}
+use Rattle.writing.proofs.OtherRecords.{other-records}
+use Rattle.writing.proofs.WrittenReadsBack.{done-reads-back}
 
 -- ---- The plant
 
@@ -73,6 +78,14 @@ unfolding checkFrom checked framesFrom frameOf isSizeOf rows rowAmong mayScale r
     allRecords firstWith finding split refusal rewritten writing
 factor-written = refl
 
+-- A scale factor of 11 is refused.
+pub eleven-refused : writing catalog plant 1 7 (instance 0) 11 ≡ refused 35 0
+unfolding checkFrom checked framesFrom frameOf isSizeOf rows rowAmong mayScale registersOf twosComplement join shownRaw tooWide
+    integer inRange classOf classified parsed opening scanFrom scan pointAt within measured fillMeasured countUnimplemented
+    fits fillOf pointsAt instances groupsBy entered contentAt endsWithPad allButLast readFull readBy topOf reading walk recordsBy
+    allRecords firstWith finding split refusal rewritten writing
+eleven-refused = refl
+
 -- The records by the status and scale of the scaled point of instance 1, and by the status and raw value of its scale factor.
 abbrev recordsWith : ℕ → ℕ → ℕ → ℕ → Shown
 recordsWith status scale factorStatus factor =
@@ -100,6 +113,25 @@ records-changed = refl
 -- So says the theorem on all records, for this write.
 pub others : OtherRecords catalog plant 1 7 (instance 1) 0xFFFE rescaledPlant
 others = other-records catalog plant 1 7 (instance 1) 0xFFFE rescaledPlant factor-written
+
+-- A call of `write` that returns `Done` and leaves that map is as the contract says, so the law from the contract applies to it.
+pub factor-call : WriteCall catalog plant 1 7 (instance 1) 0xFFFE Written.Done rescaledPlant
+factor-call =
+    record {
+      result = sym (ap result factor-written);
+      leaves = sym (ap (λ a. mapAfter a plant) factor-written);
+    }
+
+pub factor-reads-back : ReadBack catalog plant 1 7 (instance 1) 0xFFFE rescaledPlant
+factor-reads-back = done-reads-back catalog plant 1 7 (instance 1) 0xFFFE rescaledPlant factor-call
+
+-- So is a call that returns 35 and leaves the plant as it was: 11 is no scale factor.
+pub refused-call : WriteCall catalog plant 1 7 (instance 0) 11 (Written.Refused 35 0) plant
+refused-call =
+    record {
+      result = sym (ap result eleven-refused);
+      leaves = sym (ap (λ a. mapAfter a plant) eleven-refused);
+    }
 
 -- Whose scale factor a point of the plant is: of each record in turn.
 abbrev scaledBy : ℕ → List ℕ → Listing.Answer → Option Content → List Bool

@@ -1,4 +1,8 @@
 pub mod Writing
-pub mod AfterWriting
 pub mod CodeTypes
+pub mod Calls
+pub mod AfterWriting
+pub mod ReadBack
+pub mod OtherRecords
+pub mod NoSuchPoint
 pub mod InternalContracts

@@ -1,0 +1,59 @@
+-- From what the contract of `write` says of a call, and nothing else: a call that returns Done has written the point and the map
+-- reads back; a call that returns a refusal has changed nothing.
+use mathlib.Core.Path.{_≡_, refl, sym, ap, _∙_}
+use mathlib.Core.List.{List}
+use Prim.Native.Nat.{ℕ}
+use Rattle.lists.proofs.TestOutcomes.{impossible}
+use Rattle.writing.specs.Writing.{Answer, refused, written, mapAfter, writing, refusedResult, writtenResult, result}
+use Rattle.writing.specs.Calls.{WriteCall}
+use Rattle.writing.specs.ReadBack.{ReadBack}
+use Rattle.writing.specs.OtherRecords.{OtherRecords}
+use Rattle.writing.specs.declared.Written.{Written}
+use Rattle.writing.proofs.ReadBack.{read-back}
+use Rattle.writing.proofs.OtherRecords.{other-records}
+
+-- ---- Answers by their results
+
+-- The result of an accepted write is that of a new map, and that map is the one after it.
+written-by-result : (answer : Answer) (map after : List ℕ) → writtenResult ≡ result answer → after ≡ mapAfter answer map
+    → answer ≡ written after
+written-by-result (refused n place) map after e l = impossible (cc)
+written-by-result (written new) map after e l = ap written (sym l)
+
+-- The result of a refusal is that of a refusal with the same number and place, and the map after it is the old one.
+refused-by-result : (answer : Answer) (map after : List ℕ) (number place : ℕ) → refusedResult number place ≡ result answer
+    → after ≡ mapAfter answer map → (answer ≡ refused number place) × (after ≡ map)
+refused-by-result (refused n p) map after number place e l = (cc, l)
+refused-by-result (written new) map after number place e l = impossible (cc)
+
+-- ---- Calls
+
+module _ (catalog map : List ℕ) (index number : ℕ) (path : List ℕ) (raw : ℕ) (after : List ℕ) where
+  -- `Done` is returned only if the definition accepts the write, and the map left is the definition's.
+  pub done-accepts : WriteCall catalog map index number path raw Written.Done after
+      → writing catalog map index number path raw ≡ written after
+  done-accepts c = written-by-result (writing catalog map index number path raw) map after (c .result) (c .leaves)
+
+  -- After a call that returns `Done`, the point reads back.
+  pub done-reads-back : WriteCall catalog map index number path raw Written.Done after
+      → ReadBack catalog map index number path raw after
+  done-reads-back c = read-back catalog map index number path raw after (done-accepts c)
+
+  -- After a call that returns `Done`, every record is as before, but for the point and the points that it scales.
+  pub done-other-records : WriteCall catalog map index number path raw Written.Done after
+      → OtherRecords catalog map index number path raw after
+  done-other-records c = other-records catalog map index number path raw after (done-accepts c)
+
+  -- A call that returns a refusal leaves the map as it was, and the definition refuses with the same number and place.
+  pub refused-changes-nothing : (n place : ℕ) → WriteCall catalog map index number path raw (Written.Refused n place) after
+      → (writing catalog map index number path raw ≡ refused n place) × (after ≡ map)
+  refused-changes-nothing n place c =
+      refused-by-result (writing catalog map index number path raw) map after n place (c .result) (c .leaves)
+
+  -- If the definition accepts the write, every call returns `Done` and leaves the definition's map.
+  pub accepts-done : (returned : Written) (new : List ℕ) → WriteCall catalog map index number path raw returned after
+      → writing catalog map index number path raw ≡ written new → (returned ≡ Written.Done) × (after ≡ new)
+  accepts-done Written.Done new c e = (refl, c .leaves ∙ ap (λ x. mapAfter x map) e)
+  accepts-done (Written.Refused n place) new c e =
+      let r = refused-changes-nothing n place c .0 in
+      impossible (cc)

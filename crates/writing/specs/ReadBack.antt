@@ -1,0 +1,40 @@
+-- The claim that an accepted write reads back (document 01, "Writing": "Only that point's registers change").
+-- Proof: `proofs/ReadBack.antt`.
+use mathlib.Core.Path.{_≡_}
+use mathlib.Core.List.{List}
+use mathlib.Core.Logic.{_⊎_}
+use mathlib.Core.Option.{none, some}
+use Prim.Native.Nat.{ℕ, _+_, _≤_, _<_}
+use lib.ListN.{length, getD}
+use Rattle.lists.specs.Tests.{firstWith}
+use Rattle.lists.specs.Each.{Pairwise}
+use Rattle.model_definitions.specs.Definitions.{definitions}
+use Rattle.listing.specs.Listing.{Record, listed, allRecords}
+use Rattle.listing.specs.Finding.{isRecord, targetOf}
+use Rattle.writing.specs.Writing.{refusal, rewritten}
+use Rattle.writing.specs.AfterWriting.{RecordAfter}
+
+-- What holds after an accepted write of `raw`, where `new` is the map after it. Before: the map has records, and `point` is the
+-- record of the point asked for, which is not refused. After: the same number of records, each changed as `RecordAfter` says; the
+-- point asked for, at its address, has the value `raw`, and is neither unimplemented nor out of range. All other registers stay.
+pub record ReadBack (catalog map : List ℕ) (index number : ℕ) (path : List ℕ) (raw : ℕ) (new : List ℕ) : Type 0 where
+  pub before : List Record
+  pub headers : ℕ
+  pub allBefore : allRecords catalog map ≡ listed before headers
+  pub point : Record
+  pub found : firstWith (isRecord index number path) before ≡ some point
+  pub accepted : refusal (targetOf point) raw ≡ none
+  pub rewrites : new ≡ rewritten (targetOf point) raw map
+  pub after : List Record
+  pub allAfter : allRecords catalog new ≡ listed after headers
+  pub pairs : Pairwise (RecordAfter (definitions catalog) point raw) before after
+  pub pointAfter : Record
+  pub foundAfter : firstWith (isRecord index number path) after ≡ some pointAfter
+  pub holds : pointAfter .point .raw ≡ raw
+  pub address : pointAfter .address ≡ point .address
+  pub implemented : pointAfter .point .status ≡ 1 → ⊥
+  pub mandatory : pointAfter .point .status ≡ 2 → ⊥
+  pub inRange : pointAfter .point .status ≡ 5 → ⊥
+  pub sameLength : length new ≡ length map
+  pub outside : (k : ℕ) → (k < point .address) ⊎ (point .address + point .point .definition .size ≤ k)
+      → getD new k 0 ≡ getD map k 0
