@@ -1,7 +1,7 @@
 -- What a write makes of one model: its point holds the raw value, those that it scales are rescaled, all others stay.
 use mathlib.Core.Path.{_≡_, sym, ap, subst, _∙_}
 use mathlib.Core.Bool.{true, false}
-use mathlib.Core.List.{List}
+use mathlib.Core.List.{List, _++_}
 use Prim.Native.Nat.{ℕ, _-_, _≤_}
 use native.Mathlib.Omega.{arith}
 use borrow.Author.Tests.{eqb-true}
@@ -38,8 +38,9 @@ use Rattle.layout.proofs.ReadOnlyCounts as counts
 use Rattle.writing.specs.Writing.{canHold}
 use Rattle.writing.specs.AfterWriting.{PointAfter}
 use Rattle.writing.proofs.OnePointAfter as one
-use Rattle.writing.proofs.OnePointAfter.{fails, Write, inScope}
-use Rattle.writing.proofs.GroupsAfter as after
+use Rattle.writing.proofs.OnePointAfter.{fails, Write}
+use Rattle.writing.proofs.ScopesAfter as after
+use Rattle.writing.proofs.PairedWalk.{inScope, Enters, Deeper, Related, points-paired, content-paired}
 
 -- ---- One model
 
@@ -71,6 +72,22 @@ module _ (d : Definition) (sound : SoundDefinition d) (body : List ℕ) (ps : Li
         holds = holds;
       }
 
+  -- The scopes before and after the write, at each place of the model,
+  abbrev Scopes : List Point → List ℕ → Scope → Scope → Type 0
+  Scopes = one.Scopes (d .top) w raw body
+
+  -- within an instance,
+  enters : Enters body new (Place (d .top) w) Scopes
+  enters = after.scope-enters (d .top) w raw body (definedPoints d) write
+
+  -- and further down.
+  deeper : Deeper (d .top) Scopes
+  deeper = after.scope-deeper (d .top) w raw body (definedPoints d) write
+
+  -- What the write makes of the point at each place.
+  point : Related (definedPoints d) body new (Place (d .top) w) (PointAfter (d .top) w raw) Scopes
+  point s t path a around visible p = one.point-after (d .top) w raw body (definedPoints d) write s t path a around visible p
+
   -- A top point is one of the definition.
   topKnown : (p : Point) → In p (d .top .points) → In p (definedPoints d)
   topKnown p i = in-append-left p (d .top .points) (lowerPoints (d .top .groups)) i
@@ -99,8 +116,8 @@ module _ (d : Definition) (sound : SoundDefinition d) (body : List ℕ) (ps : Li
       after.own-becomes (d .top) w raw body (definedPoints d) write noInstance S 0 tops L each places nothing nothing in (
         pointsLeft (d .id) (d .top) new,
         read-left (d .id) (d .top) new (ap (λ (n : ℕ). padLeftOut (d .id) (d .top) n) same-length ∙ t),
-        after.points-after (d .top) w raw body (definedPoints d) write noInstance 0 tops L L each resolve
-            (λ p i. topKnown p (in-but-last p tops i)) S S′ scopes places,
+        points-paired (d .top) (definedPoints d) body new (Place (d .top) w) (PointAfter (d .top) w raw) Scopes enters deeper point
+            noInstance 0 tops L L each resolve (λ p i. topKnown p (in-but-last p tops i)) S S′ scopes places,
       )
 
   -- In a model that is read in full, by the places of its top points and of those of its groups.
@@ -115,7 +132,7 @@ module _ (d : Definition) (sound : SoundDefinition d) (body : List ℕ) (ps : Li
     now = topScope (d .top .points) new
 
     -- What the top points hold.
-    scopes : one.Scopes (d .top) w raw body (d .top .points) noInstance old now
+    scopes : Scopes (d .top .points) noInstance old now
     scopes =
         after.own-becomes (d .top) w raw body (definedPoints d) write noInstance old 0 (d .top .points) (d .top .points)
         (sound .points) ownPlaces nothing nothing
@@ -147,25 +164,13 @@ module _ (d : Definition) (sound : SoundDefinition d) (body : List ℕ) (ps : Li
     unfolding contentAt
     content-after lowerPlaces =
         let tops = d .top .points in
-        let g = d .top .groups in
-        let below = definition-below d sound in
         let R = PointAfter (d .top) w raw in
-        let shallow : (p : Point) → In p tops → p .number ≡ w .definition .number
-        → depthIn (w .definition .number) g ≤ 2 - 2 = λ p i e.
-        omega (arith, absent-depth (w .definition .number) g (rw (← e) (below .apart p i))) in
-        let ownPoints = pointsAt body (inScope old noInstance) 0 tops in
-        let lower = groupsAt body (countsOf (d .top) body) 2 (inScope old noInstance) (pointsSize tops) g in
         let again =
         counts.same-groups (d .top) (sound .groups) body new same-length read-only-stay (inScope now noInstance)
         (pointsSize tops) in
-        pairwise-append R ownPoints (pointsAt new (inScope now noInstance) 0 tops) lower
-        (groupsAt new (countsOf (d .top) new) 2 (inScope now noInstance) (pointsSize tops) g)
-        (after.points-after (d .top) w raw body (definedPoints d) write noInstance 0 tops tops tops (sound .points)
-        (points-resolve tops tops (sound .points)) topKnown old now scopes ownPlaces)
-        (subst (λ qs. Pairwise R lower qs) (sym again)
-        (after.groups-after (d .top) w raw body (definedPoints d) write (countsOf (d .top) body) tops tops 2 noInstance
-        (pointsSize tops) g below (omega arith) (λ _. omega arith) shallow topKnown
-        (λ p i. in-append-right p tops (lowerPoints g) i) old now scopes lowerPlaces))
+        subst (λ qs. Pairwise R (contentAt (d .top) body) (pointsAt new (inScope now noInstance) 0 tops ++ qs)) (sym again)
+        (content-paired d sound body new (Place (d .top) w) R Scopes enters deeper point (countsOf (d .top) body) old now scopes
+        ownPlaces lowerPlaces)
 
   -- Those of a model that is read in full.
   full-after : padLeftOut (d .id) (d .top) (length body) ≡ false → Full (d .top) body → After (contentAt (d .top) body)

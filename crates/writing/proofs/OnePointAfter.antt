@@ -21,7 +21,7 @@ use Rattle.catalog_frames.specs.Frames.{Point, scaleByPoint, sunssf}
 use Rattle.frame_rules.specs.FrameTests.{isSizeOf}
 use Rattle.model_definitions.specs.Definitions.{Content}
 use Rattle.model_definitions.specs.Soundness.{SoundPoint, ScaleResolves}
-use Rattle.layout.specs.Points.{ModelPoint, Scope, Instance, statusOf, scaleOf, registersAt, pointAt}
+use Rattle.layout.specs.Points.{ModelPoint, Scope, statusOf, scaleOf, registersAt, pointAt}
 use Rattle.layout.specs.Paths.{depthIn, agreeTo, pathOf}
 use Rattle.layout.proofs.ScopeOnly.{same-status, same-scale, shownAs, shown-same}
 use Rattle.layout.proofs.Places.{Place}
@@ -29,15 +29,12 @@ use Rattle.layout.proofs.Depths.{levels, agree-itself}
 use Rattle.writing.specs.Writing.{canHold}
 use Rattle.writing.specs.AfterWriting.{Holds, rescaled, PointAfter}
 use Rattle.writing.proofs.ValueStatus as status
+use Rattle.writing.proofs.PairedWalk.{inScope}
 
 -- A test fails that leads to a contradiction.
 pub fails : (b : Bool) → (b ≡ true → true ≡ false) → b ≡ false
 fails true f = f refl
 fails false f = refl
-
--- The instance with a scope and a path.
-abbrev pub inScope : Scope → List ℕ → Instance
-inScope scope path = record { scope = scope; path = path }
 
 -- What is known of a write of a raw number to the point w of a body, by a definition with these points.
 pub record Write (defined : List Point) (w : ModelPoint) (raw : ℕ) (body : List ℕ) : Type 0 where

@@ -24,6 +24,7 @@ use Rattle.writing.specs.Writing.{written, writing}
 use Rattle.writing.specs.AfterWriting.{isScaleFactorOf, RecordAfter}
 use Rattle.writing.specs.OtherRecords.{Change, OtherRecords}
 use Rattle.writing.proofs.AfterCases.{after-unchanged, after-here, after-scaled, after-unscaled}
+use Rattle.writing.proofs.ScaleFactors.{scale-factors}
 use Rattle.writing.proofs.ReadBack.{read-back, shown-after}
 
 module _ (catalog map : List ℕ) (rs : List Record) (headers : ℕ) (all : allRecords catalog map ≡ listed rs headers) where
@@ -34,12 +35,6 @@ module _ (catalog map : List ℕ) (rs : List Record) (headers : ℕ) (all : allR
       let preceding : take (r .index) (scan map .models) ≡ o .preceding =
       ap (take (r .index)) (o .splits) ∙ take-at (o .preceding) (o .own ∷ o .following) (r .index) (sym (o .index)) in
       o .address ∙ ap (λ ms. 2 + totalSize ms + 2 + r .point .offset) (sym preceding)
-
-  -- A record's model has a definition.
-  top-of : (r : Record) → In r rs → (top : Content) × (topOf (r .id) (definitions catalog) ≡ some top)
-  top-of r i =
-      let o = record-source catalog map rs headers all r i in
-      (o .by .definition .top, ap (λ id. topOf id (definitions catalog)) (o .id) ∙ o .by .known)
 
   module _ (w : Record) (there : In w rs) (raw : ℕ) (top : Content) (known : topOf (w .id) (definitions catalog) ≡ some top) where
     -- One record.
@@ -96,7 +91,6 @@ module _ (catalog map : List ℕ) (index number : ℕ) (path : List ℕ) (raw : 
   other-records e =
       let b = read-back catalog map index number path raw new e in
       let there = found-in (isRecord index number path) (b .before) (b .point) (b .found) .0 in
-      let t = top-of catalog map (b .before) (b .headers) (b .allBefore) (b .point) there in
       record {
         before = b .before;
         after = b .after;
@@ -105,10 +99,11 @@ module _ (catalog map : List ℕ) (index number : ℕ) (path : List ℕ) (raw : 
         allAfter = b .allAfter;
         point = b .point;
         found = b .found;
-        top = t .0;
-        known = t .1;
-        changes = changes-of catalog map (b .before) (b .headers) (b .allBefore) (b .point) there raw (t .0) (t .1) (b .after)
-            (b .pairs);
+        top = b .top;
+        known = b .known;
+        changes = changes-of catalog map (b .before) (b .headers) (b .allBefore) (b .point) there raw (b .top) (b .known)
+            (b .after) (b .pairs);
+        factors = scale-factors catalog new (b .after) (b .headers) (b .allAfter);
         shown = λ capacity rs n l.
             let s = shown-after catalog map index number path raw new b capacity rs n l in (s .0, s .2);
       }

@@ -12,6 +12,7 @@ use Rattle.layout.specs.Reading.{topOf}
 use Rattle.listing.specs.Listing.{Record, listed, allRecords, listing}
 use Rattle.listing.specs.Finding.{isRecord}
 use Rattle.writing.specs.AfterWriting.{isScaleFactorOf, Holds, rescaled}
+use Rattle.writing.specs.ScaleFactors.{ScaleFactors}
 
 -- Record r has become s by writing `raw` to the point of record w, in a model with the top group `top`. It keeps its index, id and
 -- address. A record of another model is unchanged. A record of the same model at another address is unchanged unless w is its scale
@@ -27,7 +28,8 @@ pub record Change (top : Content) (w : Record) (raw : ℕ) (r s : Record) : Type
   pub holds : r .index ≡ w .index → r .address ≡ w .address → Holds raw (r .point) (s .point)
 
 -- What holds of all records after an accepted write, and so of what a listing with any capacity shows: the same number of records
--- in the same order, each changed as `Change` says by the point that was found.
+-- in the same order, each changed as `Change` says by the point that was found; and each that takes its scale from a point has the
+-- status and scale that the record of its scale factor gives.
 pub record OtherRecords (catalog map : List ℕ) (index number : ℕ) (path : List ℕ) (raw : ℕ) (new : List ℕ) : Type 0 where
   pub before : List Record
   pub after : List Record
@@ -39,5 +41,6 @@ pub record OtherRecords (catalog map : List ℕ) (index number : ℕ) (path : Li
   pub top : Content
   pub known : topOf (point .id) (definitions catalog) ≡ some top
   pub changes : Pairwise (Change top point raw) before after
+  pub factors : ScaleFactors (definitions catalog) after
   pub shown : (capacity : ℕ) (rs : List Record) (n : ℕ) → listing catalog map capacity ≡ listed rs n
       → (rs ≡ before) × (listing catalog new capacity ≡ listed after n)
