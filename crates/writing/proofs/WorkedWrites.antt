@@ -152,6 +152,35 @@ unfolding checkFrom checked framesFrom frameOf isSizeOf rows rowAmong mayScale r
     allRecords firstWith depthIn
 scaled-by-instance-1 = refl
 
+-- ---- A point that was out of range
+
+-- Of the model 900: an acc64 point with access RW whose scale factor is the sunssf point after it.
+abbrev counterCatalog : List ℕ
+counterCatalog = joined (model 900 ∷ (3 ∷ 1 ∷ 18 ∷ 4 ∷ 2 ∷ 2 ∷ 0 ∷ 1 ∷ []) ∷ sunssf 2 ∷ end ∷ [])
+
+-- The map of such a plant, by the first and the last register of the acc64. The scale factor is -1.
+abbrev counterWith : ℕ → ℕ → List ℕ
+counterWith high low = body (high ∷ 0 ∷ 0 ∷ low ∷ 0xFFFF ∷ [])
+
+-- The acc64 is above its range, and becomes 230.
+pub counter-written : writing counterCatalog (counterWith 0x8000 1) 1 1 (instance 0) 230 ≡ written (counterWith 0 230)
+unfolding checkFrom checked framesFrom frameOf isSizeOf rows rowAmong mayScale registersOf twosComplement join shownRaw tooWide
+    integer inRange classOf classified parsed opening scanFrom scan pointAt within measured fillMeasured countUnimplemented
+    fits fillOf pointsAt instances groupsBy entered contentAt endsWithPad allButLast readFull readBy topOf reading walk recordsBy
+    allRecords firstWith finding split refusal rewritten writing
+counter-written = refl
+
+-- Before the write its status is 5. After it, the status is 0 and the scale is that of its scale point.
+pub counter-scaled : map (λ m. shown (listing counterCatalog m 20)) (counterWith 0x8000 1 ∷ counterWith 0 230 ∷ [])
+    ≡ listed (row 1 0 0 0 7 5 0x8000000000000001 0 ∷ row 2 0 0 0 11 0 65535 0 ∷ []) 3
+    ∷ listed (row 1 0 0 0 7 0 230 65535 ∷ row 2 0 0 0 11 0 65535 0 ∷ []) 3
+    ∷ []
+unfolding checkFrom checked framesFrom frameOf isSizeOf rows rowAmong mayScale registersOf twosComplement join shownRaw tooWide
+    integer inRange classOf classified parsed opening scanFrom scan pointAt within measured fillMeasured countUnimplemented
+    fits fillOf pointsAt instances groupsBy entered contentAt endsWithPad allButLast readFull readBy topOf reading recordNumbers
+    walk recordsBy allRecords withCapacity listing
+counter-scaled = refl
+
 -- ---- Other writes
 
 -- A write: the point's number, its path and the raw value; and the answer.
