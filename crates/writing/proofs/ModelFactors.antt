@@ -55,7 +55,7 @@ agree-both (suc n) (x ∷ xs) (y ∷ ys) (z ∷ zs) l m e f =
     let same : x ≡ y = eqb-true x z (a .0) ∙ sym (eqb-true y z (b .0)) in
     rw (eq-eqb x y same) (agree-both n xs ys zs (omega arith) (omega arith) (a .1) (b .1))
 
--- What holds of the first of each pair.
+-- A fact about the first of each pair holds of each element of the first list.
 each-first : {A : Type 0} (P : A → Type 0) (xs ys : List A) → Pairwise (λ x y. P x) xs ys → Each P xs
 each-first P [] ys p = tt
 each-first P (x ∷ xs) [] p = absurd p
@@ -77,12 +77,13 @@ is-factor top m p k number agrees =
       subst (λ (n : ℕ). agreeTo (depthIn n (top .groups)) (pathOf m) (pathOf p) ≡ true) (sym number) agrees,
     )
 
--- What a scale factor m of p is by its definition.
+-- What `isScaleFactorOf top m p` says: p names the number of m, and m is in the same instance or in one around it.
 record Names (top : Content) (m p : ModelPoint) : Type 0 where
   kind : p .definition .scaleKind ≡ scaleByPoint
   number : p .definition .scale ≡ m .definition .number
   agrees : agreeTo (depthIn (m .definition .number) (top .groups)) (pathOf m) (pathOf p) ≡ true
 
+-- The three facts by the test.
 factor-names : (top : Content) (m p : ModelPoint) → isScaleFactorOf top m p ≡ true → Names top m p
 factor-names top m p e =
     let named = eqb (p .definition .scale) (m .definition .number) in
@@ -136,7 +137,7 @@ module _ (d : Definition) (sound : SoundDefinition d) (body : List ℕ) (all : L
   abbrev Scaled : ModelPoint → Type 0
   Scaled p = p .definition .scaleKind ≡ scaleByPoint → Factor (d .top) all p
 
-  -- Within an instance,
+  -- This is so for the points of an instance,
   within-shown : (path : List ℕ) (u : Scope) (a : ℕ) (ps : List Point) → Each Member (pointsAt body (inScope u path) a ps)
       → (s : Scope) (n : ℕ) → (among n (numbersOf (pointFrames ps)) ≡ false → Shown (d .top) body all n path (s n))
       → Shown (d .top) body all n path (within body a ps s n)
@@ -159,13 +160,13 @@ module _ (d : Definition) (sound : SoundDefinition d) (body : List ℕ) (all : L
           }
       go false e c f g = g f
 
-  -- with what is around it,
+  -- with the points around it,
   enters : Enters body body Member Visible
   enters path a around ps enclosing sound s t each h f i =
       within-shown path (within body a ps s) a ps each s (f .number)
       (λ e. in-either f ps enclosing i (λ j. clash (sym (point-among f ps j) ∙ e)) (h f))
 
-  -- and further down.
+  -- and at one more instance number.
   deeper : Deeper (d .top) Visible
   deeper enclosing path at j s t shallow h f i =
       let x = h f i in
@@ -177,7 +178,7 @@ module _ (d : Definition) (sound : SoundDefinition d) (body : List ℕ) (all : L
         holds = x .holds;
       }
 
-  -- A point with the number of a sunssf point of the definition is that point, and its raw value is its register.
+  -- A point of the model with the number of a sunssf point f of the definition is a sunssf point; its raw value is its register.
   factor-register : (f : Point) → In f (definedPoints d) → f .typeCode ≡ sunssf → (m : ModelPoint) → In m all
       → m .definition .number ≡ f .number
       → (m .definition .typeCode ≡ sunssf) × (m .raw ≡ getD body (m .offset) 0)
@@ -271,7 +272,7 @@ module _ (d : Definition) (sound : SoundDefinition d) (body : List ℕ) (all : L
       let place = each-one (Place (d .top) f) all (point-places d sound body all read f i) g j in
       place .same (place .found number agrees)
 
-  -- So every one is a sunssf point other than p, without a scale, that gives p's status and scale.
+  -- Every scale factor f of p is a sunssf point other than p, without a scale, and gives p's status and scale.
   pub factor-of : (f p : ModelPoint) → In f all → In p all → isScaleFactorOf (d .top) f p ≡ true → FactorOf f p
   factor-of f p i j e =
       let x = has-factor p j (factor-names (d .top) f p e .kind) in

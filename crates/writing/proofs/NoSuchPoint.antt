@@ -1,4 +1,4 @@
--- 31 is honest: a point that listing shows is never refused as missing, and where 31 is the answer no record is that point's.
+-- 31 is exact: a write to a point that listing shows never returns 31; if a write returns 31, no record is that of the point.
 use mathlib.Core.Path.{_≡_, sym, subst, _∙_}
 use mathlib.Core.Bool.{false}
 use mathlib.Core.List.{List}
@@ -20,7 +20,7 @@ use Rattle.writing.specs.NoSuchPoint.{Missing, NoSuchPointExact}
 use Rattle.writing.proofs.WritingCases.{Case, listingRefused, noPoint, pointRefused, pointWritten, writing-case, finding-found, records-number, refusal-number}
 
 module _ (catalog map : List ℕ) where
-  -- A point that is one of all records is not refused so, in whatever way the answer is reached.
+  -- A write to the point of a record of the map is not refused by 31, whatever decides the answer.
   found-case : (r : Record) (raw place : ℕ) {rs : List Record} {headers : ℕ} → allRecords catalog map ≡ listed rs headers
       → In r rs → (answer : Answer)
       → Case catalog map (r .index) (r .point .definition .number) (pathOf (r .point)) raw answer
@@ -35,7 +35,7 @@ module _ (catalog map : List ℕ) where
       omega arith
   found-case r raw place e i answer (pointWritten q found why) f = impossible (cc)
 
-  -- Only one way leads to 31.
+  -- An answer is 31 only if no record is that of the point.
   missing-case : (index number : ℕ) (path : List ℕ) (raw place : ℕ) (answer : Answer)
       → Case catalog map index number path raw answer → answer ≡ refused 31 place
       → (place ≡ 0) × Missing catalog map index number path
@@ -65,7 +65,7 @@ module _ (catalog map : List ℕ) where
   missing-case index number path raw place answer (pointWritten q found why) f =
       impossible (cc)
 
-  -- 31 is honest with every catalog and every map.
+  -- 31 is exact for every catalog and every map.
   pub no-such-point-exact : NoSuchPointExact catalog map
   no-such-point-exact =
       record {

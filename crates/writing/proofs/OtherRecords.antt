@@ -1,5 +1,5 @@
--- What an accepted write makes of every record of a map: the point written holds the raw value, the points that it scales have
--- the status and scale that it gives, and all others stay as they are.
+-- Every record of a map after an accepted write: the point written holds the raw value, the points that it scales have the status
+-- and scale that it gives, and all others stay as they are.
 use mathlib.Core.Path.{_≡_, refl, sym, ap, subst, _∙_}
 use mathlib.Core.Bool.{Bool, true, false}
 use mathlib.Core.List.{List, _∷_, _++_}
@@ -28,7 +28,7 @@ use Rattle.writing.proofs.ScaleFactors.{scale-factors}
 use Rattle.writing.proofs.ReadBack.{read-back, shown-after}
 
 module _ (catalog map : List ℕ) (rs : List Record) (headers : ℕ) (all : allRecords catalog map ≡ listed rs headers) where
-  -- A record's address, by its index and its offset.
+  -- The address of a record, by its index and its offset.
   address-of : (r : Record) → In r rs → r .address ≡ 2 + totalSize (take (r .index) (scan map .models)) + 2 + r .point .offset
   address-of r i =
       let o = record-source catalog map rs headers all r i in
@@ -37,7 +37,7 @@ module _ (catalog map : List ℕ) (rs : List Record) (headers : ℕ) (all : allR
       o .address ∙ ap (λ ms. 2 + totalSize ms + 2 + r .point .offset) (sym preceding)
 
   module _ (w : Record) (there : In w rs) (raw : ℕ) (top : Content) (known : topOf (w .id) (definitions catalog) ≡ some top) where
-    -- One record.
+    -- One record: from `RecordAfter` to `Change`, where addresses take the place of offsets.
     change-of : (r s : Record) → In r rs → RecordAfter (definitions catalog) w raw r s → Change top w raw r s
     change-of r s i a =
         record {
@@ -55,23 +55,23 @@ module _ (catalog map : List ℕ) (rs : List Record) (headers : ℕ) (all : allR
         ds : List Definition
         ds = definitions catalog
 
-        -- Of two records of one model, the offsets are the same where the addresses are.
+        -- Two records of one model with the same address have the same offset,
         same-offset : r .index ≡ w .index → r .address ≡ w .address → r .point .offset ≡ w .point .offset
         same-offset same e =
             let sizes = ap (λ k. totalSize (take k (scan map .models))) same in
             omega (arith, address-of r i, address-of w there)
 
-        -- And the other way round.
+        -- and the other way round.
         same-address : r .index ≡ w .index → r .point .offset ≡ w .point .offset → r .address ≡ w .address
         same-address same e =
             let sizes = ap (λ k. totalSize (take k (scan map .models))) same in
             omega (arith, address-of r i, address-of w there)
 
-        -- A record of another model.
+        -- A record of another model stays.
         apart : (r .index ≡ w .index → ⊥) → s ≡ r
         apart n = after-unchanged ds w raw r s a n
 
-        -- One whose scale factor is not written, by whether it is of the same model.
+        -- A record whose scale factor is not written stays, whether it is of the same model or not.
         stays : (b : Bool) → eqb (r .index) (w .index) ≡ b → (r .address ≡ w .address → ⊥)
             → isScaleFactorOf top (w .point) (r .point) ≡ false → s ≡ r
         stays true t n f =
@@ -79,13 +79,13 @@ module _ (catalog map : List ℕ) (rs : List Record) (headers : ℕ) (all : allR
             after-unscaled ds w raw r s a same top known (λ e. n (same-address same e)) f
         stays false t n f = apart (eqb-false (r .index) (w .index) t)
 
-    -- All records that writing has made of those of a map.
+    -- All records of a map.
     pub changes-of : (ss : List Record) → Pairwise (RecordAfter (definitions catalog) w raw) rs ss
         → Pairwise (Change top w raw) rs ss
     changes-of ss = pairwise-implied (RecordAfter (definitions catalog) w raw) (Change top w raw) rs ss change-of
 
 module _ (catalog map : List ℕ) (index number : ℕ) (path : List ℕ) (raw : ℕ) (new : List ℕ) where
-  -- Every accepted write comes to this.
+  -- The claim holds of every accepted write.
   pub other-records : writing catalog map index number path raw ≡ written new
       → OtherRecords catalog map index number path raw new
   other-records e =
@@ -108,7 +108,7 @@ module _ (catalog map : List ℕ) (index number : ℕ) (path : List ℕ) (raw : 
             let s = shown-after catalog map index number path raw new b capacity rs n l in (s .0, s .2);
       }
 
-  -- So with the records at any one position of the old and the new ones.
+  -- `Change` relates the records at the same position of the two lists.
   pub change-at : (o : OtherRecords catalog map index number path raw new)
       → (preceding : List Record) (r : Record) (following : List Record) → o .before ≡ preceding ++ r ∷ following
       → (preceding′ : List Record) (s : Record) (following′ : List Record) → o .after ≡ preceding′ ++ s ∷ following′

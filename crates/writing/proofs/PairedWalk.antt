@@ -27,21 +27,21 @@ use Rattle.layout.proofs.Depths.{absent-depth, Deep, own-depth, inside-deep, fo
 abbrev pub inScope : Scope → List ℕ → Instance
 inScope scope path = record { scope = scope; path = path }
 
--- Within an instance, its own points come into both scopes.
+-- `S` is kept on entering an instance: its own points, placed from a, come into both scopes.
 abbrev pub Enters : List ℕ → List ℕ → (ModelPoint → Type 0) → (List Point → List ℕ → Scope → Scope → Type 0) → Type 0
 Enters body new P S =
     (path : List ℕ) (a : ℕ) (around ps enclosing : List Point) → Each (SoundPoint around) ps → (s t : Scope)
     → Each P (pointsAt body (inScope (within body a ps s) path) a ps) → S enclosing path s t
     → S (ps ++ enclosing) path (within body a ps s) (within new a ps t)
 
--- An instance number after those that lead to the points in scope changes nothing.
+-- `S` is kept at one more instance number, past those that lead to the points in scope.
 abbrev pub Deeper : Content → (List Point → List ℕ → Scope → Scope → Type 0) → Type 0
 Deeper top S =
     (enclosing : List Point) (path : List ℕ) (at j : ℕ) (s t : Scope)
     → ((p : Point) → In p enclosing → depthIn (p .number) (top .groups) ≤ at)
     → S enclosing path s t → S enclosing (set path at j) s t
 
--- The two points at a place are related.
+-- The relation `R` holds of the two points at a place, if `S` holds of the scopes there.
 abbrev pub Related : List Point → List ℕ → List ℕ → (ModelPoint → Type 0) → (ModelPoint → ModelPoint → Type 0)
     → (List Point → List ℕ → Scope → Scope → Type 0) → Type 0
 Related defined body new P R S =

@@ -1,4 +1,4 @@
--- An accepted write reads back: the point is found again with the raw value, and nothing but its registers has changed.
+-- An accepted write reads back: the point is found again with the raw value, and only its registers have changed.
 use mathlib.Core.Path.{_≡_, sym, ap, subst, _∙_}
 use mathlib.Core.Bool.{false, not}
 use mathlib.Core.List.{List, [], _∷_}
@@ -38,7 +38,7 @@ use Rattle.writing.proofs.MapAfter.{map-after}
 use Rattle.writing.proofs.ScaleFactors.{record-factor, scale-factors}
 
 module _ (w : Record) (raw : ℕ) (map : List ℕ) where
-  -- The map stays as long as it was,
+  -- The map keeps its length,
   rewritten-length : length (rewritten (targetOf w) raw map) ≡ length map
   unfolding rewritten
   rewritten-length = length-sets map (w .address) (split (w .point .definition .size) raw)
@@ -54,7 +54,7 @@ module _ (w : Record) (raw : ℕ) (map : List ℕ) where
 
 -- ---- The scale factor of the point written
 
--- The partner of an element in a list that is related pair by pair.
+-- An element of the first of two lists that are related pair by pair has a partner in the second.
 pairwise-in : {A : Type 0} (R : A → A → Type 0) (xs ys : List A) → Pairwise R xs ys → (x : A) → In x xs
     → (y : A) × (In y ys) × R x y
 pairwise-in R (x ∷ xs) [] p z i = absurd p
@@ -73,18 +73,18 @@ module _ (catalog map new : List ℕ) (before after : List Record) (headers : �
       (o .by .definition .top, ap (λ id. topOf id (definitions catalog)) (o .id) ∙ o .by .known)
 
   module _ (top : Content) (known : topOf (w .id) (definitions catalog) ≡ some top) where
-    -- What the point written holds.
+    -- The point after the write.
     held : Holds raw (w .point) (s .point)
     held = after-written (definitions catalog) w raw s becomes
 
-    -- It is a value.
+    -- The raw value is a value of the point's type.
     value-written : classified (w .point .definition .typeCode) raw ≡ ofClass value
     value-written =
         let c = classified (w .point .definition .typeCode) raw in
         value-class c (both (isValue c) (not (tooWide (w .point .definition .size) raw)) (can .holds) .0)
 
     module _ (f : Record) (i : In f before) (e : IsFactor top f w) where
-      -- The scale factor stays: it is another point, and has no scale factor.
+      -- Its scale factor stays as it is: it is another point, and has no scale factor itself.
       factor-stays : In f after
       factor-stays =
           let x = record-factor catalog map before headers allBefore w there top known f i e in
@@ -95,7 +95,7 @@ module _ (catalog map new : List ℕ) (before after : List Record) (headers : �
           after-unscaled (definitions catalog) w raw f (g .0) (g .2) (e .index) top known (x .other) free in
           subst (λ (r : Record). In r after) same (g .1)
 
-      -- It is the scale factor of the point after the write.
+      -- It is also the scale factor of the point after the write.
       factor-again : IsFactor top f s
       factor-again =
           let h = held in
@@ -104,12 +104,13 @@ module _ (catalog map new : List ℕ) (before after : List Record) (headers : �
             factor = rw (h .definition, h .level2, h .level3, h .level4) (e .factor);
           }
 
-      -- So its raw value gives the status and the scale.
+      -- So its raw value gives the status and the scale of that point:
       gives : s .point ≡ rescaled (f .point .raw) (s .point)
       gives =
           scale-factors catalog new after headers allAfter .gives s again top
           (ap (λ id. topOf id (definitions catalog)) (becomes .id) ∙ known) f factor-stays factor-again
 
+      -- the status
       factor-status : s .point .status ≡ statusOf (w .point .definition) (ofClass value) (f .point .raw)
       factor-status =
           let h = held in
@@ -119,6 +120,7 @@ module _ (catalog map new : List ℕ) (before after : List Record) (headers : �
           ∙ ap (λ (x : ℕ). statusOf (w .point .definition) (classified (w .point .definition .typeCode) x) r) (h .holds)
           ∙ ap (λ (c : Classified). statusOf (w .point .definition) c r) value-written
 
+      -- and the scale.
       factor-scale : s .point .scale ≡ scaleOf (w .point .definition) (s .point .status) (f .point .raw)
       factor-scale =
           let r = f .point .raw in
@@ -126,6 +128,7 @@ module _ (catalog map new : List ℕ) (before after : List Record) (headers : �
           ∙ ap (λ (x : ℕ). scaleOf (s .point .definition) x r) (sym (ap (λ (p : ModelPoint). p .status) gives))
           ∙ ap (λ (p : Point). scaleOf p (s .point .status) r) (held .definition)
 
+    -- All together.
     scaled-by : ScaledBy top before after w s
     scaled-by =
         record {
@@ -181,7 +184,7 @@ module _ (catalog map : List ℕ) (index number : ℕ) (path : List ℕ) (raw : 
         outside = λ k o. ap (λ l. getD l k 0) (a .rewrites) ∙ rewritten-outside w raw map k o;
       }
 
--- So with what listing shows, whatever the room: where the old records were shown, the new ones are.
+-- A listing with any capacity that shows the old records of the old map shows the new records of the new map.
 pub shown-after : (catalog map : List ℕ) (index number : ℕ) (path : List ℕ) (raw : ℕ) (new : List ℕ)
     → (b : ReadBack catalog map index number path raw new) → (capacity : ℕ) (rs : List Record) (headers : ℕ)
     → listing catalog map capacity ≡ listed rs headers

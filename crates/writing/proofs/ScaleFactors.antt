@@ -38,7 +38,7 @@ in-selected {A} test x (y ∷ ys) (later i) e = go (test y) (in-selected test x 
     go true i = later i
     go false i = i
 
--- With one more element in both lists, what is in the first is in the second.
+-- A member of the longer of two lists, with one more element in front of both, is a member of the other.
 in-more : {A : Type 0} (x y : A) (xs ys : List A) → (In x xs → In x ys) → In x (y ∷ xs) → In x (y ∷ ys)
 in-more x y xs ys f first = first
 in-more x y xs ys f (later i) = later (f i)
@@ -53,12 +53,13 @@ selected-in {A} test x (y ∷ ys) i = go (test y) i (selected-in test x ys)
     go true i rest = in-more x y (selected test ys) ys rest i
     go false i rest = later (rest i)
 
--- The record of a point is one of the records of points that it is of, and the other way round.
+-- The record of a member of ps is one of the records of ps,
 in-records : (index at id : ℕ) (ps : List ModelPoint) (p : ModelPoint) → In p ps
     → In (recordOf index at id p) (map (recordOf index at id) ps)
 in-records index at id (q ∷ ps) p first = first
 in-records index at id (q ∷ ps) p (later i) = later (in-records index at id ps p i)
 
+-- and the point of one of these records is a member of ps.
 records-in : (index at id : ℕ) (ps : List ModelPoint) (r : Record) → In r (map (recordOf index at id) ps) → In (r .point) ps
 records-in index at id (q ∷ ps) r first = first
 records-in index at id (q ∷ ps) r (later i) = later (records-in index at id ps r i)
@@ -134,14 +135,14 @@ module _ (catalog registers : List ℕ) (rs : List Record) (headers : ℕ)
           one-record catalog registers rs headers all f g i j (q .index ∙ sym (e .index))
           (ap (λ (p : ModelPoint). p .definition .number) same) (ap pathOf same)
 
-      -- which is what its model's definition says.
+      -- and that is a sunssf point other than its own, without a scale, whose raw value gives its status and scale.
       pub record-factor : (f : Record) → In f rs → IsFactor top f r → FactorOf (f .point) (r .point)
       record-factor f i e =
           let o = source in
           factor-of (o .by .definition) (o .by .sound) (o .own .body) (o .all) (o .by .reads) (f .point) (r .point)
           (point-there f i (e .index)) (o .holds) (of-point f e)
 
-  -- The claim holds of every map.
+  -- The claim holds of the records of every map.
   pub scale-factors : ScaleFactors (definitions catalog) rs
   scale-factors =
       record {

@@ -1,4 +1,4 @@
--- What a write makes of the registers in scope at each place of a model.
+-- How a write changes the registers in scope at each place of a model.
 use mathlib.Core.Path.{_≡_, refl, sym, ap, _∙_}
 use mathlib.Core.Bool.{Bool, true, false, _&&_, _||_}
 use mathlib.Core.List.{List, [], _∷_}
@@ -25,25 +25,23 @@ use Rattle.writing.proofs.OnePointAfter as one
 use Rattle.writing.proofs.OnePointAfter.{Write}
 
 module _ (top : Content) (w : ModelPoint) (raw : ℕ) (body : List ℕ) (defined : List Point) (x : Write defined w raw body) where
-  -- The body behind this write,
+  -- The body after the write,
   abbrev new : List ℕ
   new = one.new top w raw body
 
-  -- a register in reach behind it,
+  -- a register in scope after it,
   abbrev becomes : List ℕ → ℕ → ℕ → ℕ
   becomes = one.becomes top w raw body
 
-  -- two scopes, before it and behind it,
+  -- the relation of the scopes before and after it,
   abbrev Scopes : List Point → List ℕ → Scope → Scope → Type 0
   Scopes = one.Scopes top w raw body
 
-  -- and how many instance numbers lead to the point written.
+  -- and the number of instance numbers that lead to the point written.
   abbrev depth : ℕ
   depth = one.depth top w raw body
 
-  -- ---- Scopes
-
-  -- Within an instance, a register in reach is what the write makes of it, if it is around it, or if a point of it is meant.
+  -- On entering an instance, the register under number m changes so, if it did around the instance or m is one of its points.
   within-becomes : (path : List ℕ) (u : Scope) (a : ℕ) (around ps : List Point) → Each (SoundPoint around) ps
       → Each (Place top w) (pointsAt body (inScope u path) a ps) → (s t : Scope) (m : ℕ)
       → (among m (numbersOf (pointFrames ps)) ≡ false → t m ≡ becomes path m (s m))
@@ -63,20 +61,20 @@ module _ (top : Content) (w : ModelPoint) (raw : ℕ) (body : List ℕ) (defined
       go true e c f g = own ∙ ap (λ (n : ℕ). becomes path n (getD body a 0)) (sym (eqb-true m (p .number) e))
       go false e c f g = g f
 
-  -- So for the points of the instance,
+  -- So the relation holds for the points of the instance,
   pub own-becomes : (path : List ℕ) (u : Scope) (a : ℕ) (around ps : List Point) → Each (SoundPoint around) ps
       → Each (Place top w) (pointsAt body (inScope u path) a ps) → (s t : Scope)
       → Scopes ps path (within body a ps s) (within new a ps t)
   own-becomes path u a around ps sound places s t p i =
       within-becomes path u a around ps sound places s t (p .number) (λ e. clash (sym (point-among p ps i) ∙ e))
 
-  -- and for those around it.
+  -- and for these with those around it.
   pub scope-enters : Enters body new (Place top w) Scopes
   scope-enters path a around ps enclosing sound s t places h p i =
       within-becomes path (within body a ps s) a around ps sound places s t (p .number) (λ e.
       in-either p ps enclosing i (λ j. clash (sym (point-among p ps j) ∙ e)) (h p))
 
-  -- An instance number after those that lead to the point written changes nothing.
+  -- It also holds at one more instance number, past those that lead to the points in scope.
   pub scope-deeper : Deeper top Scopes
   scope-deeper enclosing path at j s t shallow h p i =
       h p i ∙ ap (λ b. elim b [ true ↦ getD new (w .offset) 0 | false ↦ s (p .number) ])

@@ -1,5 +1,5 @@
--- From what the contract of `write` says of a call, and nothing else: a call that returns Done has written the point and the map
--- reads back; a call that returns a refusal has changed nothing.
+-- What follows from the contract of `write` alone (`WriteCall`): after a call that returns `Done`, the point reads back; a call that
+-- returns a refusal changes nothing.
 use mathlib.Core.Path.{_≡_, refl, sym, ap, _∙_}
 use mathlib.Core.List.{List}
 use Prim.Native.Nat.{ℕ}
@@ -14,13 +14,13 @@ use Rattle.writing.proofs.OtherRecords.{other-records}
 
 -- ---- Answers by their results
 
--- The result of an accepted write is that of a new map, and that map is the one after it.
+-- An answer whose result is that the point is written has the new map.
 written-by-result : (answer : Answer) (map after : List ℕ) → writtenResult ≡ result answer → after ≡ mapAfter answer map
     → answer ≡ written after
 written-by-result (refused n place) map after e l = impossible (cc)
 written-by-result (written new) map after e l = ap written (sym l)
 
--- The result of a refusal is that of a refusal with the same number and place, and the map after it is the old one.
+-- An answer whose result is a refusal is that refusal, and changes nothing.
 refused-by-result : (answer : Answer) (map after : List ℕ) (number place : ℕ) → refusedResult number place ≡ result answer
     → after ≡ mapAfter answer map → (answer ≡ refused number place) × (after ≡ map)
 refused-by-result (refused n p) map after number place e l = (cc, l)
@@ -29,7 +29,7 @@ refused-by-result (written new) map after number place e l = impossible (cc)
 -- ---- Calls
 
 module _ (catalog map : List ℕ) (index number : ℕ) (path : List ℕ) (raw : ℕ) (after : List ℕ) where
-  -- `Done` is returned only if the definition accepts the write, and the map left is the definition's.
+  -- `Done` is returned only if the definition accepts the write; the call leaves the definition's map.
   pub done-accepts : WriteCall catalog map index number path raw Written.Done after
       → writing catalog map index number path raw ≡ written after
   done-accepts c = written-by-result (writing catalog map index number path raw) map after (c .result) (c .leaves)
@@ -39,18 +39,18 @@ module _ (catalog map : List ℕ) (index number : ℕ) (path : List ℕ) (raw : 
       → ReadBack catalog map index number path raw after
   done-reads-back c = read-back catalog map index number path raw after (done-accepts c)
 
-  -- After a call that returns `Done`, every record is as before, but for the point and the points that it scales.
+  -- After a call that returns `Done`, every record is as before, except that of the point and those of the points that it scales.
   pub done-other-records : WriteCall catalog map index number path raw Written.Done after
       → OtherRecords catalog map index number path raw after
   done-other-records c = other-records catalog map index number path raw after (done-accepts c)
 
-  -- A call that returns a refusal leaves the map as it was, and the definition refuses with the same number and place.
+  -- If a call returns a refusal, the definition refuses with the same number and place, and the map is as it was.
   pub refused-changes-nothing : (n place : ℕ) → WriteCall catalog map index number path raw (Written.Refused n place) after
       → (writing catalog map index number path raw ≡ refused n place) × (after ≡ map)
   refused-changes-nothing n place c =
       refused-by-result (writing catalog map index number path raw) map after n place (c .result) (c .leaves)
 
-  -- If the definition accepts the write, every call returns `Done` and leaves the definition's map.
+  -- If the definition accepts the write, a call returns `Done` and leaves the definition's map.
   pub accepts-done : (returned : Written) (new : List ℕ) → WriteCall catalog map index number path raw returned after
       → writing catalog map index number path raw ≡ written new → (returned ≡ Written.Done) × (after ≡ new)
   accepts-done Written.Done new c e = (refl, c .leaves ∙ ap (λ x. mapAfter x map) e)
