@@ -1,4 +1,4 @@
--- The walk behind an answer: acceptance, 30, and a refusal of 22 to 29 each tell what the walk came to.
+-- From an answer of listing to the walk: acceptance, 30 and a refusal 22 to 29 each determine what the walk resulted in.
 use mathlib.Core.Path.{_≡_, subst}
 use mathlib.Core.List.{List}
 use mathlib.Core.Logic.{⊎-elim}
@@ -17,13 +17,13 @@ use Rattle.listed_records.proofs.WalkHeaders.{HeadersWalked, walk-heade
 use Rattle.listing.proofs.ListingCases.{Walks, Case, catalogRefused, openingRefused, walkRefused, tooShort, allListed, listing-case}
 
 module _ (catalog map : List ℕ) where
-  -- The headers of an answer of the walk.
+  -- The headers of what the walk results in.
   pub headers-walked : {answer : Answer} → Walks catalog map answer
       → HeadersWalked (scan map .ending) 0 2 (scan map .models) answer
   headers-walked w =
       rw (w .walks) at (walk-headers (reading (definitions catalog)) (scan map .ending) 0 2 (scan map .models))
 
-  -- Those of a walk to the end marker: models + 1, at most (registers − 1) / 3.
+  -- The headers of a walk to the end marker: models + 1, at most (registers − 1) / 3.
   pub headers-marked : {rs : List Record} {headers : ℕ} → Walks catalog map (listed rs headers)
       → (headers ≡ length (scan map .models) + 1) × (headers ≤ (length map - 1) / 3)
   headers-marked w =
@@ -40,7 +40,7 @@ module _ (catalog map : List ℕ) where
       (λ l. let b = r .atModel l in (omega arith, omega arith)) (eq-or-lt-of-le (r .within))
 
   module _ (capacity : ℕ) where
-    -- Acceptance.
+    -- On acceptance the walk listed these records, and they fit the capacity.
     listed-case : (rs : List Record) (headers : ℕ) (answer : Answer) → Case catalog map capacity answer → answer ≡ listed rs headers
         → Walks catalog map (listed rs headers) × (recordWidth * length rs ≤ capacity)
     listed-case rs headers answer (catalogRefused c) e = impossible (cc)
@@ -56,7 +56,7 @@ module _ (catalog map : List ℕ) where
         → Walks catalog map (listed rs headers) × (recordWidth * length rs ≤ capacity)
     listed-walks rs headers e = listed-case rs headers (listing catalog map capacity) (listing-case catalog map capacity) e
 
-    -- 30.
+    -- On 30 the walk listed n records, and they do not fit the capacity.
     short-case : (n headers : ℕ) (answer : Answer) → Case catalog map capacity answer → answer ≡ refused 30 n headers
         → (rs : List Record) × (Walks catalog map (listed rs headers)) × (length rs ≡ n) × (capacity < recordWidth * n)
     short-case n headers answer (catalogRefused {n = k} c) e =
@@ -75,7 +75,7 @@ module _ (catalog map : List ℕ) where
         → (rs : List Record) × (Walks catalog map (listed rs headers)) × (length rs ≡ n) × (capacity < recordWidth * n)
     short-walks n headers e = short-case n headers (listing catalog map capacity) (listing-case catalog map capacity) e
 
-    -- 22 to 29.
+    -- On 22 to 29 the walk was refused so.
     refused-case : (n place headers : ℕ) → Between 22 29 n → (answer : Answer) → Case catalog map capacity answer
         → answer ≡ refused n place headers → Walks catalog map (refused n place headers)
     refused-case n place headers r answer (catalogRefused {n = k} c) e =
@@ -91,7 +91,7 @@ module _ (catalog map : List ℕ) where
     refused-walks n place headers b e =
         refused-case n place headers b (listing catalog map capacity) (listing-case catalog map capacity) e
 
-    -- 1 to 11, 20 and 21: no header.
+    -- On 1 to 11, 20 and 21 there is no header.
     early-case : (n place headers : ℕ) → n < 22 → (answer : Answer) → Case catalog map capacity answer
         → answer ≡ refused n place headers → headers ≡ 0
     early-case n place headers l answer (catalogRefused c) e = cc

@@ -1,5 +1,4 @@
--- The numbers of refusals tell them apart: a catalog's are 1 to 11, a map's as a whole 20 and 21, a header's 22 to 26, a model's
--- 27 to 29.
+-- Refusals by their numbers: 1 to 11 of the catalog, 20 and 21 of the map as a whole, 22 to 26 of a header, 27 to 29 of a model.
 use mathlib.Core.Path.{_≡_, refl, ap, _∙_}
 use mathlib.Core.Bool.{Bool, true, false, not, _&&_}
 use mathlib.Core.List.{List, [], _∷_}
@@ -20,7 +19,7 @@ use Rattle.register_map.specs.Scan.{broken, scanFrom, scan}
 use Rattle.register_map.proofs.ScanSteps.{scan-model, scan-end, scan-refused}
 use Rattle.layout.specs.Reading.{Fault, belowTopPoints, countPointUnimplemented, notTheSize, faultNumber}
 
--- A number lies in a range.
+-- The number n is in the range from `low` to `high`.
 abbrev pub Between : ℕ → ℕ → ℕ → Type 0
 Between low high n = (low ≤ n) × (n ≤ high)
 
@@ -29,7 +28,7 @@ abbrev numbered : List (Bool × ℕ) → Bool
 numbered [] = true
 numbered (r ∷ rs) = (leb 3 (r .1) && leb (r .1) 10) && numbered rs
 
--- The rule that is first broken is one of the rules.
+-- So is the number of the first of them that is broken.
 first-broken : (rs : List (Bool × ℕ)) (n : ℕ) → numbered rs ≡ true → firstBroken rs ≡ some n → Between 3 10 n
 first-broken [] n k = λ e. impossible (cc)
 first-broken (r ∷ rs) n k =
@@ -40,11 +39,11 @@ first-broken (r ∷ rs) n k =
     by-test (λ o. o ≡ some n → Between 3 10 n) (r .0) (λ t e. let same : r .1 ≡ n = cc in (omega arith, omega arith))
     (λ t e. first-broken rs n (h .1) e)
 
--- A frame breaks one of the rules 3 to 10.
+-- The rule that a frame breaks is one of 3 to 10.
 rule-number : (s : State) (f : Frame) (fs : List Frame) (n : ℕ) → fault s f (run fs) ≡ some n → Between 3 10 n
 rule-number s f fs n = first-broken (rules s f (run fs)) n refl
 
--- A catalog's refusal.
+-- A refusal of the frames of a catalog.
 module _ (n place : ℕ) where
   frames-number : (s : State) (i : ℕ) (fs : List Frame) → checkFrom s i fs ≡ refused n place → Between 1 11 n
   unfolding checkFrom
@@ -62,7 +61,7 @@ module _ (n place : ℕ) where
           let b = rule-number s f (f ∷ fs) k q in
           (omega arith, omega arith)
 
--- 1 and 2 come before any frame.
+-- A refusal of a catalog: 1 and 2 come before any frame.
 pub catalog-number : (n place : ℕ) (ws : List ℕ) → checked ws ≡ refused n place → Between 1 11 n
 unfolding checked
 catalog-number n place ws =
@@ -72,7 +71,7 @@ catalog-number n place ws =
     (λ u. frames-number n place start 0 (frames ws)))
     (λ t e. let same : 1 ≡ n = cc in (omega arith, omega arith))
 
--- A map's refusal as a whole.
+-- A refusal of the map as a whole.
 pub opening-number : (map : List ℕ) (n : ℕ) → Headers.opening map ≡ some n → Between 20 21 n
 unfolding Headers.opening
 opening-number map n =
@@ -81,7 +80,7 @@ opening-number map n =
     (λ t. by-test W (Headers.beginsWithSunS map) (λ u e. impossible (cc))
     (λ u e. let same : 21 ≡ n = cc in (omega arith, omega arith)))
 
--- A header's refusal.
+-- A refusal of a header.
 header-number : (first : Bool) (rest : List ℕ) (n : ℕ) → Headers.headerAt first rest ≡ Headers.refused n → Between 22 26 n
 header-number first [] n = λ e. let same : 22 ≡ n = cc in (omega arith, omega arith)
 header-number first (id ∷ []) n = λ e. let same : 22 ≡ n = cc in (omega arith, omega arith)
@@ -96,7 +95,7 @@ header-number first (id ∷ len ∷ following) n =
     (λ w. by-test W (ltb (length following) len) (λ x e. let same : 26 ≡ n = cc in (omega arith, omega arith))
     (λ x e. impossible (cc))))))
 
--- The refusal of the header that the models of a map end at.
+-- A refusal of the header at which the models of a map end, from any header on
 ending-from : (k : ℕ) (first : Bool) (rest : List ℕ) (n : ℕ) → scanFrom k first rest .ending ≡ broken n → Between 22 26 n
 unfolding scanFrom
 ending-from zero first rest n e = let same : 22 ≡ n = cc in (omega arith, omega arith)
@@ -112,11 +111,12 @@ ending-from (suc k) first rest n e = go (Headers.headerAt first rest) refl (λ r
         let same : number ≡ n = cc in
         header-number first rest n (q ∙ ap Headers.refused same)
 
+-- and of the whole map.
 pub ending-number : (map : List ℕ) (n : ℕ) → scan map .ending ≡ broken n → Between 22 26 n
 unfolding scan
 ending-number map n = ending-from (length map) true (drop 2 map) n
 
--- A model's refusal.
+-- A refusal of a model.
 pub model-number : (fault : Fault) → Between 27 29 (faultNumber fault)
 model-number belowTopPoints = (omega arith, omega arith)
 model-number countPointUnimplemented = (omega arith, omega arith)

@@ -11,8 +11,8 @@ use Rattle.listing.specs.Listing.{Record, recordOf, Answer, refused, listed, wi
 use Rattle.listing.proofs.WalkSteps.{walk-no-records, walk-faulty, walk-points}
 use Rattle.listed_records.proofs.RefusalNumbers.{Between, model-number}
 
--- A refusal lies at a model's header, and is the model's; or at the header behind the last model, and is that header's. Of models
--- from an index and an address on.
+-- The refusal of a walk over the models ms, the first of which has this index and address: it is at the header of a model, and is
+-- that model's; or it is at the header after the last model, and is that header's.
 pub record RefusedAt (ending : Ending) (index at : ℕ) (ms : List Model) (n place headers : ℕ) : Type 0 where
   pub before : ℕ
   pub within : before ≤ length ms
@@ -21,12 +21,12 @@ pub record RefusedAt (ending : Ending) (index at : ℕ) (ms : List Model) (n pla
   pub atModel : before < length ms → Between 27 29 n
   pub atEnd : before ≡ length ms → ending ≡ broken n
 
--- The headers of an answer.
+-- The headers of what a walk results in.
 abbrev pub HeadersWalked : Ending → ℕ → ℕ → List Model → Answer → Type 0
 HeadersWalked ending index at ms (refused n place headers) = RefusedAt ending index at ms n place headers
 HeadersWalked ending index at ms (listed rs headers) = (headers ≡ index + length ms + 1) × (ending ≡ marked)
 
--- One model more.
+-- With one more model before them.
 headers-before : (ending : Ending) (index at : ℕ) (m : Model) (ms : List Model) (rs : List Record) (answer : Answer)
     → HeadersWalked ending (index + 1) (at + sizeOf m) ms answer → HeadersWalked ending index at (m ∷ ms) (withRecords rs answer)
 headers-before ending index at m ms rs (refused n place headers) r =
@@ -45,6 +45,7 @@ headers-before ending index at m ms rs (listed ss headers) r =
     let counted = r .0 in (omega arith, r .1)
 
 module _ (read : Model → Reading) where
+  -- With no model left.
   headers-end : (ending : Ending) (index at : ℕ) → HeadersWalked ending index at [] (walk read ending index at [])
   unfolding walk
   headers-end marked index at = (omega arith, refl)
@@ -58,6 +59,7 @@ module _ (read : Model → Reading) where
         atEnd = λ e. refl;
       }
 
+  -- From one model on, by how it is read.
   headers-model : (ending : Ending) (index at : ℕ) (m : Model) (ms : List Model) (r : Reading) → read m ≡ r
       → HeadersWalked ending (index + 1) (at + sizeOf m) ms (walk read ending (index + 1) (at + sizeOf m) ms)
       → HeadersWalked ending index at (m ∷ ms) (walk read ending index at (m ∷ ms))
@@ -78,7 +80,7 @@ module _ (read : Model → Reading) where
       (headers-before ending index at m ms (map (recordOf index at (m .id)) ps) (walk read ending (index + 1) (at + sizeOf m) ms)
       later)
 
-  -- All models from one on.
+  -- Of any walk.
   pub walk-headers : (ending : Ending) (index at : ℕ) (ms : List Model)
       → HeadersWalked ending index at ms (walk read ending index at ms)
   walk-headers ending index at [] = headers-end ending index at
