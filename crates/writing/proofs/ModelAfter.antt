@@ -2,7 +2,7 @@
 use mathlib.Core.Path.{_≡_, sym, ap, subst, _∙_}
 use mathlib.Core.Bool.{true, false}
 use mathlib.Core.List.{List, _++_}
-use Prim.Native.Nat.{ℕ, _-_, _≤_}
+use Prim.Native.Nat.{ℕ, _≤_}
 use native.Mathlib.Omega.{arith}
 use borrow.Author.Tests.{eqb-true}
 use lib.Dec.{eqb}
@@ -12,8 +12,7 @@ use Rattle.lists.specs.Each.{Each, Pairwise}
 use Rattle.lists.specs.Members.{In}
 use Rattle.lists.proofs.TestOutcomes.{both}
 use Rattle.lists.proofs.EachLaws.{each-one, each-parts}
-use Rattle.lists.proofs.InLaws.{in-append-left, in-append-right}
-use Rattle.lists.proofs.PairwiseLaws.{pairwise-append}
+use Rattle.lists.proofs.InLaws.{in-append-left}
 use Rattle.registers.specs.Registers.{split}
 use Rattle.values.specs.Classes.{classified, isUnimplementedClass}
 use Rattle.catalog_frames.specs.Frames.{Point, readOnly}
@@ -28,12 +27,11 @@ use Rattle.layout.specs.Tiling.{lowerPoints, definedPoints}
 use Rattle.layout.specs.Paths.{depthIn, agreeTo, pathOf}
 use Rattle.layout.proofs.OnePoint.{one-point}
 use Rattle.layout.proofs.LeftOutPad.{each-but-last, left-out}
-use Rattle.layout.proofs.GroupDescent.{definition-below}
 use Rattle.layout.proofs.Readings.{Full, resolves-left, pointsLeft, read-left, read-full, by-reading}
 use Rattle.layout.proofs.ListedPoints.{all-sized}
 use Rattle.layout.proofs.Places.{Place}
 use Rattle.layout.proofs.PointPlaces.{in-but-last, point-defined, point-inside, point-places}
-use Rattle.layout.proofs.Depths.{levels, absent-depth}
+use Rattle.layout.proofs.Depths.{levels}
 use Rattle.layout.proofs.ReadOnlyCounts as counts
 use Rattle.writing.specs.Writing.{canHold}
 use Rattle.writing.specs.AfterWriting.{PointAfter}

@@ -30,7 +30,7 @@ use Rattle.layout.specs.Tiling.{lowerPoints, definedPoints}
 use Rattle.layout.specs.Paths.{depthIn, agreeTo, pathOf}
 use Rattle.layout.proofs.OnePoint.{one-point}
 use Rattle.layout.proofs.LeftOutPad.{each-but-last, left-out}
-use Rattle.layout.proofs.Readings.{Full, resolves-left, pointsLeft, by-reading}
+use Rattle.layout.proofs.Readings.{resolves-left, pointsLeft, by-reading}
 use Rattle.layout.proofs.ListedPoints.{all-sized}
 use Rattle.layout.proofs.ScopeOnly.{shownAs}
 use Rattle.layout.proofs.Places.{Place}

@@ -1,6 +1,5 @@
 -- A walk over the points of a model in two bodies, with the same counts: a relation between the two points at each place holds of
 -- all points. `S` is what is known of the two scopes at a place, `P` what is known of each point of the first body.
-use mathlib.Core.Path.{_≡_}
 use mathlib.Core.List.{List, [], _∷_, _++_}
 use Prim.Native.Nat.{ℕ, suc, _+_, _*_, _-_, _≤_}
 use native.Mathlib.Omega.{arith}

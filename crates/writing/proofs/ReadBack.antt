@@ -22,6 +22,7 @@ use Rattle.catalog_frames.specs.Frames.{Point, scaleByPoint}
 use Rattle.model_definitions.specs.Definitions.{Content, definitions}
 use Rattle.layout.specs.Points.{ModelPoint, statusOf, scaleOf}
 use Rattle.layout.specs.Reading.{topOf}
+use Rattle.layout.proofs.ScopeOnly.{same-scale}
 use Rattle.listing.specs.Listing.{Record, listed, allRecords, withCapacity, listing}
 use Rattle.listing.specs.Finding.{isRecord, targetOf}
 use Rattle.listing.proofs.ListingCases.{with-capacity, listing-records, walk-records}
@@ -128,6 +129,18 @@ module _ (catalog map new : List ℕ) (before after : List Record) (headers : �
           ∙ ap (λ (x : ℕ). scaleOf (s .point .definition) x r) (sym (ap (λ (p : ModelPoint). p .status) gives))
           ∙ ap (λ (p : Point). scaleOf p (s .point .status) r) (held .definition)
 
+    -- A point without a scale point has status 0, and its scale by no register.
+    no-factor : (w .point .definition .scaleKind ≡ scaleByPoint → ⊥)
+        → (s .point .status ≡ 0) × (s .point .scale ≡ scaleOf (w .point .definition) 0 0)
+    no-factor n =
+        let h = held in
+        let p = w .point .definition in
+        let none : statusOf p (ofClass value) (h .register) ≡ 0 = simp (statusOf, ne-eqb (p .scaleKind) scaleByPoint n) in
+        let status : s .point .status ≡ 0 = h .status ∙ none in (
+          status,
+          h .scale ∙ ap (λ (x : ℕ). scaleOf p x (h .register)) status ∙ same-scale p (h .register) 0 (λ k. absurd (n k)) 0,
+        )
+
     -- All together.
     scaled-by : ScaledBy top before after w s
     scaled-by =
@@ -136,6 +149,7 @@ module _ (catalog map new : List ℕ) (before after : List Record) (headers : �
           stays = factor-stays;
           status = factor-status;
           scale = factor-scale;
+          unscaled = no-factor;
         }
 
 -- ---- The claim

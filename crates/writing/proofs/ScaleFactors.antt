@@ -11,10 +11,10 @@ use lib.Dec.{eqb}
 use Rattle.lists.specs.Members.{In, first, later}
 use Rattle.lists.specs.Tests.{selected}
 use Rattle.catalog_frames.specs.Frames.{scaleByPoint}
-use Rattle.model_definitions.specs.Definitions.{Content, Definition, definitions}
+use Rattle.model_definitions.specs.Definitions.{Content, definitions}
 use Rattle.register_map.specs.Scan.{totalSize, scan}
 use Rattle.layout.specs.Points.{ModelPoint}
-use Rattle.layout.specs.Reading.{Reading, topOf, reading}
+use Rattle.layout.specs.Reading.{topOf, reading}
 use Rattle.layout.specs.Paths.{pathOf}
 use Rattle.listing.specs.Listing.{Record, recordOf, listed, walk, allRecords}
 use Rattle.listing.proofs.ListingCases.{records-walk}
@@ -24,7 +24,7 @@ use Rattle.listed_records.proofs.RecordSources.{Source, record-source}
 use Rattle.listed_records.proofs.OneRecord.{one-record}
 use Rattle.writing.specs.AfterWriting.{isScaleFactorOf}
 use Rattle.writing.specs.ScaleFactors.{IsFactor, ScaleFactors}
-use Rattle.writing.proofs.ModelFactors.{Factor, FactorOf, has-factor, same-factor, factor-of}
+use Rattle.writing.proofs.ModelFactors.{FactorOf, has-factor, same-factor, factor-of}
 
 -- ---- General laws
 

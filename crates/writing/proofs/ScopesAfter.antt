@@ -17,7 +17,7 @@ use Rattle.model_definitions.proofs.GroupSizes.{point-size}
 use Rattle.model_definitions.proofs.GroupNumbers.{point-among}
 use Rattle.layout.specs.Points.{ModelPoint, Scope}
 use Rattle.layout.specs.Layout.{withPoint, within, pointsAt}
-use Rattle.layout.specs.Paths.{depthIn, agreeTo, pathOf}
+use Rattle.layout.specs.Paths.{agreeTo, pathOf}
 use Rattle.layout.proofs.Places.{Place}
 use Rattle.layout.proofs.Depths.{levels, agree-beyond}
 use Rattle.writing.proofs.PairedWalk.{inScope, Enters, Deeper}

@@ -27,7 +27,7 @@ isScaleFactorOf top w p =
 
 -- The point written, p before and q after: it holds `raw`, and has the status and the scale of a value whose scale point reads
 -- `register`. So it is neither unimplemented nor out of range; if it was not out of range before, its status and scale stay.
--- (`register` matters only to a point with a scale point, and is then that point's raw value: `ScaledBy` in `ReadBack.antt`.)
+-- (`ScaledBy` in `ReadBack.antt` gives the status and the scale by the record of the scale point.)
 pub record Holds (raw : ℕ) (p q : ModelPoint) : Type 0 where
   pub offset : q .offset ≡ p .offset
   pub definition : q .definition ≡ p .definition

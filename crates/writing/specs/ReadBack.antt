@@ -20,8 +20,9 @@ use Rattle.writing.specs.Writing.{refusal, rewritten}
 use Rattle.writing.specs.AfterWriting.{RecordAfter}
 use Rattle.writing.specs.ScaleFactors.{IsFactor}
 
--- The record of the point written was w and is s. If the point takes its scale from a point, the record of its scale factor is among
--- those before the write. Each such record stays as it is, and its raw value gives the status and the scale of the value written.
+-- The status and the scale of the point written; its record was w and is s. If the point takes its scale from a point, the record f
+-- of its scale factor is among those before the write, stays as it is, and gives the status and the scale by its raw value. Else the
+-- status is 0 and the scale is the fixed one, or 0.
 pub record ScaledBy (top : Content) (before after : List Record) (w s : Record) : Type 0 where
   pub exists : w .point .definition .scaleKind ≡ scaleByPoint → (f : Record) × (In f before) × IsFactor top f w
   pub stays : (f : Record) → In f before → IsFactor top f w → In f after
@@ -29,6 +30,8 @@ pub record ScaledBy (top : Content) (before after : List Record) (w s : Record) 
       → s .point .status ≡ statusOf (w .point .definition) (ofClass value) (f .point .raw)
   pub scale : (f : Record) → In f before → IsFactor top f w
       → s .point .scale ≡ scaleOf (w .point .definition) (s .point .status) (f .point .raw)
+  pub unscaled : (w .point .definition .scaleKind ≡ scaleByPoint → ⊥)
+      → (s .point .status ≡ 0) × (s .point .scale ≡ scaleOf (w .point .definition) 0 0)
 
 -- What holds after an accepted write of `raw`, where `new` is the map after it. Before: the map has records, and `point` is the
 -- record of the point asked for, which is not refused. After: the same number of records, each changed as `RecordAfter` says; the
