@@ -16,11 +16,12 @@ use Rattle.register_map.specs.Scan.{totalSize, scan}
 use Rattle.layout.specs.Points.{ModelPoint}
 use Rattle.layout.specs.Reading.{topOf, reading}
 use Rattle.layout.specs.Paths.{pathOf}
-use Rattle.listing.specs.Listing.{Record, recordOf, listed, walk, allRecords}
-use Rattle.listing.proofs.ListingCases.{records-walk}
+use Rattle.listing.specs.Listing.{Record, recordOf, listed, walk, allRecords, listing}
+use Rattle.listing.proofs.ListingCases.{records-walk, walk-records}
 use Rattle.listed_records.specs.Tiling.{recordsWith}
 use Rattle.listed_records.proofs.ModelRecords.{RecordsOf, model-records}
 use Rattle.listed_records.proofs.RecordSources.{Source, record-source}
+use Rattle.listed_records.proofs.ListingInversion.{listed-walks}
 use Rattle.listed_records.proofs.OneRecord.{one-record}
 use Rattle.writing.specs.AfterWriting.{isScaleFactorOf}
 use Rattle.writing.specs.ScaleFactors.{IsFactor, ScaleFactors}
@@ -38,7 +39,7 @@ in-selected {A} test x (y ∷ ys) (later i) e = go (test y) (in-selected test x 
     go true i = later i
     go false i = i
 
--- A member of the longer of two lists, with one more element in front of both, is a member of the other.
+-- If a member of xs is one of ys, this stays so with the element y added to both lists.
 in-more : {A : Type 0} (x y : A) (xs ys : List A) → (In x xs → In x ys) → In x (y ∷ xs) → In x (y ∷ ys)
 in-more x y xs ys f first = first
 in-more x y xs ys f (later i) = later (f i)
@@ -151,3 +152,10 @@ module _ (catalog registers : List ℕ) (rs : List Record) (headers : ℕ)
         sunssfPoint = λ r there top known f i e. record-factor r there top known f i e .code;
         gives = λ r there top known f i e. record-factor r there top known f i e .gives;
       }
+
+-- So it holds of the records that a listing shows.
+pub shown-scale-factors : (catalog registers : List ℕ) (capacity : ℕ) (rs : List Record) (headers : ℕ)
+    → listing catalog registers capacity ≡ listed rs headers → ScaleFactors (definitions catalog) rs
+shown-scale-factors catalog registers capacity rs headers e =
+    scale-factors catalog registers rs headers
+    (walk-records catalog registers (listed-walks catalog registers capacity rs headers e .0))

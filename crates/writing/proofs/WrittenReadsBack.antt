@@ -1,5 +1,5 @@
 -- What follows from the contract of `write` alone (`WriteCall`): after a call that returns `Done`, the point reads back; a call that
--- returns a refusal changes nothing.
+-- returns a refusal changes nothing; a call returns 31 only if there is no such point.
 use mathlib.Core.Path.{_≡_, refl, sym, ap, _∙_}
 use mathlib.Core.List.{List}
 use Prim.Native.Nat.{ℕ}
@@ -8,9 +8,11 @@ use Rattle.writing.specs.Writing.{Answer, refused, written, mapAfter, wr
 use Rattle.writing.specs.Calls.{WriteCall}
 use Rattle.writing.specs.ReadBack.{ReadBack}
 use Rattle.writing.specs.OtherRecords.{OtherRecords}
+use Rattle.writing.specs.NoSuchPoint.{Missing}
 use Rattle.writing.specs.declared.Written.{Written}
 use Rattle.writing.proofs.ReadBack.{read-back}
 use Rattle.writing.proofs.OtherRecords.{other-records}
+use Rattle.writing.proofs.NoSuchPoint.{no-such-point-exact}
 
 -- ---- Answers by their results
 
@@ -49,6 +51,12 @@ module _ (catalog map : List ℕ) (index number : ℕ) (path : List ℕ) (raw : 
       → (writing catalog map index number path raw ≡ refused n place) × (after ≡ map)
   refused-changes-nothing n place c =
       refused-by-result (writing catalog map index number path raw) map after n place (c .result) (c .leaves)
+
+  -- If a call returns 31, its place is 0 and there is no such point.
+  pub missing-if-31 : (place : ℕ) → WriteCall catalog map index number path raw (Written.Refused 31 place) after
+      → (place ≡ 0) × Missing catalog map index number path
+  missing-if-31 place c =
+      no-such-point-exact catalog map .refusedIsMissing index number path raw place (refused-changes-nothing 31 place c .0)
 
   -- If the definition accepts the write, a call returns `Done` and leaves the definition's map.
   pub accepts-done : (returned : Written) (new : List ℕ) → WriteCall catalog map index number path raw returned after
