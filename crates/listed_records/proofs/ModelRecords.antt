@@ -1,4 +1,4 @@
--- The records of one model among those of a map that is listed.
+-- The records of one model, among all records of a map.
 use mathlib.Core.Path.{_≡_, refl, sym, ap, subst, _∙_}
 use mathlib.Core.Bool.{true, false}
 use mathlib.Core.List.{List, [], _∷_, _++_, map, append-nil}
@@ -20,7 +20,7 @@ use Rattle.listing.proofs.WalkSteps.{not-listed, prepended-listed, walk-unknown
 
 -- ---- Records with an index
 
--- The records of the model with an index are all with it,
+-- All records of the model with the index i have this index,
 with-own : (i at : ℕ) (m : Model) (ps : List ModelPoint)
     → recordsWith i (map (recordOf i at (m .id)) ps) ≡ map (recordOf i at (m .id)) ps
 with-own i at m ps =
@@ -28,24 +28,25 @@ with-own i at m ps =
     (each-map (λ r. eqb (r .index) i ≡ true) (recordOf i at (m .id)) ps
     (each-all (λ p. eqb i i ≡ true) (λ p. eq-eqb i i refl) ps))
 
--- and those of another index are not.
+-- and those of a model with another index do not.
 abbrev Other : ℕ → Record → Type 0
 Other i r = eqb (r .index) i ≡ false
 
+-- The records of model j have an index other than i.
 others-own : (i j at : ℕ) (m : Model) (ps : List ModelPoint) → (j ≡ i → ⊥) → Each (Other i) (map (recordOf j at (m .id)) ps)
 others-own i j at m ps n =
     each-map (Other i) (recordOf j at (m .id)) ps (each-all (λ p. eqb j i ≡ false) (λ p. ne-eqb j i n) ps)
 
 -- ---- Walking
 
--- The records with a model's index, by how it is read.
+-- The records with the index of model m, by how m is read.
 abbrev pub RecordsOf : ℕ → ℕ → Model → List Record → Reading → Type 0
 RecordsOf i at m rs unknown = recordsWith i rs ≡ []
 RecordsOf i at m rs (faulty fault) = ⊥
 RecordsOf i at m rs (points ps) = recordsWith i rs ≡ map (recordOf i at (m .id)) ps
 
 module _ (read : Model → Reading) (ending : Ending) where
-  -- From a model on, by how it is read: what is listed is its records and what is listed behind it.
+  -- The records rs from model m on, by how m is read: those of m, then those of the models after it.
   abbrev pub Listed : ℕ → ℕ → Model → List Model → List Record → ℕ → Reading → Type 0
   Listed i at m ms rs headers unknown = walk read ending (i + 1) (at + sizeOf m) ms ≡ listed rs headers
   Listed i at m ms rs headers (faulty fault) = ⊥
@@ -54,6 +55,7 @@ module _ (read : Model → Reading) (ending : Ending) where
       × (walk read ending (i + 1) (at + sizeOf m) ms ≡ listed ss headers)
       × (rs ≡ map (recordOf i at (m .id)) ps ++ ss)
 
+  -- What a walk lists is such.
   pub walk-listed : (i at : ℕ) (m : Model) (ms : List Model) (rs : List Record) (headers : ℕ)
       → walk read ending i at (m ∷ ms) ≡ listed rs headers → Listed i at m ms rs headers (read m)
   walk-listed i at m ms rs headers e = go (read m) refl
@@ -65,7 +67,7 @@ module _ (read : Model → Reading) (ending : Ending) where
           prepended-listed (map (recordOf i at (m .id)) ps) (walk read ending (i + 1) (at + sizeOf m) ms) rs headers
           (sym (walk-points read ending i at m ms q) ∙ e)
 
-  -- At the end nothing is listed.
+  -- With no model left, nothing is listed.
   pub end-listed : (i at : ℕ) (rs : List Record) (headers : ℕ) → walk read ending i at [] ≡ listed rs headers → rs ≡ []
   unfolding walk
   end-listed i at rs headers = go ending
@@ -74,7 +76,7 @@ module _ (read : Model → Reading) (ending : Ending) where
       go marked e = let same : [] ≡ rs = cc in sym same
       go (broken number) e = impossible (cc)
 
-  -- From an index on, no record has a lower one.
+  -- A walk from index i on lists no record with a lower index.
   records-above : (ms : List Model) (i at : ℕ) (rs : List Record) (headers : ℕ)
       → walk read ending i at ms ≡ listed rs headers → (j : ℕ) → j < i → Each (Other j) rs
   records-above [] i at rs headers e j below =
@@ -94,7 +96,7 @@ module _ (read : Model → Reading) (ending : Ending) where
           let P : Record → Type 0 = Other j in
           subst (Each P) (sym (l .2)) (each-append P (map (recordOf i at (m .id)) ps) (l .0) own (following (l .0) (l .1)))
 
-  -- Of a model without any in front of it.
+  -- The records with the index of the first model of a walk.
   first-records : (m : Model) (following : List Model) (i at : ℕ) (rs : List Record) (headers : ℕ)
       → walk read ending i at (m ∷ following) ≡ listed rs headers → RecordsOf i at m rs (read m)
   first-records m following i at rs headers e = go (read m) (walk-listed i at m following rs headers e)
@@ -114,7 +116,7 @@ module _ (read : Model → Reading) (ending : Ending) where
           ∙ append-nil (recordsWith i own)
           ∙ with-own i at m ps
 
-  -- Records in front, of another index, change nothing.
+  -- Records of another index before them change nothing.
   after-others : (j a : ℕ) (m : Model) (own ss rs : List Record) → Each (Other j) own → rs ≡ own ++ ss
       → (r : Reading) → RecordsOf j a m ss r → RecordsOf j a m rs r
   after-others j a m own ss rs others e r =

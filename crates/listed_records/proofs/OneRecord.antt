@@ -1,4 +1,4 @@
--- A model's index, a point's number and a path name one record: no two records have the same, and by its own a record is found.
+-- Index, number and path name one record: no two records have the same, and each record is found by its own.
 use mathlib.Core.Path.{_≡_, refl, sym, ap, subst, _∙_}
 use mathlib.Core.Bool.{Bool, true, false, _&&_}
 use mathlib.Core.List.{List, [], _∷_}
@@ -26,7 +26,7 @@ use Rattle.layout.specs.Paths.{isAt, isPoint}
 use Rattle.listing.specs.Finding.{isRecord}
 use Rattle.listed_records.proofs.RecordSources.{record-source, Source}
 
--- A record is the one with its own index, number and path.
+-- A record has its own index, number and path.
 own-place : (r : Record) → isRecord (r .index) (r .point .definition .number) (pathOf (r .point)) r ≡ true
 own-place r =
     simp (
@@ -37,7 +37,7 @@ own-place r =
       eq-eqb (r .point .level4) (r .point .level4) refl,
     )
 
--- Where a record is that of an index, a number and a path, it has them.
+-- A record w that passes the test for the index, number and path of r has the same.
 has-place : (r w : Record) → isRecord (r .index) (r .point .definition .number) (pathOf (r .point)) w ≡ true
     → (w .index ≡ r .index)
     × (w .point .definition .number ≡ r .point .definition .number)
@@ -57,13 +57,14 @@ has-place r w e =
 
 module _ (catalog map : List ℕ) (rs : List Record) (headers : ℕ) (all : allRecords catalog map ≡ listed rs headers) where
   module _ (r w : Record) (i : In r rs) (j : In w rs) (index : w .index ≡ r .index) where
+    -- The models of the two records.
     abbrev ofR : Source catalog map r
     ofR = record-source catalog map rs headers all r i
 
     abbrev ofW : Source catalog map w
     ofW = record-source catalog map rs headers all w j
 
-    -- Records of one index are of one model.
+    -- Records with the same index are of the same model: the models before it are the same,
     same-preceding : ofW .preceding ≡ ofR .preceding
     same-preceding =
         let ms = scan map .models in
@@ -72,6 +73,7 @@ module _ (catalog map : List ℕ) (rs : List Record) (headers : ℕ) (all : allR
         ∙ ap (take (r .index)) (ofR .splits)
         ∙ take-at (ofR .preceding) (ofR .own ∷ ofR .following) (r .index) (sym (ofR .index))
 
+    -- and so is the model.
     same-model : ofW .own ≡ ofR .own
     same-model =
         let ms = scan map .models in
@@ -82,7 +84,7 @@ module _ (catalog map : List ℕ) (rs : List Record) (headers : ℕ) (all : allR
         ∙ drop-at (ofR .preceding) (ofR .own ∷ ofR .following) (r .index) (sym (ofR .index)) in
         cc
 
-    -- So the one's point is one of the other's model.
+    -- So the point of w is a point of the model of r.
     point-there : In (w .point) (ofR .all)
     point-there =
         let same : points (ofW .all) ≡ points (ofR .all) =
@@ -90,7 +92,7 @@ module _ (catalog map : List ℕ) (rs : List Record) (headers : ℕ) (all : allR
         let alls : ofW .all ≡ ofR .all = cc in
         subst (In (w .point)) alls (ofW .holds)
 
-    -- With the same point they are one.
+    -- If their points are equal, so are the records.
     same-record : w .point ≡ r .point → w ≡ r
     same-record e =
         let id = ofW .id ∙ ap (λ (m : Model). m .id) same-model ∙ sym (ofR .id) in
@@ -111,7 +113,7 @@ module _ (catalog map : List ℕ) (rs : List Record) (headers : ℕ) (all : allR
         subst (λ p. agreeTo depth (pathOf (r .point)) p ≡ true) (sym path) (agree-itself depth (pathOf (r .point))) in
         same-record (place .same (place .found number agrees))
 
-  -- By its own index, number and path a record is found.
+  -- A record is found by its own index, number and path.
   pub own-found : (r : Record) → In r rs
       → firstWith (isRecord (r .index) (r .point .definition .number) (pathOf (r .point))) rs ≡ some r
   own-found r i = go (firstWith test rs) refl

@@ -15,6 +15,7 @@ use Rattle.listing.proofs.ListingCases.{catalog-refused, accepted-listed, unope
 use Rattle.listing.proofs.ListingInversion.{headers-walked, listed-walks}
 
 module _ (catalog map more : List ℕ) (capacity : ℕ) (ends : scan map .ending ≡ marked) (fits : length (map ++ more) ≤ 65536) where
+  -- By the opening of the map,
   by-opening : (read : Model → Reading) (o : Option ℕ) → opening map ≡ o
       → recordsBy read (map ++ more) ≡ recordsBy read map
   by-opening read (some n) o =
@@ -24,6 +25,7 @@ module _ (catalog map more : List ℕ) (capacity : ℕ) (ends : scan map .ending
       ∙ ap {B = Answer} (λ s. walk read (s .ending) 0 2 (s .models)) (scan-longer map more ends)
       ∙ sym (opened read map o)
 
+  -- and by what checking the catalog results in.
   by-verdict : (v : Checking.Verdict) → Checking.checked catalog ≡ v
       → listing catalog (map ++ more) capacity ≡ listing catalog map capacity
   by-verdict (Checking.refused n place) c =
@@ -33,11 +35,11 @@ module _ (catalog map more : List ℕ) (capacity : ℕ) (ends : scan map .ending
       ∙ ap (withCapacity capacity) (by-opening (reading (definitions catalog)) (opening map) refl)
       ∙ sym (accepted-listed catalog map capacity c)
 
-  -- Of a map whose models end at the marker, with at most 65,536 registers (20).
+  -- This holds of a map whose models end at the marker, if it has at most 65,536 registers with `more` (refusal 20).
   pub past-the-end : listing catalog (map ++ more) capacity ≡ listing catalog map capacity
   past-the-end = by-verdict (Checking.checked catalog) refl
 
--- So of a map that is listed.
+-- So it holds of a map that is listed.
 pub listed-past-end : (catalog map more : List ℕ) (capacity : ℕ) (rs : List Record) (headers : ℕ)
     → listing catalog map capacity ≡ listed rs headers
     → length (map ++ more) ≤ 65536

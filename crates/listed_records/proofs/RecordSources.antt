@@ -20,7 +20,7 @@ use Rattle.listing.proofs.ListingCases.{records-walk}
 use Rattle.listing.proofs.ListingInversion.{headers-walked}
 use Rattle.listed_records.proofs.WalkedModels.{record-of-model}
 
--- A model that is read as points, by the sound definition of its id.
+-- Model m is read as the points ps by the definition of its id, which is sound.
 pub record KnownModel (catalog : List ℕ) (m : Model) (ps : List ModelPoint) : Type 0 where
   pub definition : Definition
   pub sound : SoundDefinition definition
@@ -28,7 +28,7 @@ pub record KnownModel (catalog : List ℕ) (m : Model) (ps : List ModelPoint) : 
   pub known : topOf (m .id) (definitions catalog) ≡ some (definition .top)
   pub reads : readBy (definition .id) (definition .top) (m .body) ≡ points ps
 
--- A record is that of a point of one of the models that the map is made of, which the catalog knows.
+-- Record r is that of a point of `own`, one of the models that the map is made of, and the catalog knows that model.
 pub record Source (catalog map : List ℕ) (r : Record) : Type 0 where
   pub preceding : List Model
   pub own : Model
@@ -43,13 +43,13 @@ pub record Source (catalog map : List ℕ) (r : Record) : Type 0 where
   pub id : r .id ≡ own .id
   pub address : r .address ≡ 2 + totalSize preceding + 2 + r .point .offset
 
--- With any body a model is read by the definition of its id.
+-- A model with any body is read by the definition of its id.
 pub read-with : (ds : List Definition) (d : Definition) (id : ℕ) → d .id ≡ id → topOf id ds ≡ some (d .top) → (body : List ℕ)
     → reading ds (record { id = id; body = body }) ≡ readBy (d .id) (d .top) body
 read-with ds d id named known body =
     read-known ds id body (d .top) known ∙ ap (λ k. readBy k (d .top) body) (sym named)
 
--- A model that an accepted catalog reads as points is known.
+-- If an accepted catalog reads a model as points, the model is known.
 known-model : (catalog : List ℕ) → Accepted catalog → (m : Model) (ps : List ModelPoint)
     → reading (definitions catalog) m ≡ points ps → KnownModel catalog m ps
 known-model catalog accepted m ps e = go (topOf (m .id) (definitions catalog)) refl

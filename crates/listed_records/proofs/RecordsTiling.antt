@@ -1,5 +1,4 @@
--- The records of a model that the catalog knows lie one behind the other: the steps, from the definition that reads it to the
--- records of a listing.
+-- The records of a known model tile its registers: the steps from the definition that reads it to the records of a listing.
 use mathlib.Core.Path.{_≡_, refl, sym, ap, subst, _∙_}
 use mathlib.Core.Bool.{true, false}
 use mathlib.Core.List.{List, [], _∷_, _++_, map}
@@ -29,7 +28,7 @@ use Rattle.listed_records.proofs.ModelRecords.{RecordsOf, model-records
 
 -- ---- The definition of a model
 
--- An id of a definition is among their ids.
+-- The id of a definition of ds is among the ids of ds.
 id-among : (d : Definition) (ds : List Definition) → In d ds → among (d .id) (idsOf ds) ≡ true
 id-among d (other ∷ ds) first = rw (eq-eqb (d .id) (d .id) refl)
 id-among d (other ∷ ds) (later o) = among-later (d .id) (other .id) (idsOf ds) (id-among d ds o)
@@ -45,7 +44,7 @@ reading-known (other ∷ ds) distinct d (later o) m e =
 
 -- ---- The points of one model
 
--- By an accepted catalog, a model's points, as they are read, fill its body.
+-- The points of a model, as an accepted catalog reads them, fill its body.
 pub body-filled : (catalog : List ℕ) (n : ℕ) → checked catalog ≡ accepted n
     → (d : Definition) → In d (definitions catalog) → (m : Model) → d .id ≡ m .id
     → (ps : List ModelPoint) → reading (definitions catalog) m ≡ points ps → BodyTiled d (length (m .body)) ps
@@ -56,7 +55,7 @@ body-filled catalog n e d o m same ps r =
 
 -- ---- The records of a listing
 
--- The records of points that tile a body.
+-- If points tile a body, their records tile the model's registers.
 records-tile : (i at : ℕ) (m : Model) (from to : ℕ) (ps : List ModelPoint) → PointsTile from to ps
     → Tiles (λ r. r .address) (λ r. r .point .definition .size) (at + 2 + from) (at + 2 + to) (map (recordOf i at (m .id)) ps)
 records-tile i at m from to [] t = ap (λ n. at + 2 + n) t
@@ -80,8 +79,8 @@ module _ (catalog registers : List ℕ) (capacity : ℕ) (rs : List Record) (hea
       let v = subst (λ ms. walk read ending 0 2 ms ≡ listed rs headers) splits w in
       model-records read ending preceding m following 0 2 rs headers v (length preceding) (2 + totalSize preceding) (omega arith) (omega arith)
 
-  -- The records of a model that the catalog knows fill it, from the register behind its length to its last. (The first model's
-  -- header has address 2.)
+  -- The records of a model that the catalog knows fill it, from the register after its length register to its last. (The header of
+  -- the first model has address 2.)
   pub model-filled : (d : Definition) → In d (definitions catalog) → d .id ≡ m .id
       → RecordsTiled d (2 + totalSize preceding + 2) (2 + totalSize preceding + sizeOf m) (recordsWith (length preceding) rs)
   model-filled d o same = go (reading (definitions catalog) m) refl records-of-model

@@ -1,5 +1,5 @@
--- In an accepted map the points of each known model lie one behind the other without gap or overlap, from the register behind its
--- length to its last register. (A pad that is left out has no record, and the last register is then that of the point before it.)
+-- In an accepted map the points of each known model are consecutive, without gap or overlap, from the register after its length
+-- register to its last. (A pad that is left out has no record, and the last register is then that of the point before it.)
 use mathlib.Core.Path.{_≡_, ap, _∙_}
 use mathlib.Core.Bool.{false}
 use mathlib.Core.List.{List, [], _∷_, _++_}
@@ -21,8 +21,8 @@ use Rattle.listed_records.proofs.RecordsTiling as steps
 module _ (catalog registers : List ℕ) (capacity : ℕ) (rs : List Record) (headers : ℕ)
     (accept : listing catalog registers capacity ≡ listed rs headers)
     (preceding : List Model) (m : Model) (following : List Model) (splits : scan registers .models ≡ preceding ++ m ∷ following) where
-  -- The records of a model that the catalog knows fill it, from the register behind its length to its last. (The first model's
-  -- header has address 2.)
+  -- The records of a model that the catalog knows fill it, from the register after its length register to its last. (The header of
+  -- the first model has address 2.)
   pub points-tile : (d : Definition) → In d (definitions catalog) → d .id ≡ m .id
       → RecordsTiled d (2 + totalSize preceding + 2) (2 + totalSize preceding + sizeOf m) (recordsWith (length preceding) rs)
   points-tile d o same = steps.model-filled catalog registers capacity rs headers accept preceding m following splits d o same
@@ -33,7 +33,7 @@ module _ (catalog registers : List ℕ) (capacity : ℕ) (rs : List Record) (hea
       steps.nothing-unknown catalog registers capacity rs headers accept preceding m following splits
       (ap (among (m .id)) (ids-of-model-frames catalog) ∙ e)
 
--- By an accepted catalog, a model's points, as they are read, fill its body.
+-- The points of a model, as an accepted catalog reads them, fill its body.
 pub body-tiled : (catalog : List ℕ) (n : ℕ) → checked catalog ≡ accepted n
     → (d : Definition) → In d (definitions catalog) → (m : Model) → d .id ≡ m .id
     → (ps : List ModelPoint) → reading (definitions catalog) m ≡ points ps → BodyTiled d (length (m .body)) ps

@@ -1,4 +1,4 @@
--- The records of a walk, model by model: of which model a record is, and what they are where one model is read anew.
+-- The records of a walk, model by model: the model of each record, and the records after the body of one model has changed.
 use mathlib.Core.Path.{_≡_, refl, sym, ap, subst, _∙_}
 use mathlib.Core.List.{List, [], _∷_, _++_, map}
 use Prim.Native.Nat.{ℕ, _+_}
@@ -16,17 +16,17 @@ use Rattle.listing.specs.Listing.{Record, recordOf, listed, withRecords, walk}
 use Rattle.listing.proofs.WalkSteps.{not-listed, walk-no-records, walk-faulty, walk-points}
 use Rattle.listed_records.proofs.ModelRecords.{Listed, walk-listed, end-listed}
 
--- One of the records of points is the record of one of them.
+-- A record among those of the points ps is that of a point of ps.
 in-records : (i at id : ℕ) (ps : List ModelPoint) (r : Record) → In r (map (recordOf i at id) ps)
     → In (r .point) ps × (r ≡ recordOf i at id (r .point))
 in-records i at id (p ∷ ps) r first = (first, refl)
 in-records i at id (p ∷ ps) r (later o) = let s = in-records i at id ps r o in (later (s .0), s .1)
 
--- Where a reading has a point, it is of points.
+-- A reading that has a point is a reading as points.
 read-points : (r : Reading) (p : ModelPoint) → In p (pointsOf r) → r ≡ points (pointsOf r)
 read-points (points ps) p i = refl
 
--- A record is that of a point of one of these models, from an index and an address on.
+-- Record r is that of a point of `own`, one of the models ms, the first of which has this index and address.
 pub record OfModel (read : Model → Reading) (index at : ℕ) (ms : List Model) (r : Record) : Type 0 where
   pub preceding : List Model
   pub own : Model
@@ -38,7 +38,7 @@ pub record OfModel (read : Model → Reading) (index at : ℕ) (ms : List Model)
 
 module _ (read : Model → Reading) (ending : Ending) where
   module _ (index at : ℕ) (m : Model) (ms : List Model) (rs : List Record) (headers : ℕ) where
-    -- The records of a walk are the first model's, and those behind it.
+    -- The records of a walk are those of the first model, then those of the models after it.
     records-first : walk read ending index at (m ∷ ms) ≡ listed rs headers
         → (ss : List Record)
         × (walk read ending (index + 1) (at + sizeOf m) ms ≡ listed ss headers)
@@ -53,7 +53,7 @@ module _ (read : Model → Reading) (ending : Ending) where
         go (faulty fault) l = absurd l
         go (points ps) l = l
 
-    -- With other models behind it, the first one's records stay.
+    -- With other models after it, the first model has the same records.
     records-after : walk read ending index at (m ∷ ms) ≡ listed rs headers → (ns : List Model) (ss : List Record)
         → walk read ending (index + 1) (at + sizeOf m) ns ≡ listed ss headers
         → walk read ending index at (m ∷ ns) ≡ listed (map (recordOf index at (m .id)) (pointsOf (read m)) ++ ss) headers
@@ -66,7 +66,7 @@ module _ (read : Model → Reading) (ending : Ending) where
         go (points ps) q =
             walk-points read ending index at m ns q ∙ ap (withRecords (map (recordOf index at (m .id)) ps)) f
 
-  -- Each record is that of a point of a model.
+  -- Each record of a walk is that of a point of a model.
   pub record-of-model : (ms : List Model) (index at : ℕ) (rs : List Record) (headers : ℕ)
       → walk read ending index at ms ≡ listed rs headers → (r : Record) → In r rs → OfModel read index at ms r
   record-of-model [] index at rs headers e r i = not-in-none r rs (end-listed read ending index at rs headers e) i
@@ -109,8 +109,8 @@ module _ (read : Model → Reading) (ending : Ending) where
                 ∙ ap (λ k. recordOf (index + length (m ∷ o .preceding)) k (o .own .id) (r .point)) size;
           }
 
-  -- One model, of an index, is read again, with points that are pairs of its old ones: then so are its records; and where records
-  -- of another index are pairs of themselves, all records are pairs.
+  -- Model m, with the index j, is replaced by n of the same size. If R relates the points of m and n pair by pair, Q relates records
+  -- of R-related points, and Q relates each record of another index to itself, then Q relates all records pair by pair.
   module _ (R : ModelPoint → ModelPoint → Type 0) (Q : Record → Record → Type 0) (m n : Model) (size : sizeOf n ≡ sizeOf m)
       (ps qs : List ModelPoint) (old : read m ≡ points ps) (new : read n ≡ points qs) (pairs : Pairwise R ps qs)
       (j : ℕ) (others : (r : Record) → (r .index ≡ j → ⊥) → Q r r)

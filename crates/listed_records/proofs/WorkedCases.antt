@@ -38,7 +38,7 @@ exampleMap =
     ∷ 0x0002 ∷ 0xFFFF ∷ 0x0000 ∷ 0x0005 ∷ 0xFFFF ∷ 0xFFFF ∷ 0xFFFF ∷ 0x0000
     ∷ []
 
--- Into a list of 52 entries: five records and the last two entries as they were.
+-- With a list of 52 entries: five records, and the last two entries as they were.
 abbrev exampleAnswer : Result × List ℕ
 exampleAnswer =
     let found = listing exampleCatalog exampleMap 52 in
@@ -100,7 +100,7 @@ abbrev pub joined : List (List ℕ) → List ℕ
 joined [] = []
 joined (w ∷ ws) = w ++ joined ws
 
--- A map of a model 1 with one register and what stands behind it, from address 5 on.
+-- A map of a model 1 with one register, followed by `rest` from address 5 on.
 abbrev pub from5 : List ℕ → List ℕ
 from5 rest = 0x5375 ∷ 0x6E53 ∷ 1 ∷ 1 ∷ 7 ∷ rest
 
@@ -113,6 +113,7 @@ pub data Shown : Type 0 where
   refused : ℕ → ℕ → ℕ → Shown
   listed : List (List ℕ) → ℕ → Shown
 
+-- An answer with the numbers of its records.
 abbrev pub shown : Listing.Answer → Shown
 shown (Listing.refused number place headers) = refused number place headers
 shown (Listing.listed rs headers) = listed (map recordNumbers rs) headers
@@ -122,28 +123,29 @@ abbrev pub row : ℕ → ℕ → ℕ → ℕ → ℕ → ℕ → ℕ → ℕ →
 row number level2 level3 level4 address status raw scale =
     1 ∷ 900 ∷ number ∷ level2 ∷ level3 ∷ level4 ∷ address ∷ status ∷ raw ∷ scale ∷ []
 
--- A catalog, a map, the entries of the list, and the answer.
+-- A catalog, a map, the number of entries of the list, and the answer.
 pub record Case : Type 0 where
   pub catalog : List ℕ
   pub registers : List ℕ
   pub capacity : ℕ
   pub answer : Shown
 
+-- A case on one line.
 abbrev case : List ℕ → List ℕ → ℕ → Shown → Case
 case c r n a = record { catalog = c; registers = r; capacity = n; answer = a }
 
--- A group of size 6 with fill, and one of size 8 behind a point of 16 registers.
+-- A fill group of size 6, and one of size 8 after a point of 16 registers.
 abbrev six : List ℕ
 six = joined (model 900 ∷ filling 1 ∷ point 2 19 6 ∷ end ∷ end ∷ [])
 
 abbrev eight : List ℕ
 eight = joined (model 900 ∷ point 3 19 16 ∷ filling 1 ∷ point 2 19 8 ∷ end ∷ end ∷ [])
 
--- A fill group behind a point and a group with two instances.
+-- A fill group after a point and a group with two instances.
 abbrev fillAfter : List ℕ
 fillAfter = joined (model 900 ∷ uint16 9 ∷ times 1 2 ∷ uint16 2 ∷ end ∷ filling 3 ∷ uint16 4 ∷ end ∷ end ∷ [])
 
--- A model whose last point is a pad; model 1 also with a group behind it.
+-- A model whose last point is a pad; and a model 1 with a group after the pad.
 abbrev padded : ℕ → List ℕ
 padded id = joined (model id ∷ uint16 2 ∷ point 3 6 1 ∷ end ∷ [])
 
@@ -154,6 +156,7 @@ paddedGroup = joined (model 1 ∷ uint16 2 ∷ point 3 6 1 ∷ times 4 1 ∷ uin
 abbrev model1 : List ℕ → List ℕ
 model1 registers = 0x5375 ∷ 0x6E53 ∷ 1 ∷ length registers ∷ registers ++ 0xFFFF ∷ 0 ∷ []
 
+-- The cases.
 unfoldable pub cases : List Case
 cases =
     -- Document 01, by run: size 6, fill, L 18 gives 3, 17 is 29, 0 is 25
@@ -209,7 +212,7 @@ cases =
     ∷ row 9 1 0 0 10 0 65535 0 ∷ row 2 1 0 0 11 0 7 65535 ∷ row 2 1 1 0 12 0 8 65535 ∷ []) 3)
     ∷ case (joined (model 900 ∷ sunssf 9 ∷ times 1 2 ∷ scaled 2 9 ∷ end ∷ end ∷ [])) (body (0xFFFE ∷ 5 ∷ 6 ∷ [])) 30
     (listed (row 9 0 0 0 7 0 65534 0 ∷ row 2 0 0 0 8 0 5 65534 ∷ row 2 1 0 0 9 0 6 65534 ∷ []) 3)
-    -- Four levels; groups side by side; a count point of the top group for a group at level 3
+    -- Four levels; sibling groups; a count point of the top group for a group at level 3
     ∷ case (joined (
     model 900 ∷ times 1 1 ∷ uint16 2 ∷ times 3 1 ∷ uint16 4 ∷ times 5 2 ∷ uint16 6 ∷ end ∷ end ∷ end ∷ end ∷ []))
     (body (1 ∷ 2 ∷ 3 ∷ 4 ∷ [])) 40
@@ -222,7 +225,7 @@ cases =
     row 9 0 0 0 7 0 1 0 ∷ row 2 0 0 0 8 0 2 0 ∷ row 4 0 0 0 9 0 3 0 ∷ row 2 1 0 0 10 0 4 0 ∷ row 4 1 0 0 11 0 5 0 ∷ []) 3)
     ∷ case (joined (model 900 ∷ uint16 9 ∷ times 1 2 ∷ uint16 2 ∷ counted 3 9 ∷ uint16 4 ∷ end ∷ end ∷ end ∷ []))
     (body (0xFFFF ∷ 2 ∷ 3 ∷ [])) 50 (refused 28 5 1)
-    -- Of the map: 20 to 26; what follows the marker is ignored; a fault of the catalog comes first, and of a model at its header
+    -- 20 to 26; registers past the marker are ignored; a refusal of the catalog comes first, and that of a model at its header
     ∷ case [] (replicate 65537 0) 0 (refused 20 0 0)  -- and not 21
     ∷ case [] (replicate 65536 0) 0 (refused 21 0 0)
     ∷ case [] [] 0 (refused 21 0 0)
@@ -235,13 +238,14 @@ cases =
     ∷ case [] (from5 (900 ∷ 3 ∷ 1 ∷ 2 ∷ [])) 0 (refused 26 5 1)
     ∷ case [] (from5 (900 ∷ 2 ∷ 1 ∷ 2 ∷ 0xFFFF ∷ 0 ∷ 3 ∷ [])) 0 (listed [] 3)
     ∷ case end [] 0 (refused 4 0 0)
-    ∷ case six (from5 (900 ∷ 1 ∷ 7 ∷ [])) 0 (refused 29 5 1)  -- and not 22 behind it
+    ∷ case six (from5 (900 ∷ 1 ∷ 7 ∷ [])) 0 (refused 29 5 1)  -- and not 22 after it
     ∷ []
 
+-- What listing gives in a case.
 abbrev answers : Case → Shown
 answers c = shown (listing (c .catalog) (c .registers) (c .capacity))
 
--- Every case is answered as it says.
+-- Every case has the answer that the list says.
 pub worked-cases : map answers cases ≡ map (λ (c : Case). c .answer) cases
 unfolding cases checkFrom checked framesFrom frameOf isSizeOf rows rowAmong mayScale registersOf twosComplement join shownRaw tooWide integer inRange classOf classified parsed opening scanFrom scan pointAt within measured fillMeasured countUnimplemented fits fillOf pointsAt instances groupsBy entered contentAt endsWithPad allButLast readFull readBy topOf reading recordNumbers walk recordsBy allRecords withCapacity listing
 worked-cases = refl

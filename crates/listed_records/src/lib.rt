@@ -1,2 +1,2 @@
-// What holds of every listing's records: their headers, tiling, places and raw values, and what lies past the end. It
-// has definitions and theorems only, and no functions.
+// What holds of the records of every listing: the count of headers, tiling, the model and the raw value of each record, and that
+// registers past the end do not matter. It has definitions and theorems only, and no functions.

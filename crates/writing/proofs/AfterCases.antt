@@ -1,4 +1,4 @@
--- What becomes of a point and of a record, case by case; and that each keeps its place.
+-- How a point and a record change by a write, case by case; each keeps its place.
 use mathlib.Core.Path.{_≡_, refl, subst}
 use mathlib.Core.Bool.{Bool, true, false}
 use mathlib.Core.List.{List}
@@ -13,7 +13,7 @@ use Rattle.listing.specs.Listing.{Record}
 use Rattle.listing.specs.Finding.{isRecord}
 use Rattle.writing.specs.AfterWriting.{isScaleFactorOf, Holds, rescaled, PointAfter, PointBecomes, RecordAfter}
 
--- The same place and the same definition.
+-- Points p and q have the same place and the same definition.
 pub record SamePlace (p q : ModelPoint) : Type 0 where
   pub offset : q .offset ≡ p .offset
   pub definition : q .definition ≡ p .definition
@@ -21,19 +21,19 @@ pub record SamePlace (p q : ModelPoint) : Type 0 where
   pub level3 : q .level3 ≡ p .level3
   pub level4 : q .level4 ≡ p .level4
 
--- A point stays where it is,
+-- A point has its own place,
 stays : (p : ModelPoint) → SamePlace p p
 stays p = record { offset = refl; definition = refl; level2 = refl; level3 = refl; level4 = refl }
 
--- and so does one that is the same as one that stays.
+-- and a point that equals q has the place of q.
 same-as : (p q r : ModelPoint) → SamePlace p q → r ≡ q → SamePlace p r
 same-as p q r s e = rw e s
 
--- One of two claims, by a test.
+-- One of two facts, by a test.
 abbrev oneOf : Bool → Type 0 → Type 0 → Type 0
 oneOf b A B = elim b [ true ↦ A | false ↦ B ]
 
--- A point of the model written keeps its place,
+-- A point of the model that is written to keeps its place,
 pub point-place : (top : Content) (w : ModelPoint) (raw : ℕ) (p q : ModelPoint) → PointAfter top w raw p q → SamePlace p q
 point-place top w raw p q = go (eqb (p .offset) (w .offset)) (isScaleFactorOf top w p)
   where
@@ -52,14 +52,14 @@ point-place top w raw p q = go (eqb (p .offset) (w .offset)) (isScaleFactorOf to
     go false true h = same-as p (rescaled raw p) q stays-rescaled h
     go false false h = same-as p p q (stays p) h
 
--- and so does any point.
+-- and so does a point of any model.
 becomes-place : (b : Bool) (o : Option Content) (w : ModelPoint) (raw : ℕ) (p q : ModelPoint) → PointBecomes b o w raw p q
     → SamePlace p q
 becomes-place false o w raw p q h = same-as p p q (stays p) h
 becomes-place true none w raw p q h = absurd h
 becomes-place true (some top) w raw p q h = point-place top w raw p q h
 
--- So a record is asked for by the same index, number and path.
+-- So index, number and path select the same record before and after the write.
 pub same-record : (ds : List Definition) (w : Record) (raw index number : ℕ) (path : List ℕ) (r s : Record)
     → RecordAfter ds w raw r s → isRecord index number path s ≡ isRecord index number path r
 same-record ds w raw index number path r s a =
@@ -68,25 +68,25 @@ same-record ds w raw index number path r s a =
 
 -- ---- Case by case
 
--- A record is another one where its parts are.
+-- Records with equal parts are equal.
 same-parts : (r s : Record) → s .index ≡ r .index → s .id ≡ r .id → s .address ≡ r .address → s .point ≡ r .point → s ≡ r
 same-parts r s i d a p = λ k. record { index = i k; id = d k; address = a k; point = p k }
 
 module _ (ds : List Definition) (w : Record) (raw : ℕ) (r s : Record) (a : RecordAfter ds w raw r s) where
-  -- A record of another model stays.
+  -- A record of another model stays as it is.
   pub after-unchanged : (r .index ≡ w .index → ⊥) → s ≡ r
   after-unchanged n =
       let P : Bool → Type 0 = λ b. PointBecomes b (topOf (w .id) ds) (w .point) raw (r .point) (s .point) in
       same-parts r s (a .index) (a .id) (a .address) (subst P (ne-eqb (r .index) (w .index) n) (a .point))
 
   module _ (same : r .index ≡ w .index) (top : Content) (known : topOf (w .id) ds ≡ some top) where
-    -- Of the same model, by the top group of its definition.
+    -- A record of the same model, by the top group of its definition.
     after-own : PointAfter top (w .point) raw (r .point) (s .point)
     after-own =
         let P : Bool → Option Content → Type 0 = λ b o. PointBecomes b o (w .point) raw (r .point) (s .point) in
         subst (P true) known (subst (λ b. P b (topOf (w .id) ds)) (eq-eqb (r .index) (w .index) same) (a .point))
 
-    -- By whether it is the point written, and whether its scale factor is written.
+    -- What holds of it, by whether it is the point written (`here`) and whether its scale factor is written (`scaled`).
     abbrev By : Bool → Bool → Type 0
     By here scaled =
         oneOf here (Holds raw (r .point) (s .point))
@@ -99,7 +99,7 @@ module _ (ds : List Definition) (w : Record) (raw : ℕ) (r s : Record) (a : Rec
         (eq-eqb (r .point .offset) (w .point .offset) e) after-own
 
     module _ (other : r .point .offset ≡ w .point .offset → ⊥) where
-      -- One that is not the point written.
+      -- A point other than the one written.
       after-other : By false (isScaleFactorOf top (w .point) (r .point))
       after-other =
           subst (λ b. By b (isScaleFactorOf top (w .point) (r .point)))
@@ -109,11 +109,11 @@ module _ (ds : List Definition) (w : Record) (raw : ℕ) (r s : Record) (a : Rec
       pub after-scaled : isScaleFactorOf top (w .point) (r .point) ≡ true → s .point ≡ rescaled raw (r .point)
       after-scaled e = subst (By false) e after-other
 
-      -- One whose scale factor is not.
+      -- A point whose scale factor is not written.
       pub after-unscaled : isScaleFactorOf top (w .point) (r .point) ≡ false → s ≡ r
       after-unscaled e = same-parts r s (a .index) (a .id) (a .address) (subst (By false) e after-other)
 
--- The record written itself: its model is known, and the point holds the raw value.
+-- The record of the point written: its model is known, and the point holds the raw value.
 pub after-written : (ds : List Definition) (w : Record) (raw : ℕ) (s : Record) → RecordAfter ds w raw w s
     → Holds raw (w .point) (s .point)
 after-written ds w raw s a = go (topOf (w .id) ds) refl

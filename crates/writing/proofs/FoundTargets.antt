@@ -1,4 +1,4 @@
--- The point that `find` tells of: its record, where it lies, and what writing to it comes to.
+-- The target that `find` returns: its record, its registers, and what writing to it results in.
 use mathlib.Core.Path.{_≡_, refl, sym, ap, subst, _∙_}
 use mathlib.Core.List.{List}
 use mathlib.Core.Option.{Option, none, some}
@@ -16,10 +16,10 @@ use Rattle.listing.specs.Finding as Finding
 use Rattle.listed_records.proofs.RawValues.{record-inside}
 use Rattle.writing.specs.Writing.{refusal, rewritten, Answer, refused, written, writingTo, writing, refusedResult, writtenResult, result, mapAfter}
 
--- ---- Writing to a point
+-- ---- Writing to a target
 
 module _ (t : Target) (raw : ℕ) (map : List ℕ) where
-  -- It is refused.
+  -- If the target is refused, the result is that refusal and the map stays.
   pub refuses : {n : ℕ} → some n ≡ refusal t raw
       → (refusedResult n 0 ≡ result (writingTo t raw map)) × (map ≡ mapAfter (writingTo t raw map) map)
   refuses {n} e =
@@ -27,7 +27,7 @@ module _ (t : Target) (raw : ℕ) (map : List ℕ) where
       sym (ap {B = Answer} (λ o. elim o [ some n ↦ refused n 0 | none ↦ written (rewritten t raw map) ]) e) in
       (sym (ap result a), sym (ap (λ x. mapAfter x map) a))
 
-  -- It takes the value.
+  -- If it is not, the result is that the point is written, and its registers are stored.
   pub takes : {new : List ℕ} → none ≡ refusal t raw
       → new ≡ sets map (t .address) (split (t .definition .size) raw)
       → (writtenResult ≡ result (writingTo t raw map)) × (new ≡ mapAfter (writingTo t raw map) map)
@@ -37,16 +37,16 @@ module _ (t : Target) (raw : ℕ) (map : List ℕ) where
       sym (ap {B = Answer} (λ o. elim o [ some n ↦ refused n 0 | none ↦ written (rewritten t raw map) ]) e) in
       (sym (ap result a), w ∙ sym (ap (λ x. mapAfter x map) a))
 
--- ---- What is told
+-- ---- Findings by their results
 
--- A target that is told is that of a record.
+-- A target that is returned is that of a record.
 result-record : (f : Finding.Finding) (t : Target) → Finding.foundResult t ≡ Finding.result f
     → (w : Record) × (f ≡ Finding.found w) × (t ≡ targetOf w)
 result-record (Finding.refused n place) t e = impossible (cc)
 result-record Finding.nothing t e = impossible (cc)
 result-record (Finding.found w) t e = (w, refl, cc)
 
--- The other answers.
+-- The other two results.
 result-nothing : (f : Finding.Finding) → Finding.nothingResult ≡ Finding.result f → f ≡ Finding.nothing
 result-nothing (Finding.refused n place) e = impossible (cc)
 result-nothing Finding.nothing e = refl
@@ -57,16 +57,18 @@ result-refused (Finding.refused m at) n place e = cc
 result-refused Finding.nothing n place e = impossible (cc)
 result-refused (Finding.found w) n place e = impossible (cc)
 
--- ---- Writing by what was found
+-- ---- Writing by what is found
 
 module _ (catalog map : List ℕ) (index number : ℕ) (path : List ℕ) (raw : ℕ) where
+  -- What finding the point results in,
   abbrev found : Finding.Finding
   found = finding catalog map index number path
 
+  -- and what writing to it results in.
   abbrev all : Answer
   all = writing catalog map index number path raw
 
-  -- A refusal of listing is that of writing; nothing found is 31.
+  -- A refusal of finding is that of writing.
   pub writing-refused : (n place : ℕ) → Finding.refusedResult n place ≡ Finding.result found
       → (refusedResult n place ≡ result all) × (map ≡ mapAfter all map)
   unfolding writing
@@ -74,18 +76,20 @@ module _ (catalog map : List ℕ) (index number : ℕ) (path : List ℕ) (raw : 
       let a : all ≡ refused n place = rw (result-refused found n place e, writing) in
       (sym (ap result a), sym (ap (λ x. mapAfter x map) a))
 
+  -- If nothing is found, writing is refused by 31.
   pub writing-nothing : Finding.nothingResult ≡ Finding.result found → (refusedResult 31 0 ≡ result all) × (map ≡ mapAfter all map)
   unfolding writing
   writing-nothing e =
       let a : all ≡ refused 31 0 = rw (result-nothing found e, writing) in
       (sym (ap result a), sym (ap (λ x. mapAfter x map) a))
 
+  -- If a record is found, its target is written to.
   by-found : (w : Record) → found ≡ Finding.found w → all ≡ writingTo (targetOf w) raw map
   unfolding writing
   by-found w f = rw (f, writing)
 
   module _ (t : Target) (e : Finding.foundResult t ≡ Finding.result found) where
-    -- What writing to the target comes to is what writing comes to.
+    -- Writing to the target that is returned is writing to the point.
     pub writing-found : writingTo t raw map ≡ all
     writing-found =
         let r = result-record found t e in ap (λ x. writingTo x raw map) (r .2) ∙ sym (by-found (r .0) (r .1))

@@ -1,13 +1,17 @@
 -- The claims
 pub mod ReadBack
+pub mod WrittenReadsBack
 pub mod OtherRecords
 pub mod NoSuchPoint
+pub mod ScaleFactors
 pub mod SameValue
 pub mod WorkedWrites
 -- Laws of the definitions, and what the proofs of the functions cite
 pub mod ValueStatus
+pub mod PairedWalk
+pub mod ModelFactors
 pub mod OnePointAfter
-pub mod GroupsAfter
+pub mod ScopesAfter
 pub mod ModelAfter
 pub mod WritingCases
 pub mod AfterCases

@@ -1,4 +1,4 @@
--- What an accepted write makes of the records of a map: they are listed as before, each as writing makes it.
+-- The records of a map after an accepted write: they are listed as before, each changed as `RecordAfter` says.
 use mathlib.Core.Path.{_≡_, refl, sym, ap, subst, _∙_}
 use mathlib.Core.Bool.{Bool, true}
 use mathlib.Core.List.{List, _∷_, _++_}
@@ -44,7 +44,7 @@ module _ (ds : List Definition) (w : Record) (raw : ℕ) where
         point = subst P (sym (ne-eqb (r .index) (w .index) n)) refl;
       }
 
-  -- The records of points of the model written are what writing makes of the points.
+  -- A record of the model that is written to changes as its point does.
   own-model : (c : Content) → topOf (w .id) ds ≡ some c → (at id : ℕ) (p q : ModelPoint) → PointAfter c (w .point) raw p q
       → RecordAfter ds w raw (recordOf (w .index) at id p) (recordOf (w .index) at id q)
   own-model c t at id p q a =
@@ -59,7 +59,7 @@ module _ (ds : List Definition) (w : Record) (raw : ℕ) where
 
 module _ (catalog map : List ℕ) (rs : List Record) (headers : ℕ)
     (all : allRecords catalog map ≡ listed rs headers) (w : Record) (there : In w rs) (raw : ℕ) (can : Writable (targetOf w) raw) where
-  -- For any writable record of the map, the records are listed as before, each as writing makes it.
+  -- After a write to any writable record of the map, the records are listed as before, each changed so.
   records-after : (ss : List Record)
       × (allRecords catalog (rewritten (targetOf w) raw map) ≡ listed ss headers)
       × Pairwise (RecordAfter (definitions catalog) w raw) rs ss
@@ -108,7 +108,7 @@ module _ (catalog map : List ℕ) (rs : List Record) (headers : ℕ)
         r .2,
       )
 
--- So it is for the record that is found and not refused.
+-- The same for the record that is found and not refused.
 pub map-after : (catalog map : List ℕ) (rs : List Record) (headers : ℕ) → allRecords catalog map ≡ listed rs headers
     → (index number : ℕ) (path : List ℕ) (w : Record) → firstWith (isRecord index number path) rs ≡ some w
     → (raw : ℕ) → refusal (targetOf w) raw ≡ none

@@ -1,8 +1,8 @@
--- What a write makes of one model: its point holds the raw value, those that it scales are rescaled, all others stay.
+-- One model after a write: the point written holds the raw value, the points that it scales are rescaled, all others stay.
 use mathlib.Core.Path.{_≡_, sym, ap, subst, _∙_}
 use mathlib.Core.Bool.{true, false}
-use mathlib.Core.List.{List}
-use Prim.Native.Nat.{ℕ, _-_, _≤_}
+use mathlib.Core.List.{List, _++_}
+use Prim.Native.Nat.{ℕ, _≤_}
 use native.Mathlib.Omega.{arith}
 use borrow.Author.Tests.{eqb-true}
 use lib.Dec.{eqb}
@@ -12,8 +12,7 @@ use Rattle.lists.specs.Each.{Each, Pairwise}
 use Rattle.lists.specs.Members.{In}
 use Rattle.lists.proofs.TestOutcomes.{both}
 use Rattle.lists.proofs.EachLaws.{each-one, each-parts}
-use Rattle.lists.proofs.InLaws.{in-append-left, in-append-right}
-use Rattle.lists.proofs.PairwiseLaws.{pairwise-append}
+use Rattle.lists.proofs.InLaws.{in-append-left}
 use Rattle.registers.specs.Registers.{split}
 use Rattle.values.specs.Classes.{classified, isUnimplementedClass}
 use Rattle.catalog_frames.specs.Frames.{Point, readOnly}
@@ -28,18 +27,18 @@ use Rattle.layout.specs.Tiling.{lowerPoints, definedPoints}
 use Rattle.layout.specs.Paths.{depthIn, agreeTo, pathOf}
 use Rattle.layout.proofs.OnePoint.{one-point}
 use Rattle.layout.proofs.LeftOutPad.{each-but-last, left-out}
-use Rattle.layout.proofs.GroupDescent.{definition-below}
 use Rattle.layout.proofs.Readings.{Full, resolves-left, pointsLeft, read-left, read-full, by-reading}
 use Rattle.layout.proofs.ListedPoints.{all-sized}
 use Rattle.layout.proofs.Places.{Place}
 use Rattle.layout.proofs.PointPlaces.{in-but-last, point-defined, point-inside, point-places}
-use Rattle.layout.proofs.Depths.{levels, absent-depth}
+use Rattle.layout.proofs.Depths.{levels}
 use Rattle.layout.proofs.ReadOnlyCounts as counts
 use Rattle.writing.specs.Writing.{canHold}
 use Rattle.writing.specs.AfterWriting.{PointAfter}
 use Rattle.writing.proofs.OnePointAfter as one
-use Rattle.writing.proofs.OnePointAfter.{fails, Write, inScope}
-use Rattle.writing.proofs.GroupsAfter as after
+use Rattle.writing.proofs.OnePointAfter.{fails, Write}
+use Rattle.writing.proofs.ScopesAfter as after
+use Rattle.writing.proofs.PairedWalk.{inScope, Enters, Deeper, Related, points-paired, content-paired}
 
 -- ---- One model
 
@@ -49,11 +48,11 @@ module _ (d : Definition) (sound : SoundDefinition d) (body : List ℕ) (ps : Li
     (writable : w .definition .access ≡ readOnly → ⊥) (small : w .definition .size ≤ 4)
     (implemented : isUnimplementedClass (classified (w .definition .typeCode) (w .raw)) ≡ false)
     (holds : canHold (w .definition) raw ≡ true) where
-  -- The body behind the write.
+  -- The body after the write.
   abbrev new : List ℕ
   new = sets body (w .offset) (split (w .definition .size) raw)
 
-  -- The point written is by one of the definition.
+  -- The point written is a point of the definition.
   known : In (w .definition) (definedPoints d)
   known = point-defined d sound body ps read w there
 
@@ -71,21 +70,37 @@ module _ (d : Definition) (sound : SoundDefinition d) (body : List ℕ) (ps : Li
         holds = holds;
       }
 
-  -- A top point is one of the definition.
+  -- How the scope at each place of the model changes,
+  abbrev Scopes : List Point → List ℕ → Scope → Scope → Type 0
+  Scopes = one.Scopes (d .top) w raw body
+
+  -- on entering an instance,
+  enters : Enters body new (Place (d .top) w) Scopes
+  enters = after.scope-enters (d .top) w raw body (definedPoints d) write
+
+  -- and at one more instance number.
+  deeper : Deeper (d .top) Scopes
+  deeper = after.scope-deeper (d .top) w raw body (definedPoints d) write
+
+  -- How the point at each place changes.
+  point : Related (definedPoints d) body new (Place (d .top) w) (PointAfter (d .top) w raw) Scopes
+  point s t path a around visible p = one.point-after (d .top) w raw body (definedPoints d) write s t path a around visible p
+
+  -- A top point is a point of the definition.
   topKnown : (p : Point) → In p (d .top .points) → In p (definedPoints d)
   topKnown p i = in-append-left p (d .top .points) (lowerPoints (d .top .groups)) i
 
-  -- The body stays as long as it was.
+  -- The body keeps its length.
   same-length : length new ≡ length body
   same-length = length-sets body (w .offset) (split (w .definition .size) raw)
 
-  -- Points that lie apart from the one written have become what the write makes of them, and are read.
+  -- If the points qs lie apart from the one written, the new body is read, and each of its points is a point of qs changed so.
   abbrev After : List ModelPoint → Type 0
   After qs =
       Each (Place (d .top) w) qs
       → (rs : List ModelPoint) × (readBy (d .id) (d .top) new ≡ points rs) × Pairwise (PointAfter (d .top) w raw) qs rs
 
-  -- Those of a model whose last pad is left out.
+  -- The points of a model whose last pad is left out.
   left-after : padLeftOut (d .id) (d .top) (length body) ≡ true → After (pointsLeft (d .id) (d .top) body)
   left-after t places =
       let tops = d .top .points in
@@ -99,28 +114,28 @@ module _ (d : Definition) (sound : SoundDefinition d) (body : List ℕ) (ps : Li
       after.own-becomes (d .top) w raw body (definedPoints d) write noInstance S 0 tops L each places nothing nothing in (
         pointsLeft (d .id) (d .top) new,
         read-left (d .id) (d .top) new (ap (λ (n : ℕ). padLeftOut (d .id) (d .top) n) same-length ∙ t),
-        after.points-after (d .top) w raw body (definedPoints d) write noInstance 0 tops L L each resolve
-            (λ p i. topKnown p (in-but-last p tops i)) S S′ scopes places,
+        points-paired (d .top) (definedPoints d) body new (Place (d .top) w) (PointAfter (d .top) w raw) Scopes enters deeper point
+            noInstance 0 tops L L each resolve (λ p i. topKnown p (in-but-last p tops i)) S S′ scopes places,
       )
 
-  -- In a model that is read in full, by the places of its top points and of those of its groups.
+  -- A model that is read in full, by the places of its top points.
   module _ (ownPlaces : Each (Place (d .top) w)
       (pointsAt body (topInstance (d .top .points) body) 0 (d .top .points))) where
     -- The scope of its top group before the write,
     abbrev old : Scope
     old = topScope (d .top .points) body
 
-    -- and behind it.
+    -- and after it.
     abbrev now : Scope
     now = topScope (d .top .points) new
 
-    -- What the top points hold.
-    scopes : one.Scopes (d .top) w raw body (d .top .points) noInstance old now
+    -- How the registers of the top points change.
+    scopes : Scopes (d .top .points) noInstance old now
     scopes =
         after.own-becomes (d .top) w raw body (definedPoints d) write noInstance old 0 (d .top .points) (d .top .points)
         (sound .points) ownPlaces nothing nothing
 
-    -- Those of access R hold the same as before: none of them is written.
+    -- Top points with access R hold the same as before: none of them is written.
     read-only-stay : (p : Point) → In p (d .top .points) → p .access ≡ readOnly → now (p .number) ≡ old (p .number)
     read-only-stay p i a =
         let isWritten = one.isWritten (d .top) w raw body noInstance (p .number) in
@@ -131,7 +146,7 @@ module _ (d : Definition) (sound : SoundDefinition d) (body : List ℕ) (ps : Li
         let same = one-point d sound p (w .definition) (topKnown p i) known (eqb-true (p .number) (w .definition .number) e) in
         absurd (writable (sym (ap (λ (x : Point). x .access) same) ∙ a))))
 
-    -- It is read in full again.
+    -- The new body is read in full again.
     full-again : Full (d .top) body → Full (d .top) new
     full-again f =
         record {
@@ -140,34 +155,22 @@ module _ (d : Definition) (sound : SoundDefinition d) (body : List ℕ) (ps : Li
           fitting = counts.same-fit (d .top) (sound .groups) body new same-length read-only-stay ∙ f .fitting;
         }
 
-    -- Its points.
+    -- Its points are the old ones, changed so.
     content-after : Each (Place (d .top) w)
         (groupsAt body (countsOf (d .top) body) 2 (inScope old noInstance) (pointsSize (d .top .points)) (d .top .groups))
         → Pairwise (PointAfter (d .top) w raw) (contentAt (d .top) body) (contentAt (d .top) new)
     unfolding contentAt
     content-after lowerPlaces =
         let tops = d .top .points in
-        let g = d .top .groups in
-        let below = definition-below d sound in
         let R = PointAfter (d .top) w raw in
-        let shallow : (p : Point) → In p tops → p .number ≡ w .definition .number
-        → depthIn (w .definition .number) g ≤ 2 - 2 = λ p i e.
-        omega (arith, absent-depth (w .definition .number) g (rw (← e) (below .apart p i))) in
-        let ownPoints = pointsAt body (inScope old noInstance) 0 tops in
-        let lower = groupsAt body (countsOf (d .top) body) 2 (inScope old noInstance) (pointsSize tops) g in
         let again =
         counts.same-groups (d .top) (sound .groups) body new same-length read-only-stay (inScope now noInstance)
         (pointsSize tops) in
-        pairwise-append R ownPoints (pointsAt new (inScope now noInstance) 0 tops) lower
-        (groupsAt new (countsOf (d .top) new) 2 (inScope now noInstance) (pointsSize tops) g)
-        (after.points-after (d .top) w raw body (definedPoints d) write noInstance 0 tops tops tops (sound .points)
-        (points-resolve tops tops (sound .points)) topKnown old now scopes ownPlaces)
-        (subst (λ qs. Pairwise R lower qs) (sym again)
-        (after.groups-after (d .top) w raw body (definedPoints d) write (countsOf (d .top) body) tops tops 2 noInstance
-        (pointsSize tops) g below (omega arith) (λ _. omega arith) shallow topKnown
-        (λ p i. in-append-right p tops (lowerPoints g) i) old now scopes lowerPlaces))
+        subst (λ qs. Pairwise R (contentAt (d .top) body) (pointsAt new (inScope now noInstance) 0 tops ++ qs)) (sym again)
+        (content-paired d sound body new (Place (d .top) w) R Scopes enters deeper point (countsOf (d .top) body) old now scopes
+        ownPlaces lowerPlaces)
 
-  -- Those of a model that is read in full.
+  -- The points of a model that is read in full.
   full-after : padLeftOut (d .id) (d .top) (length body) ≡ false → Full (d .top) body → After (contentAt (d .top) body)
   unfolding contentAt
   full-after kept f places =
@@ -181,7 +184,7 @@ module _ (d : Definition) (sound : SoundDefinition d) (body : List ℕ) (ps : Li
         content-after (parts .0) (parts .1),
       )
 
-  -- The model is read again, and each of its points has become what the write makes of it.
+  -- The new body is read, and each of its points is an old one, changed as `PointAfter` says.
   pub model-after : (qs : List ModelPoint)
       × (readBy (d .id) (d .top) (sets body (w .offset) (split (w .definition .size) raw)) ≡ points qs)
       × Pairwise (PointAfter (d .top) w raw) ps qs

@@ -1,4 +1,4 @@
--- 31 is honest: a point that listing shows is never refused as missing, and where 31 is the answer no record is that point's.
+-- 31 is exact: a write to a point that listing shows never returns 31; if a write returns 31, no record is that of the point.
 use mathlib.Core.Path.{_≡_, sym, subst, _∙_}
 use mathlib.Core.Bool.{false}
 use mathlib.Core.List.{List}
@@ -9,39 +9,18 @@ use Rattle.lists.specs.Members.{In}
 use Rattle.lists.proofs.TestOutcomes.{impossible}
 use Rattle.lists.proofs.FirstFound.{not-none, none-found}
 use Rattle.layout.specs.Paths.{pathOf}
-use Rattle.listing.specs.Listing.{Record, listed, allRecords, listing}
-use Rattle.listing.specs.Finding.{isRecord, finding, targetOf}
-use Rattle.listing.specs.Finding as Finding
+use Rattle.listing.specs.Listing.{Record, listed, allRecords}
+use Rattle.listing.specs.Finding.{isRecord, targetOf}
 use Rattle.listing.proofs.WalkSteps.{not-listed}
 use Rattle.listing.proofs.ListingInversion.{listed-walks}
 use Rattle.listing.proofs.ListingCases.{walk-records}
 use Rattle.listed_records.proofs.OneRecord.{own-found}
 use Rattle.writing.specs.Writing.{Answer, refused, writing}
+use Rattle.writing.specs.NoSuchPoint.{Missing, NoSuchPointExact}
 use Rattle.writing.proofs.WritingCases.{Case, listingRefused, noPoint, pointRefused, pointWritten, writing-case, finding-found, records-number, refusal-number}
 
--- There is no such point: of all records that the map has, and so of those that a listing shows, none is that of the point asked for.
-pub record Missing (catalog map : List ℕ) (index number : ℕ) (path : List ℕ) : Type 0 where
-  pub records : List Record
-  pub headers : ℕ
-  pub all : allRecords catalog map ≡ listed records headers
-  pub none : Each (λ r. isRecord index number path r ≡ false) records
-  pub unlisted : (capacity : ℕ) (rs : List Record) (n : ℕ) → listing catalog map capacity ≡ listed rs n
-      → Each (λ r. isRecord index number path r ≡ false) rs
-
--- What is claimed of 31. A point that listing shows, with any room, is found by its index, number and path, and none else; so it
--- is never refused so, whatever the raw value. And where a write is refused so, the place is 0 and there is no such point.
-pub record NoSuchPointExact (catalog map : List ℕ) : Type 0 where
-  pub shownIsIt : (capacity : ℕ) (rs : List Record) (headers : ℕ) → listing catalog map capacity ≡ listed rs headers
-      → (r : Record) → In r rs
-      → finding catalog map (r .index) (r .point .definition .number) (pathOf (r .point)) ≡ Finding.found r
-  pub shownIsFound : (capacity : ℕ) (rs : List Record) (headers : ℕ) → listing catalog map capacity ≡ listed rs headers
-      → (r : Record) → In r rs → (raw place : ℕ)
-      → writing catalog map (r .index) (r .point .definition .number) (pathOf (r .point)) raw ≡ refused 31 place → ⊥
-  pub refusedIsMissing : (index number : ℕ) (path : List ℕ) (raw place : ℕ)
-      → writing catalog map index number path raw ≡ refused 31 place → (place ≡ 0) × Missing catalog map index number path
-
 module _ (catalog map : List ℕ) where
-  -- A point that is one of all records is not refused so, in whatever way the answer is reached.
+  -- A write to the point of a record of the map is not refused by 31, whatever decides the answer.
   found-case : (r : Record) (raw place : ℕ) {rs : List Record} {headers : ℕ} → allRecords catalog map ≡ listed rs headers
       → In r rs → (answer : Answer)
       → Case catalog map (r .index) (r .point .definition .number) (pathOf (r .point)) raw answer
@@ -56,7 +35,7 @@ module _ (catalog map : List ℕ) where
       omega arith
   found-case r raw place e i answer (pointWritten q found why) f = impossible (cc)
 
-  -- Only one way leads to 31.
+  -- An answer is 31 only if no record is that of the point.
   missing-case : (index number : ℕ) (path : List ℕ) (raw place : ℕ) (answer : Answer)
       → Case catalog map index number path raw answer → answer ≡ refused 31 place
       → (place ≡ 0) × Missing catalog map index number path
@@ -86,7 +65,7 @@ module _ (catalog map : List ℕ) where
   missing-case index number path raw place answer (pointWritten q found why) f =
       impossible (cc)
 
-  -- 31 is honest with every catalog and every map.
+  -- 31 is exact for every catalog and every map.
   pub no-such-point-exact : NoSuchPointExact catalog map
   no-such-point-exact =
       record {

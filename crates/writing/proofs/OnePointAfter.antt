@@ -1,4 +1,4 @@
--- What a write makes of one point of the model: the point written, one whose scale factor it is, or another.
+-- One point of a model after a write to the point w: it is w, or w is its scale factor, or neither.
 use mathlib.Core.Path.{_≡_, refl, sym, ap, subst, _∙_}
 use mathlib.Core.Bool.{Bool, true, false, not, _&&_}
 use mathlib.Core.List.{List}
@@ -21,7 +21,7 @@ use Rattle.catalog_frames.specs.Frames.{Point, scaleByPoint, sunssf}
 use Rattle.frame_rules.specs.FrameTests.{isSizeOf}
 use Rattle.model_definitions.specs.Definitions.{Content}
 use Rattle.model_definitions.specs.Soundness.{SoundPoint, ScaleResolves}
-use Rattle.layout.specs.Points.{ModelPoint, Scope, Instance, statusOf, scaleOf, registersAt, pointAt}
+use Rattle.layout.specs.Points.{ModelPoint, Scope, statusOf, scaleOf, registersAt, pointAt}
 use Rattle.layout.specs.Paths.{depthIn, agreeTo, pathOf}
 use Rattle.layout.proofs.ScopeOnly.{same-status, same-scale, shownAs, shown-same}
 use Rattle.layout.proofs.Places.{Place}
@@ -29,17 +29,14 @@ use Rattle.layout.proofs.Depths.{levels, agree-itself}
 use Rattle.writing.specs.Writing.{canHold}
 use Rattle.writing.specs.AfterWriting.{Holds, rescaled, PointAfter}
 use Rattle.writing.proofs.ValueStatus as status
+use Rattle.writing.proofs.PairedWalk.{inScope}
 
--- A test fails that leads to a contradiction.
+-- A test whose success leads to a contradiction fails.
 pub fails : (b : Bool) → (b ≡ true → true ≡ false) → b ≡ false
 fails true f = f refl
 fails false f = refl
 
--- The instance with a scope and a path.
-abbrev pub inScope : Scope → List ℕ → Instance
-inScope scope path = record { scope = scope; path = path }
-
--- What is known of a write of a raw number to the point w of a body, by a definition with these points.
+-- What is known of a write of `raw` to the point w of a body, by a definition with the points `defined`.
 pub record Write (defined : List Point) (w : ModelPoint) (raw : ℕ) (body : List ℕ) : Type 0 where
   pub onePoint : (p q : Point) → In p defined → In q defined → p .number ≡ q .number → p ≡ q
   pub known : In (w .definition) defined
@@ -50,7 +47,7 @@ pub record Write (defined : List Point) (w : ModelPoint) (raw : ℕ) (body : Lis
   pub holds : canHold (w .definition) raw ≡ true
 
 module _ (top : Content) (w : ModelPoint) (raw : ℕ) (body : List ℕ) where
-  -- How many instance numbers lead to the point written.
+  -- The number of instance numbers that lead to the point written.
   abbrev pub depth : ℕ
   depth = depthIn (w .definition .number) (top .groups)
 
@@ -62,30 +59,30 @@ module _ (top : Content) (w : ModelPoint) (raw : ℕ) (body : List ℕ) where
   abbrev pub new : List ℕ
   new = sets body (w .offset) values
 
-  -- Is it the point written that a number names from within the instance with a path?
+  -- Does this number, used in the instance with this path, name the point written?
   abbrev pub isWritten : List ℕ → ℕ → Bool
   isWritten path number = eqb number (w .definition .number) && agreeTo depth (pathOf w) (levels path)
 
-  -- A register in reach under a number, after the write.
+  -- The register in scope under this number after the write; `register` is that before it.
   abbrev pub becomes : List ℕ → ℕ → ℕ → ℕ
   becomes path number register = elim (isWritten path number) [ true ↦ getD new (w .offset) 0 | false ↦ register ]
 
-  -- That of the point written,
+  -- It is the new register if the number names the point written,
   becomes-written : (path : List ℕ) (number register : ℕ) → isWritten path number ≡ true
       → becomes path number register ≡ getD new (w .offset) 0
   becomes-written path number register e = ap (λ b. elim b [ true ↦ getD new (w .offset) 0 | false ↦ register ]) e
 
-  -- and that of another.
+  -- and else the old one.
   pub becomes-other : (path : List ℕ) (number register : ℕ) → isWritten path number ≡ false
       → becomes path number register ≡ register
   becomes-other path number register e = ap (λ b. elim b [ true ↦ getD new (w .offset) 0 | false ↦ register ]) e
 
-  -- The two scopes at a place of the walk, for these points in reach there.
+  -- Scope t is scope s after the write, for the points `visible` that are in scope in the instance with this path.
   abbrev pub Scopes : List Point → List ℕ → Scope → Scope → Type 0
   Scopes visible path s t = (p : Point) → In p visible → t (p .number) ≡ becomes path (p .number) (s (p .number))
 
   module _ (defined : List Point) (x : Write defined w raw body) where
-    -- As many registers are written as the point has,
+    -- The number of registers written is the size of the point,
     count : length values ≡ w .definition .size
     count = split-length (w .definition .size) raw
 
@@ -94,7 +91,7 @@ module _ (top : Content) (w : ModelPoint) (raw : ℕ) (body : List ℕ) where
     fitting = omega (arith, count, x .inside)
 
     module _ (s : Scope) (path : List ℕ) (a : ℕ) (p : Point) (place : Place top w (pointAt body (inScope s path) a p)) where
-      -- Another point's registers lie before or behind those written.
+      -- The registers of another point lie before or after those written.
       away : (a ≡ w .offset → ⊥) → (a + p .size ≤ w .offset) ⊎ (w .offset + length values ≤ a)
       unfolding pointAt
       away other = subst (λ (n : ℕ). (a + p .size ≤ w .offset) ⊎ (w .offset + n ≤ a)) (sym count) (place .apart other)
@@ -124,7 +121,7 @@ module _ (top : Content) (w : ModelPoint) (raw : ℕ) (body : List ℕ) where
     module _ (s t : Scope) (path : List ℕ) (a : ℕ) (around visible : List Point) (p : Point) (sound : SoundPoint around p)
         (resolves : ScaleResolves visible p) (scopeKnown : (f : Point) → In f visible → In f defined)
         (scopes : Scopes visible path s t) where
-      -- The point that gives the scale factor is a sunssf point of the definition.
+      -- The scale point of p is a sunssf point of the definition.
       factor : p .scaleKind ≡ scaleByPoint → (f : Point) × (In f defined) × (f .number ≡ p .scale) × (f .typeCode ≡ sunssf)
       factor k = let f = resolves k in (f .0, scopeKnown (f .0) (f .1), f .2, f .3)
 
@@ -134,13 +131,13 @@ module _ (top : Content) (w : ModelPoint) (raw : ℕ) (body : List ℕ) where
           let f = resolves k in
           subst (λ (n : ℕ). t n ≡ becomes path n (s n)) (f .2) (scopes (f .0) (f .1))
 
-      -- The raw number is not too wide.
+      -- The raw value is not too wide.
       narrow : tooWide (w .definition .size) raw ≡ false
       narrow =
           not-true (tooWide (w .definition .size) raw)
           (both (isValue (classified (w .definition .typeCode) raw)) (not (tooWide (w .definition .size) raw)) (x .holds) .1)
 
-      -- Where the point written is the scale factor, the register is the raw number.
+      -- If the scale point is the point written, its register is the raw value.
       factor-written : p .scaleKind ≡ scaleByPoint → isWritten path (p .scale) ≡ true → t (p .scale) ≡ raw
       factor-written k e =
           let f = factor k in
@@ -155,21 +152,21 @@ module _ (top : Content) (w : ModelPoint) (raw : ℕ) (body : List ℕ) where
           ∙ ap (λ (n : ℕ). getD (split n raw) 0 0) one
           ∙ one-register raw (rw one at narrow)
 
-      -- Where it is not, the register stays.
+      -- If it is not, its register stays.
       factor-stays : p .scaleKind ≡ scaleByPoint → isWritten path (p .scale) ≡ false → t (p .scale) ≡ s (p .scale)
       factor-stays k e = scale-register k ∙ becomes-other path (p .scale) (s (p .scale)) e
 
-      -- The point at its place.
+      -- The point p, placed from a.
       module _ (place : Place top w (pointAt body (inScope s path) a p)) where
-        -- The point as it was,
+        -- It before the write,
         abbrev old : ModelPoint
         old = pointAt body (inScope s path) a p
 
-        -- and as it is.
+        -- and after it.
         abbrev after : ModelPoint
         after = pointAt new (inScope t path) a p
 
-        -- A point elsewhere keeps its registers.
+        -- A point at another place keeps its registers.
         unchanged : (a ≡ w .offset → ⊥) → (register : ℕ) → (p .scaleKind ≡ scaleByPoint → t (p .scale) ≡ register)
             → after ≡ shownAs path a p (join (registersAt body a p)) (shownRaw (registersAt body a p)) register
         unfolding pointAt
@@ -178,7 +175,7 @@ module _ (top : Content) (w : ModelPoint) (raw : ℕ) (body : List ℕ) where
             (part-stays body (w .offset) values fitting a (p .size) (away s path a p place other))
             ∙ shown-same path a p (join (registersAt body a p)) (shownRaw (registersAt body a p)) (t (p .scale)) register same
 
-        -- A point whose scale factor has been written.
+        -- A point whose scale factor is written is rescaled.
         scaled : (a ≡ w .offset → ⊥) → p .scaleKind ≡ scaleByPoint → isWritten path (p .scale) ≡ true → after ≡ rescaled raw old
         unfolding pointAt
         scaled other k e =
@@ -189,17 +186,17 @@ module _ (top : Content) (w : ModelPoint) (raw : ℕ) (body : List ℕ) where
             unchanged other raw (λ _. factor-written k e)
             ∙ ap (λ (x : ℕ). shownAs path a p x (shownRaw rs) raw) (sym (shown rs few))
 
-        -- Another point.
+        -- Any other point stays.
         stays : (a ≡ w .offset → ⊥) → (p .scaleKind ≡ scaleByPoint → isWritten path (p .scale) ≡ false) → after ≡ old
         unfolding pointAt
         stays other unscaled = unchanged other (s (p .scale)) (λ k. factor-stays k (unscaled k))
 
-        -- The point written is p.
+        -- At the place of the point written, p is that point.
         same-point : a ≡ w .offset → p ≡ w .definition
         unfolding pointAt
         same-point here = ap (λ (x : ModelPoint). x .definition) (place .same here)
 
-        -- Its registers are those written.
+        -- Its registers are then those written.
         holding : a ≡ w .offset → registersAt new a p ≡ values
         holding here =
             let size : p .size ≡ length values = ap (λ (x : Point). x .size) (same-point here) ∙ sym count in
@@ -240,7 +237,7 @@ module _ (top : Content) (w : ModelPoint) (raw : ℕ) (body : List ℕ) where
             ∙ status.value-class (classified (w .definition .typeCode) raw)
             (both (isValue (classified (w .definition .typeCode) raw)) (not (tooWide (w .definition .size) raw)) (x .holds) .0)
 
-        -- The point written.
+        -- So the point written holds the raw value.
         written : a ≡ w .offset → Holds raw old after
         unfolding pointAt
         written here =
@@ -270,7 +267,7 @@ module _ (top : Content) (w : ModelPoint) (raw : ℕ) (body : List ℕ) where
                   ap (λ (x : ℕ). scaleOf p x r′) (kept f) ∙ same-scale p r′ r (own-factor here) (old .status);
             }
 
-        -- What becomes of the point.
+        -- How the point changes, in each of these cases.
         pub point-after : PointAfter top w raw old after
         unfolding pointAt
         point-after = go (eqb a (w .offset)) refl (eqb (p .scaleKind) scaleByPoint) refl (isWritten path (p .scale)) refl

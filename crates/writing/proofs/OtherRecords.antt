@@ -1,5 +1,5 @@
--- What an accepted write makes of every record of a map: the point written holds the raw value, the points that it scales have
--- the status and scale that it gives, and all others stay as they are.
+-- Every record of a map after an accepted write: the point written holds the raw value, the points that it scales have the status
+-- and scale that it gives, and all others stay as they are.
 use mathlib.Core.Path.{_≡_, refl, sym, ap, subst, _∙_}
 use mathlib.Core.Bool.{Bool, true, false}
 use mathlib.Core.List.{List, _∷_, _++_}
@@ -11,52 +11,24 @@ use lib.Dec.{eqb}
 use lib.ListN.{length, take}
 use lib.Seq.{take-at}
 use Rattle.lists.specs.Members.{In}
-use Rattle.lists.specs.Tests.{firstWith}
 use Rattle.lists.specs.Each.{Pairwise}
 use Rattle.lists.proofs.FirstFound.{found-in}
 use Rattle.lists.proofs.PairwiseLaws.{pairwise-at, pairwise-implied}
 use Rattle.model_definitions.specs.Definitions.{Content, Definition, definitions}
 use Rattle.register_map.specs.Scan.{totalSize, scan}
 use Rattle.layout.specs.Reading.{topOf}
-use Rattle.listing.specs.Listing.{Record, listed, allRecords, listing}
+use Rattle.listing.specs.Listing.{Record, listed, allRecords}
 use Rattle.listing.specs.Finding.{isRecord}
 use Rattle.listed_records.proofs.RecordSources.{record-source}
 use Rattle.writing.specs.Writing.{written, writing}
-use Rattle.writing.specs.AfterWriting.{isScaleFactorOf, Holds, rescaled, RecordAfter}
+use Rattle.writing.specs.AfterWriting.{isScaleFactorOf, RecordAfter}
+use Rattle.writing.specs.OtherRecords.{Change, OtherRecords}
 use Rattle.writing.proofs.AfterCases.{after-unchanged, after-here, after-scaled, after-unscaled}
+use Rattle.writing.proofs.ScaleFactors.{scale-factors}
 use Rattle.writing.proofs.ReadBack.{read-back, shown-after}
 
--- A record r has become s by writing a raw value to the point of the record w, in a model with this top group. It keeps its
--- index, id and address. One of another model is unchanged. One of the same model that is not w, by its address, is unchanged
--- where w is not its scale factor; where w is, only its status and scale change. And w itself holds the raw value.
-pub record Change (top : Content) (w : Record) (raw : ℕ) (r s : Record) : Type 0 where
-  pub index : s .index ≡ r .index
-  pub id : s .id ≡ r .id
-  pub address : s .address ≡ r .address
-  pub unchanged : (r .index ≡ w .index → ⊥) → s ≡ r
-  pub unscaled : (r .address ≡ w .address → ⊥) → isScaleFactorOf top (w .point) (r .point) ≡ false → s ≡ r
-  pub scaled : r .index ≡ w .index → (r .address ≡ w .address → ⊥) → isScaleFactorOf top (w .point) (r .point) ≡ true
-      → s ≡ record { index = r .index; id = r .id; address = r .address; point = rescaled raw (r .point) }
-  pub holds : r .index ≡ w .index → r .address ≡ w .address → Holds raw (r .point) (s .point)
-
--- What an accepted write makes of the records, and so of what a listing shows, whatever the room: as many as before, in the same
--- order, each changed so by the point that was found.
-pub record OtherRecords (catalog map : List ℕ) (index number : ℕ) (path : List ℕ) (raw : ℕ) (new : List ℕ) : Type 0 where
-  pub before : List Record
-  pub after : List Record
-  pub headers : ℕ
-  pub allBefore : allRecords catalog map ≡ listed before headers
-  pub allAfter : allRecords catalog new ≡ listed after headers
-  pub point : Record
-  pub found : firstWith (isRecord index number path) before ≡ some point
-  pub top : Content
-  pub known : topOf (point .id) (definitions catalog) ≡ some top
-  pub changes : Pairwise (Change top point raw) before after
-  pub shown : (capacity : ℕ) (rs : List Record) (n : ℕ) → listing catalog map capacity ≡ listed rs n
-      → (rs ≡ before) × (listing catalog new capacity ≡ listed after n)
-
 module _ (catalog map : List ℕ) (rs : List Record) (headers : ℕ) (all : allRecords catalog map ≡ listed rs headers) where
-  -- A record's address, by its index and its offset.
+  -- The address of a record, by its index and its offset.
   address-of : (r : Record) → In r rs → r .address ≡ 2 + totalSize (take (r .index) (scan map .models)) + 2 + r .point .offset
   address-of r i =
       let o = record-source catalog map rs headers all r i in
@@ -64,14 +36,8 @@ module _ (catalog map : List ℕ) (rs : List Record) (headers : ℕ) (all : allR
       ap (take (r .index)) (o .splits) ∙ take-at (o .preceding) (o .own ∷ o .following) (r .index) (sym (o .index)) in
       o .address ∙ ap (λ ms. 2 + totalSize ms + 2 + r .point .offset) (sym preceding)
 
-  -- A record's model has a definition.
-  top-of : (r : Record) → In r rs → (top : Content) × (topOf (r .id) (definitions catalog) ≡ some top)
-  top-of r i =
-      let o = record-source catalog map rs headers all r i in
-      (o .by .definition .top, ap (λ id. topOf id (definitions catalog)) (o .id) ∙ o .by .known)
-
   module _ (w : Record) (there : In w rs) (raw : ℕ) (top : Content) (known : topOf (w .id) (definitions catalog) ≡ some top) where
-    -- One record.
+    -- One record: from `RecordAfter` to `Change`, where addresses take the place of offsets.
     change-of : (r s : Record) → In r rs → RecordAfter (definitions catalog) w raw r s → Change top w raw r s
     change-of r s i a =
         record {
@@ -89,23 +55,23 @@ module _ (catalog map : List ℕ) (rs : List Record) (headers : ℕ) (all : allR
         ds : List Definition
         ds = definitions catalog
 
-        -- Of two records of one model, the offsets are the same where the addresses are.
+        -- Two records of one model with the same address have the same offset,
         same-offset : r .index ≡ w .index → r .address ≡ w .address → r .point .offset ≡ w .point .offset
         same-offset same e =
             let sizes = ap (λ k. totalSize (take k (scan map .models))) same in
             omega (arith, address-of r i, address-of w there)
 
-        -- And the other way round.
+        -- and the other way round.
         same-address : r .index ≡ w .index → r .point .offset ≡ w .point .offset → r .address ≡ w .address
         same-address same e =
             let sizes = ap (λ k. totalSize (take k (scan map .models))) same in
             omega (arith, address-of r i, address-of w there)
 
-        -- A record of another model.
+        -- A record of another model stays.
         apart : (r .index ≡ w .index → ⊥) → s ≡ r
         apart n = after-unchanged ds w raw r s a n
 
-        -- One whose scale factor is not written, by whether it is of the same model.
+        -- A record whose scale factor is not written stays, whether it is of the same model or not.
         stays : (b : Bool) → eqb (r .index) (w .index) ≡ b → (r .address ≡ w .address → ⊥)
             → isScaleFactorOf top (w .point) (r .point) ≡ false → s ≡ r
         stays true t n f =
@@ -113,19 +79,18 @@ module _ (catalog map : List ℕ) (rs : List Record) (headers : ℕ) (all : allR
             after-unscaled ds w raw r s a same top known (λ e. n (same-address same e)) f
         stays false t n f = apart (eqb-false (r .index) (w .index) t)
 
-    -- All records that writing has made of those of a map.
+    -- All records of a map.
     pub changes-of : (ss : List Record) → Pairwise (RecordAfter (definitions catalog) w raw) rs ss
         → Pairwise (Change top w raw) rs ss
     changes-of ss = pairwise-implied (RecordAfter (definitions catalog) w raw) (Change top w raw) rs ss change-of
 
 module _ (catalog map : List ℕ) (index number : ℕ) (path : List ℕ) (raw : ℕ) (new : List ℕ) where
-  -- Every accepted write comes to this.
+  -- The claim holds of every accepted write.
   pub other-records : writing catalog map index number path raw ≡ written new
       → OtherRecords catalog map index number path raw new
   other-records e =
       let b = read-back catalog map index number path raw new e in
       let there = found-in (isRecord index number path) (b .before) (b .point) (b .found) .0 in
-      let t = top-of catalog map (b .before) (b .headers) (b .allBefore) (b .point) there in
       record {
         before = b .before;
         after = b .after;
@@ -134,15 +99,16 @@ module _ (catalog map : List ℕ) (index number : ℕ) (path : List ℕ) (raw : 
         allAfter = b .allAfter;
         point = b .point;
         found = b .found;
-        top = t .0;
-        known = t .1;
-        changes = changes-of catalog map (b .before) (b .headers) (b .allBefore) (b .point) there raw (t .0) (t .1) (b .after)
-            (b .pairs);
+        top = b .top;
+        known = b .known;
+        changes = changes-of catalog map (b .before) (b .headers) (b .allBefore) (b .point) there raw (b .top) (b .known)
+            (b .after) (b .pairs);
+        factors = scale-factors catalog new (b .after) (b .headers) (b .allAfter);
         shown = λ capacity rs n l.
             let s = shown-after catalog map index number path raw new b capacity rs n l in (s .0, s .2);
       }
 
-  -- So with the records at any one position of the old and the new ones.
+  -- `Change` relates the records at the same position of the two lists.
   pub change-at : (o : OtherRecords catalog map index number path raw new)
       → (preceding : List Record) (r : Record) (following : List Record) → o .before ≡ preceding ++ r ∷ following
       → (preceding′ : List Record) (s : Record) (following′ : List Record) → o .after ≡ preceding′ ++ s ∷ following′

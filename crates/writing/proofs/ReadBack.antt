@@ -1,56 +1,45 @@
--- An accepted write reads back: the point is found again with the raw value, and nothing but its registers has changed.
+-- An accepted write reads back: the point is found again with the raw value, and only its registers have changed.
 use mathlib.Core.Path.{_≡_, sym, ap, subst, _∙_}
-use mathlib.Core.List.{List}
+use mathlib.Core.Bool.{false, not}
+use mathlib.Core.List.{List, [], _∷_}
 use mathlib.Core.Logic.{_⊎_}
-use mathlib.Core.Option.{none, some}
+use mathlib.Core.Option.{some}
 use Prim.Native.Nat.{ℕ, _+_, _≤_, _<_}
 use native.Mathlib.Omega.{arith}
+use borrow.Author.Tests.{ne-eqb}
 use lib.ListN.{length, getD}
 use lib.Seq.{length-sets}
-use Rattle.lists.specs.Tests.{firstWith}
 use Rattle.lists.specs.Each.{Pairwise}
+use Rattle.lists.specs.Members.{In, first, later}
+use Rattle.lists.proofs.TestOutcomes.{both}
+use Rattle.lists.proofs.FirstFound.{found-in}
 use Rattle.lists.proofs.PairwiseLaws.{pairwise-length, pairwise-found}
-use Rattle.registers.specs.Registers.{split}
+use Rattle.registers.specs.Registers.{split, tooWide}
 use Rattle.registers.proofs.Splitting.{split-length}
 use Rattle.registers.proofs.StoredRegisters.{stored-outside}
-use Rattle.model_definitions.specs.Definitions.{definitions}
+use Rattle.values.specs.Classes.{value, Classified, ofClass, classified, isValue}
+use Rattle.catalog_frames.specs.Frames.{Point, scaleByPoint}
+use Rattle.model_definitions.specs.Definitions.{Content, definitions}
+use Rattle.layout.specs.Points.{ModelPoint, statusOf, scaleOf}
+use Rattle.layout.specs.Reading.{topOf}
+use Rattle.layout.proofs.ScopeOnly.{same-scale}
 use Rattle.listing.specs.Listing.{Record, listed, allRecords, withCapacity, listing}
 use Rattle.listing.specs.Finding.{isRecord, targetOf}
 use Rattle.listing.proofs.ListingCases.{with-capacity, listing-records, walk-records}
 use Rattle.listing.proofs.ListingInversion.{listed-walks}
-use Rattle.writing.specs.Writing.{refusal, rewritten, written, writing}
-use Rattle.writing.specs.AfterWriting.{RecordAfter}
-use Rattle.writing.proofs.WritingCases.{accepted-write}
-use Rattle.writing.proofs.AfterCases.{same-record, after-written}
+use Rattle.listed_records.proofs.RecordSources.{record-source}
+use Rattle.writing.specs.Writing.{rewritten, written, writing}
+use Rattle.writing.specs.AfterWriting.{isScaleFactorOf, Holds, rescaled, RecordAfter}
+use Rattle.writing.specs.ScaleFactors.{IsFactor}
+use Rattle.writing.specs.ReadBack.{ScaledBy, ReadBack}
+use Rattle.writing.proofs.ValueStatus.{value-class}
+use Rattle.writing.proofs.WritingCases.{Writable, refusal-none, accepted-write}
+use Rattle.writing.proofs.AfterCases.{same-record, after-written, after-unscaled}
 use Rattle.writing.proofs.MapAfter.{map-after}
-
--- What an accepted write comes to. Before: the records of the map, and the one of the point asked for, which is not refused.
--- After: as many records, each as writing makes it; the point asked for, at its address, has the raw value, and is neither
--- unimplemented nor out of range. Registers that are not the point's are as they were.
-pub record ReadBack (catalog map : List ℕ) (index number : ℕ) (path : List ℕ) (raw : ℕ) (new : List ℕ) : Type 0 where
-  pub before : List Record
-  pub headers : ℕ
-  pub allBefore : allRecords catalog map ≡ listed before headers
-  pub point : Record
-  pub found : firstWith (isRecord index number path) before ≡ some point
-  pub accepted : refusal (targetOf point) raw ≡ none
-  pub rewrites : new ≡ rewritten (targetOf point) raw map
-  pub after : List Record
-  pub allAfter : allRecords catalog new ≡ listed after headers
-  pub pairs : Pairwise (RecordAfter (definitions catalog) point raw) before after
-  pub pointAfter : Record
-  pub foundAfter : firstWith (isRecord index number path) after ≡ some pointAfter
-  pub holds : pointAfter .point .raw ≡ raw
-  pub address : pointAfter .address ≡ point .address
-  pub implemented : pointAfter .point .status ≡ 1 → ⊥
-  pub mandatory : pointAfter .point .status ≡ 2 → ⊥
-  pub inRange : pointAfter .point .status ≡ 5 → ⊥
-  pub sameLength : length new ≡ length map
-  pub outside : (k : ℕ) → (k < point .address) ⊎ (point .address + point .point .definition .size ≤ k)
-      → getD new k 0 ≡ getD map k 0
+use Rattle.writing.proofs.ScaleFactors.{record-factor, scale-factors}
 
 module _ (w : Record) (raw : ℕ) (map : List ℕ) where
-  -- The map stays as long as it was,
+  -- The map keeps its length,
   rewritten-length : length (rewritten (targetOf w) raw map) ≡ length map
   unfolding rewritten
   rewritten-length = length-sets map (w .address) (split (w .point .definition .size) raw)
@@ -64,8 +53,109 @@ module _ (w : Record) (raw : ℕ) (map : List ℕ) where
       stored-outside map (w .address) (split size raw) k 0
       (subst (λ n. (k < w .address) ⊎ (w .address + n ≤ k)) (sym (split-length size raw)) h)
 
+-- ---- The scale factor of the point written
+
+-- An element of the first of two lists that are related pair by pair has a partner in the second.
+pairwise-in : {A : Type 0} (R : A → A → Type 0) (xs ys : List A) → Pairwise R xs ys → (x : A) → In x xs
+    → (y : A) × (In y ys) × R x y
+pairwise-in R (x ∷ xs) [] p z i = absurd p
+pairwise-in R (x ∷ xs) (y ∷ ys) p z first = (y, first, p .0)
+pairwise-in R (x ∷ xs) (y ∷ ys) p z (later i) = let r = pairwise-in R xs ys (p .1) z i in (r .0, later (r .1), r .2)
+
+module _ (catalog map new : List ℕ) (before after : List Record) (headers : ℕ)
+    (allBefore : allRecords catalog map ≡ listed before headers) (allAfter : allRecords catalog new ≡ listed after headers)
+    (w s : Record) (there : In w before) (again : In s after) (raw : ℕ) (can : Writable (targetOf w) raw)
+    (pairs : Pairwise (RecordAfter (definitions catalog) w raw) before after)
+    (becomes : RecordAfter (definitions catalog) w raw w s) where
+  -- The model of the record has a definition.
+  top-of : (top : Content) × (topOf (w .id) (definitions catalog) ≡ some top)
+  top-of =
+      let o = record-source catalog map before headers allBefore w there in
+      (o .by .definition .top, ap (λ id. topOf id (definitions catalog)) (o .id) ∙ o .by .known)
+
+  module _ (top : Content) (known : topOf (w .id) (definitions catalog) ≡ some top) where
+    -- The point after the write.
+    held : Holds raw (w .point) (s .point)
+    held = after-written (definitions catalog) w raw s becomes
+
+    -- The raw value is a value of the point's type.
+    value-written : classified (w .point .definition .typeCode) raw ≡ ofClass value
+    value-written =
+        let c = classified (w .point .definition .typeCode) raw in
+        value-class c (both (isValue c) (not (tooWide (w .point .definition .size) raw)) (can .holds) .0)
+
+    module _ (f : Record) (i : In f before) (e : IsFactor top f w) where
+      -- Its scale factor stays as it is: it is another point, and has no scale factor itself.
+      factor-stays : In f after
+      factor-stays =
+          let x = record-factor catalog map before headers allBefore w there top known f i e in
+          let g = pairwise-in (RecordAfter (definitions catalog) w raw) before after pairs f i in
+          let free : isScaleFactorOf top (w .point) (f .point) ≡ false =
+          rw (ne-eqb (f .point .definition .scaleKind) scaleByPoint (x .unscaled)) in
+          let same : g .0 ≡ f =
+          after-unscaled (definitions catalog) w raw f (g .0) (g .2) (e .index) top known (x .other) free in
+          subst (λ (r : Record). In r after) same (g .1)
+
+      -- It is also the scale factor of the point after the write.
+      factor-again : IsFactor top f s
+      factor-again =
+          let h = held in
+          record {
+            index = e .index ∙ sym (becomes .index);
+            factor = rw (h .definition, h .level2, h .level3, h .level4) (e .factor);
+          }
+
+      -- So its raw value gives the status and the scale of that point:
+      gives : s .point ≡ rescaled (f .point .raw) (s .point)
+      gives =
+          scale-factors catalog new after headers allAfter .gives s again top
+          (ap (λ id. topOf id (definitions catalog)) (becomes .id) ∙ known) f factor-stays factor-again
+
+      -- the status
+      factor-status : s .point .status ≡ statusOf (w .point .definition) (ofClass value) (f .point .raw)
+      factor-status =
+          let h = held in
+          let r = f .point .raw in
+          ap (λ (p : ModelPoint). p .status) gives
+          ∙ ap (λ (p : Point). statusOf p (classified (p .typeCode) (s .point .raw)) r) (h .definition)
+          ∙ ap (λ (x : ℕ). statusOf (w .point .definition) (classified (w .point .definition .typeCode) x) r) (h .holds)
+          ∙ ap (λ (c : Classified). statusOf (w .point .definition) c r) value-written
+
+      -- and the scale.
+      factor-scale : s .point .scale ≡ scaleOf (w .point .definition) (s .point .status) (f .point .raw)
+      factor-scale =
+          let r = f .point .raw in
+          ap (λ (p : ModelPoint). p .scale) gives
+          ∙ ap (λ (x : ℕ). scaleOf (s .point .definition) x r) (sym (ap (λ (p : ModelPoint). p .status) gives))
+          ∙ ap (λ (p : Point). scaleOf p (s .point .status) r) (held .definition)
+
+    -- A point without a scale point has status 0, and its scale by no register.
+    no-factor : (w .point .definition .scaleKind ≡ scaleByPoint → ⊥)
+        → (s .point .status ≡ 0) × (s .point .scale ≡ scaleOf (w .point .definition) 0 0)
+    no-factor n =
+        let h = held in
+        let p = w .point .definition in
+        let none : statusOf p (ofClass value) (h .register) ≡ 0 = simp (statusOf, ne-eqb (p .scaleKind) scaleByPoint n) in
+        let status : s .point .status ≡ 0 = h .status ∙ none in (
+          status,
+          h .scale ∙ ap (λ (x : ℕ). scaleOf p x (h .register)) status ∙ same-scale p (h .register) 0 (λ k. absurd (n k)) 0,
+        )
+
+    -- All together.
+    scaled-by : ScaledBy top before after w s
+    scaled-by =
+        record {
+          exists = scale-factors catalog map before headers allBefore .exists w there top known;
+          stays = factor-stays;
+          status = factor-status;
+          scale = factor-scale;
+          unscaled = no-factor;
+        }
+
+-- ---- The claim
+
 module _ (catalog map : List ℕ) (index number : ℕ) (path : List ℕ) (raw : ℕ) (new : List ℕ) where
-  -- Every accepted write comes to this.
+  -- It holds of every accepted write.
   pub read-back : writing catalog map index number path raw ≡ written new → ReadBack catalog map index number path raw new
   read-back e =
       let a = accepted-write catalog map index number path raw new e in
@@ -77,6 +167,11 @@ module _ (catalog map : List ℕ) (index number : ℕ) (path : List ℕ) (raw : 
       let s = pairwise-found (RecordAfter ds w raw) test (same-record ds w raw index number path) (a .records) (m .0) (m .2) w
       (a .found) in
       let h = after-written ds w raw (s .0) (s .2) in
+      let there = found-in test (a .records) w (a .found) .0 in
+      let again = found-in test (m .0) (s .0) (s .1) .0 in
+      let can = refusal-none (targetOf w) raw (a .accepted) in
+      let allAfter = ap (allRecords catalog) (a .rewrites) ∙ m .1 in
+      let t = top-of catalog map new (a .records) (m .0) (a .headers) (a .all) allAfter w (s .0) there again raw can (m .2) (s .2) in
       record {
         before = a .records;
         headers = a .headers;
@@ -86,7 +181,7 @@ module _ (catalog map : List ℕ) (index number : ℕ) (path : List ℕ) (raw : 
         accepted = a .accepted;
         rewrites = a .rewrites;
         after = m .0;
-        allAfter = ap (allRecords catalog) (a .rewrites) ∙ m .1;
+        allAfter = allAfter;
         pairs = m .2;
         pointAfter = s .0;
         foundAfter = s .1;
@@ -95,11 +190,15 @@ module _ (catalog map : List ℕ) (index number : ℕ) (path : List ℕ) (raw : 
         implemented = h .implemented;
         mandatory = h .mandatory;
         inRange = h .inRange;
+        top = t .0;
+        known = t .1;
+        scaledBy = scaled-by catalog map new (a .records) (m .0) (a .headers) (a .all) allAfter w (s .0) there again raw can (m .2)
+            (s .2) (t .0) (t .1);
         sameLength = ap length (a .rewrites) ∙ rewritten-length w raw map;
         outside = λ k o. ap (λ l. getD l k 0) (a .rewrites) ∙ rewritten-outside w raw map k o;
       }
 
--- So with what listing shows, whatever the room: where the old records were shown, the new ones are.
+-- A listing with any capacity that shows the old records of the old map shows the new records of the new map.
 pub shown-after : (catalog map : List ℕ) (index number : ℕ) (path : List ℕ) (raw : ℕ) (new : List ℕ)
     → (b : ReadBack catalog map index number path raw new) → (capacity : ℕ) (rs : List Record) (headers : ℕ)
     → listing catalog map capacity ≡ listed rs headers

@@ -18,7 +18,7 @@ use Rattle.listed_records.proofs.RawValues.{record-inside, record-raw}
 use Rattle.writing.specs.Writing.{rewritten, written, writing}
 use Rattle.writing.proofs.WritingCases.{accepted-write, refusal-none}
 
--- In a map of 16-bit registers, an accepted write of the raw value that the point found has already gives the same map.
+-- In a map of 16-bit registers, an accepted write of the raw value that the point already has gives the same map.
 pub same-value : (catalog map : List ℕ) (index number : ℕ) (path : List ℕ) (raw : ℕ) (new : List ℕ) → AreRegisters map
     → writing catalog map index number path raw ≡ written new
     → (rs : List Record) (headers : ℕ) → allRecords catalog map ≡ listed rs headers
@@ -36,7 +36,7 @@ same-value catalog map index number path raw new registers e rs headers all w fo
     ∙ shown-stored map registers (w .address) (w .point .definition .size) raw (record-inside catalog map rs headers all w there)
     (can .small) (sym holds ∙ record-raw catalog map rs headers all w there)
 
--- So it is with a point that a listing shows, and the raw value that it shows.
+-- The same for a point that a listing shows, and the raw value that it shows.
 pub same-value-shown : (catalog map : List ℕ) (capacity : ℕ) (rs : List Record) (headers : ℕ) (new : List ℕ) → AreRegisters map
     → listing catalog map capacity ≡ listed rs headers
     → (r : Record) → In r rs

@@ -16,7 +16,7 @@ use Rattle.shown_points.proofs.PointClasses.{row-of-size}
 
 -- ---- Classes
 
--- What is a value is of the class of values.
+-- A raw value that passes the test `isValue` is of the class of values.
 pub value-class : (c : Classified) → isValue c ≡ true → c ≡ ofClass value
 value-class (ofClass value) e = refl
 value-class (ofClass unimplemented) e = clash (sym e)
@@ -24,7 +24,7 @@ value-class (ofClass outOfRange) e = clash (sym e)
 value-class tooWide e = clash (sym e)
 value-class unknownType e = clash (sym e)
 
--- What is implemented, and not out of range by its status, was a value.
+-- A point that is implemented, and not out of range by its status, has a value.
 pub was-value : (p : Point) (c : Classified) (register : ℕ) → isUnimplementedClass c ≡ false → (statusOf p c register ≡ 5 → ⊥)
     → c ≡ ofClass value
 was-value p (ofClass value) register e f = refl
@@ -41,7 +41,7 @@ pub record OfValue (status : ℕ) : Type 0 where
   pub mandatory : status ≡ 2 → ⊥
   pub inRange : status ≡ 5 → ⊥
 
--- The test for these,
+-- The test for these statuses,
 abbrev isOfValue : ℕ → Bool
 isOfValue status = not (eqb status 1) && (not (eqb status 2) && not (eqb status 5))
 
@@ -52,7 +52,7 @@ of-value status t =
     clash (sym t ∙ ap isOfValue e ∙ f) in
     record { implemented = fails 1 refl; mandatory = fails 2 refl; inRange = fails 5 refl }
 
--- Those by the scale factor are such.
+-- The statuses that a scale factor gives are such,
 scale-status : (c : Classified) → OfValue (scaleStatus c)
 scale-status (ofClass value) = of-value 0 refl
 scale-status (ofClass unimplemented) = of-value 3 refl
@@ -60,7 +60,7 @@ scale-status (ofClass outOfRange) = of-value 4 refl
 scale-status tooWide = of-value 4 refl
 scale-status unknownType = of-value 4 refl
 
--- A value has one of them.
+-- and so is the status of a value.
 pub value-status : (p : Point) (register : ℕ) → OfValue (statusOf p (ofClass value) register)
 value-status p register = go (eqb (p .scaleKind) scaleByPoint)
   where

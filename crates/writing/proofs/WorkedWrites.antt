@@ -1,5 +1,6 @@
--- Writes on one plant, computed by the definitions: a scale factor in a group of two instances, and each refusal.
-use mathlib.Core.Path.{_≡_, refl}
+-- Writes to worked plants, computed by the definitions: a scale factor in a group of two instances, a point that was out of range,
+-- and each refusal.
+use mathlib.Core.Path.{_≡_, refl, sym, ap}
 use mathlib.Core.Bool.{Bool, true, false}
 use mathlib.Core.List.{List, [], _∷_, _++_, map}
 use mathlib.Core.Option.{Option, none, some}
@@ -23,9 +24,14 @@ use Rattle.listing.specs.Listing as Listing
 use Rattle.listing.specs.Listing.{Record, recordNumbers, walk, recordsBy, allRecords, withCapacity, listing}
 use Rattle.listing.specs.Finding.{isRecord, finding}
 use Rattle.listed_records.proofs.WorkedCases.{Shown, listed, shown, model, times, point, uint16, scaled, sunssf, end, joined, body, row}
-use Rattle.writing.specs.Writing.{refusal, rewritten, Answer, refused, written, writing}
+use Rattle.writing.specs.Writing.{refusal, rewritten, Answer, refused, written, mapAfter, writing, result}
 use Rattle.writing.specs.AfterWriting.{isScaleFactorOf}
-use Rattle.writing.proofs.OtherRecords.{OtherRecords, other-records}
+use Rattle.writing.specs.Calls.{WriteCall}
+use Rattle.writing.specs.ReadBack.{ReadBack}
+use Rattle.writing.specs.OtherRecords.{OtherRecords}
+use Rattle.writing.specs.declared.Written.{Written}
+use Rattle.writing.proofs.OtherRecords.{other-records}
+use Rattle.writing.proofs.WrittenReadsBack.{done-reads-back}
 
 -- ---- The plant
 
@@ -33,8 +39,8 @@ use Rattle.writing.proofs.OtherRecords.{OtherRecords, other-records}
 abbrev writable : List ℕ → List ℕ
 writable p = take 7 p ++ 1 ∷ []
 
--- Of the model 900: a uint32, a uint16 with access R, a string of five registers, a pad and an int16; and in a group of two
--- instances an int16 with the sunssf behind it as its scale factor.
+-- Model 900 has a uint32, a uint16 with access R, a string of five registers, a pad and an int16; and in a group of two instances
+-- an int16 whose scale factor is the sunssf after it.
 abbrev catalog : List ℕ
 catalog =
     joined (
@@ -57,7 +63,7 @@ instance j = j ∷ 0 ∷ 0 ∷ []
 
 -- ---- The scale factor of instance 1
 
--- The map behind it, register by register.
+-- The map after it is written, register by register.
 abbrev rescaledPlant : List ℕ
 rescaledPlant =
     0x5375 ∷ 0x6E53 ∷ 1 ∷ 1 ∷ 7 ∷ 900 ∷ 14
@@ -65,13 +71,21 @@ rescaledPlant =
     ∷ 0xFFFF ∷ 0
     ∷ []
 
--- It becomes -2: one register changes.
+-- It is written -2: one register changes.
 pub factor-written : writing catalog plant 1 7 (instance 1) 0xFFFE ≡ written rescaledPlant
 unfolding checkFrom checked framesFrom frameOf isSizeOf rows rowAmong mayScale registersOf twosComplement join shownRaw tooWide
     integer inRange classOf classified parsed opening scanFrom scan pointAt within measured fillMeasured countUnimplemented
     fits fillOf pointsAt instances groupsBy entered contentAt endsWithPad allButLast readFull readBy topOf reading walk recordsBy
     allRecords firstWith finding split refusal rewritten writing
 factor-written = refl
+
+-- A scale factor of 11 is refused.
+pub eleven-refused : writing catalog plant 1 7 (instance 0) 11 ≡ refused 35 0
+unfolding checkFrom checked framesFrom frameOf isSizeOf rows rowAmong mayScale registersOf twosComplement join shownRaw tooWide
+    integer inRange classOf classified parsed opening scanFrom scan pointAt within measured fillMeasured countUnimplemented
+    fits fillOf pointsAt instances groupsBy entered contentAt endsWithPad allButLast readFull readBy topOf reading walk recordsBy
+    allRecords firstWith finding split refusal rewritten writing
+eleven-refused = refl
 
 -- The records by the status and scale of the scaled point of instance 1, and by the status and raw value of its scale factor.
 abbrev recordsWith : ℕ → ℕ → ℕ → ℕ → Shown
@@ -88,7 +102,7 @@ recordsWith status scale factorStatus factor =
     ∷ row 7 1 0 0 20 factorStatus factor 0
     ∷ []) 3
 
--- Before the write and behind it: nothing else has changed.
+-- Before the write and after it: nothing else has changed.
 pub records-changed : map (λ m. shown (listing catalog m 90)) (plant ∷ rescaledPlant ∷ [])
     ≡ recordsWith 4 0 5 11 ∷ recordsWith 0 65534 0 65534 ∷ []
 unfolding checkFrom checked framesFrom frameOf isSizeOf rows rowAmong mayScale registersOf twosComplement join shownRaw tooWide
@@ -97,11 +111,31 @@ unfolding checkFrom checked framesFrom frameOf isSizeOf rows rowAmong mayScale r
     walk recordsBy allRecords withCapacity listing
 records-changed = refl
 
--- So says the theorem on all records, for this write.
+-- The claim on all records, for this write.
 pub others : OtherRecords catalog plant 1 7 (instance 1) 0xFFFE rescaledPlant
 others = other-records catalog plant 1 7 (instance 1) 0xFFFE rescaledPlant factor-written
 
--- Whose scale factor a point of the plant is: of each record in turn.
+-- A call of `write` that returns `Done` and leaves that map is as the contract says,
+pub factor-call : WriteCall catalog plant 1 7 (instance 1) 0xFFFE Written.Done rescaledPlant
+factor-call =
+    record {
+      result = sym (ap result factor-written);
+      leaves = sym (ap (λ a. mapAfter a plant) factor-written);
+    }
+
+-- so it reads back.
+pub factor-reads-back : ReadBack catalog plant 1 7 (instance 1) 0xFFFE rescaledPlant
+factor-reads-back = done-reads-back catalog plant 1 7 (instance 1) 0xFFFE rescaledPlant factor-call
+
+-- A call that returns 35 and leaves the plant as it was is as the contract says too: 11 is no scale factor.
+pub refused-call : WriteCall catalog plant 1 7 (instance 0) 11 (Written.Refused 35 0) plant
+refused-call =
+    record {
+      result = sym (ap result eleven-refused);
+      leaves = sym (ap (λ a. mapAfter a plant) eleven-refused);
+    }
+
+-- For each record in turn: is the point with this number and path its scale factor?
 abbrev scaledBy : ℕ → List ℕ → Listing.Answer → Option Content → List Bool
 scaledBy number path (Listing.listed rs headers) (some top) =
     elim (firstWith (isRecord 1 number path) rs) [
@@ -111,7 +145,7 @@ scaledBy number path (Listing.listed rs headers) (some top) =
 scaledBy number path (Listing.listed rs headers) none = []
 scaledBy number path (Listing.refused n place headers) top = []
 
--- That of instance 1 is that of the scaled point of instance 1 only.
+-- The scale factor of instance 1 is that of the scaled point of instance 1 only.
 pub scaled-by-instance-1 : scaledBy 7 (instance 1) (allRecords catalog plant) (topOf 900 (definitions catalog))
     ≡ false ∷ false ∷ false ∷ false ∷ false ∷ false ∷ false ∷ true ∷ false ∷ []
 unfolding checkFrom checked framesFrom frameOf isSizeOf rows rowAmong mayScale registersOf twosComplement join shownRaw tooWide
@@ -120,9 +154,38 @@ unfolding checkFrom checked framesFrom frameOf isSizeOf rows rowAmong mayScale r
     allRecords firstWith depthIn
 scaled-by-instance-1 = refl
 
+-- ---- A point that was out of range
+
+-- Model 900 has an acc64 with access RW, whose scale factor is the sunssf after it.
+abbrev counterCatalog : List ℕ
+counterCatalog = joined (model 900 ∷ (3 ∷ 1 ∷ 18 ∷ 4 ∷ 2 ∷ 2 ∷ 0 ∷ 1 ∷ []) ∷ sunssf 2 ∷ end ∷ [])
+
+-- The map of such a plant, by the first and the last register of the acc64. The scale factor is -1.
+abbrev counterWith : ℕ → ℕ → List ℕ
+counterWith high low = body (high ∷ 0 ∷ 0 ∷ low ∷ 0xFFFF ∷ [])
+
+-- The acc64 is above its range, and is written 230.
+pub counter-written : writing counterCatalog (counterWith 0x8000 1) 1 1 (instance 0) 230 ≡ written (counterWith 0 230)
+unfolding checkFrom checked framesFrom frameOf isSizeOf rows rowAmong mayScale registersOf twosComplement join shownRaw tooWide
+    integer inRange classOf classified parsed opening scanFrom scan pointAt within measured fillMeasured countUnimplemented
+    fits fillOf pointsAt instances groupsBy entered contentAt endsWithPad allButLast readFull readBy topOf reading walk recordsBy
+    allRecords firstWith finding split refusal rewritten writing
+counter-written = refl
+
+-- Before the write its status is 5. After it, the status is 0 and the scale is that of its scale point.
+pub counter-scaled : map (λ m. shown (listing counterCatalog m 20)) (counterWith 0x8000 1 ∷ counterWith 0 230 ∷ [])
+    ≡ listed (row 1 0 0 0 7 5 0x8000000000000001 0 ∷ row 2 0 0 0 11 0 65535 0 ∷ []) 3
+    ∷ listed (row 1 0 0 0 7 0 230 65535 ∷ row 2 0 0 0 11 0 65535 0 ∷ []) 3
+    ∷ []
+unfolding checkFrom checked framesFrom frameOf isSizeOf rows rowAmong mayScale registersOf twosComplement join shownRaw tooWide
+    integer inRange classOf classified parsed opening scanFrom scan pointAt within measured fillMeasured countUnimplemented
+    fits fillOf pointsAt instances groupsBy entered contentAt endsWithPad allButLast readFull readBy topOf reading recordNumbers
+    walk recordsBy allRecords withCapacity listing
+counter-scaled = refl
+
 -- ---- Other writes
 
--- A write: the point's number, its path and the raw value; and the answer.
+-- A write: the number of the point, its path, the raw value, and the answer.
 pub record Write : Type 0 where
   pub number : ℕ
   pub path : List ℕ
@@ -157,7 +220,7 @@ writes =
     ∷ write 4 (instance 0) 0 (refused 35 0)
     ∷ []
 
--- Every write is answered as it says.
+-- Every write has the answer that the list says.
 pub worked-writes : map (λ (w : Write). writing catalog plant 1 (w .number) (w .path) (w .raw)) writes
     ≡ map (λ (w : Write). w .answer) writes
 unfolding writes checkFrom checked framesFrom frameOf isSizeOf rows rowAmong mayScale registersOf twosComplement join shownRaw

@@ -1,4 +1,4 @@
--- The ways in which writing comes to its answer.
+-- The answer of a write, case by case.
 use mathlib.Core.Path.{_≡_, refl, sym, ap, _∙_}
 use mathlib.Core.Bool.{true, false}
 use mathlib.Core.List.{List}
@@ -22,7 +22,7 @@ use Rattle.listing.proofs.ListingCases as listings
 use Rattle.listing.proofs.ListingCases.{catalogRefused, openingRefused, walkRefused, tooShort, allListed, listing-case, listing-records, walk-records}
 use Rattle.writing.specs.Writing.{canHold, refusal, rewritten, Answer, refused, written, writing}
 
--- An answer by what decides it.
+-- An answer by what decides it: a refusal of listing, no record, the refusal of the point, or none.
 pub data Case (catalog map : List ℕ) (index number : ℕ) (path : List ℕ) (raw : ℕ) : Answer → Type 0 where
   listingRefused : {n place headers : ℕ} → allRecords catalog map ≡ Listing.refused n place headers
       → Case catalog map index number path raw (refused n place)
@@ -36,30 +36,31 @@ pub data Case (catalog map : List ℕ) (index number : ℕ) (path : List ℕ) (r
       → Case catalog map index number path raw (written (rewritten (targetOf w) raw map))
 
 module _ (catalog map : List ℕ) (index number : ℕ) (path : List ℕ) where
-  -- What finding comes to where listing is refused,
+  -- What finding results in if listing is refused,
   finding-refused : {n place headers : ℕ} → allRecords catalog map ≡ Listing.refused n place headers
       → finding catalog map index number path ≡ Finding.refused n place
   unfolding finding
   finding-refused e = rw (e, finding)
 
   module _ {rs : List Record} {headers : ℕ} (e : allRecords catalog map ≡ Listing.listed rs headers) where
+    -- A finding by the record that is found.
     abbrev by-record : Option Record → Finding.Finding
     by-record o = elim o [ none ↦ Finding.nothing | some r ↦ Finding.found r ]
 
-    -- where no record is the one asked for,
+    -- if no record is the one asked for,
     finding-nothing : firstWith (isRecord index number path) rs ≡ none
         → finding catalog map index number path ≡ Finding.nothing
     unfolding finding
     finding-nothing f = ap (Finding.findingIn index number path) e ∙ ap by-record f
 
-    -- and where one is.
+    -- and if one is.
     pub finding-found : {w : Record} → firstWith (isRecord index number path) rs ≡ some w
         → finding catalog map index number path ≡ Finding.found w
     unfolding finding
     finding-found f = ap (Finding.findingIn index number path) e ∙ ap by-record f
 
   module _ (raw : ℕ) where
-    -- The answer by what finding comes to: a refusal,
+    -- The answer by what finding results in: a refusal,
     answer-refused : {n place : ℕ} → finding catalog map index number path ≡ Finding.refused n place
         → writing catalog map index number path raw ≡ refused n place
     unfolding writing
@@ -78,7 +79,7 @@ module _ (catalog map : List ℕ) (index number : ℕ) (path : List ℕ) where
     unfolding writing
     answer-found f = rw (f, writing)
 
-    -- How the answer is reached: by the refusal of the point,
+    -- The case of the answer: by the refusal of the point,
     by-refusal : {rs : List Record} {headers : ℕ} (w : Record) → allRecords catalog map ≡ Listing.listed rs headers
         → firstWith (isRecord index number path) rs ≡ some w → (o : Option ℕ) → refusal (targetOf w) raw ≡ o
         → Case catalog map index number path raw (writing catalog map index number path raw)
@@ -98,14 +99,14 @@ module _ (catalog map : List ℕ) (index number : ℕ) (path : List ℕ) where
     by-records (Listing.refused n place headers) e = rw (answer-refused (finding-refused e)) (listingRefused e)
     by-records (Listing.listed rs headers) e = by-found e (firstWith (isRecord index number path) rs) refl
 
-    -- Every answer comes in one of these ways.
+    -- Every answer is one of these cases.
     pub writing-case : Case catalog map index number path raw (writing catalog map index number path raw)
     writing-case = by-records (allRecords catalog map) refl
 
 -- ---- The numbers of refusals
 
 module _ (catalog map : List ℕ) where
-  -- A refusal before the records, by how listing is answered,
+  -- A refusal by listing, case by case,
   number-case : {n place headers : ℕ} (answer : Listing.Answer) → listings.Case catalog map 0 answer
       → allRecords catalog map ≡ Listing.refused n place headers → answer ≡ Listing.refused n place headers → Between 1 29 n
   number-case {n} answer (catalogRefused {n = k} {place = p} c) q e =
@@ -124,7 +125,7 @@ module _ (catalog map : List ℕ) where
       number-case (listing catalog map 0) (listing-case catalog map 0) e
       (listing-records catalog map 0 ∙ ap (withCapacity 0) e)
 
--- A point that is not refused: it may be written, takes up to four registers, is implemented and can hold the raw value.
+-- A target that is not refused: it is not read-only, takes up to four registers, is implemented and can hold the raw value.
 pub record Writable (t : Target) (raw : ℕ) : Type 0 where
   pub access : t .definition .access ≡ readOnly → ⊥
   pub small : t .definition .size ≤ 4
@@ -132,12 +133,12 @@ pub record Writable (t : Target) (raw : ℕ) : Type 0 where
   pub holds : canHold (t .definition) raw ≡ true
 
 module _ (t : Target) (raw : ℕ) where
-  -- What is known by the refusal: its number is 32 to 35, or the point is writable.
+  -- What the refusal says: its number is 32 to 35, or the target is writable.
   abbrev Outcome : Option ℕ → Type 0
   Outcome none = Writable t raw
   Outcome (some n) = Between 32 35 n
 
-  -- So it is.
+  -- This holds of the refusal of the target.
   outcome : Outcome (refusal t raw)
   unfolding refusal
   outcome =
@@ -151,11 +152,11 @@ module _ (t : Target) (raw : ℕ) where
         holds = h;
       }) (λ _. (omega arith, omega arith)))))
 
-  -- Of a point that is refused,
+  -- The number of a refusal is 32 to 35,
   pub refusal-number : {n : ℕ} → refusal t raw ≡ some n → Between 32 35 n
   refusal-number e = rw e at outcome
 
-  -- and of one that is not.
+  -- and a target that is not refused is writable.
   pub refusal-none : refusal t raw ≡ none → Writable t raw
   refusal-none e = rw e at outcome
 
@@ -172,7 +173,7 @@ pub record Accepted (catalog map : List ℕ) (index number : ℕ) (path : List �
   pub rewrites : new ≡ rewritten (targetOf point) raw map
 
 module _ (catalog map : List ℕ) (index number : ℕ) (path : List ℕ) (raw : ℕ) (new : List ℕ) where
-  -- Only one way leads to a new map.
+  -- Only the last case has a new map.
   accepted-case : (answer : Answer) → Case catalog map index number path raw answer → answer ≡ written new
       → Accepted catalog map index number path raw new
   accepted-case answer (listingRefused e) q = impossible (cc)

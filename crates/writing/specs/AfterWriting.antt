@@ -1,4 +1,4 @@
--- What an accepted write makes of the records of a map: the point written, the points that it scales, and all others.
+-- How the records of a map change by an accepted write: the point written, the points that it scales, and all others.
 use mathlib.Core.Path.{_≡_}
 use mathlib.Core.Bool.{Bool, true, false, _&&_}
 use mathlib.Core.List.{List}
@@ -15,19 +15,19 @@ use Rattle.listing.specs.Listing.{Record}
 
 -- ---- Whose scale factor a point is
 
--- Is the first point the scale factor of the second, in a model by the top group of its definition? The second names its number,
--- and it is of the same instance or of one around it (document 01, "Status of a point").
+-- Is point w the scale factor of point p, in a model whose definition has the top group `top`? Point p names the number of w, and w
+-- is in the same instance or in one around it (document 01, "Status of a point").
 abbrev pub isScaleFactorOf : Content → ModelPoint → ModelPoint → Bool
 isScaleFactorOf top w p =
     eqb (p .definition .scaleKind) scaleByPoint
     && (eqb (p .definition .scale) (w .definition .number)
     && agreeTo (depthIn (w .definition .number) (top .groups)) (pathOf w) (pathOf p))
 
--- ---- What becomes of a point
+-- ---- Points after the write
 
--- The point written: it holds the raw value, and has a status and a scale of a value: those by some register of a scale point, which
--- counts only if it has one. So it is neither unimplemented nor out of range; and if it was not out of range before, its status and
--- scale stay.
+-- The point written, p before and q after: it holds `raw`, and has the status and the scale of a value whose scale point reads
+-- `register`. So it is neither unimplemented nor out of range; if it was not out of range before, its status and scale stay.
+-- (`ScaledBy` in `ReadBack.antt` gives the status and the scale by the record of the scale point.)
 pub record Holds (raw : ℕ) (p q : ModelPoint) : Type 0 where
   pub offset : q .offset ≡ p .offset
   pub definition : q .definition ≡ p .definition
@@ -44,7 +44,7 @@ pub record Holds (raw : ℕ) (p q : ModelPoint) : Type 0 where
   pub sameStatus : (p .status ≡ 5 → ⊥) → q .status ≡ p .status
   pub sameScale : (p .status ≡ 5 → ⊥) → q .scale ≡ p .scale
 
--- A point whose scale factor now holds a raw value: the status and the scale that it gives, and all else as before.
+-- Point p with the status and the scale that `raw` gives, as the raw value of its scale factor; all else as before.
 abbrev pub rescaled : ℕ → ModelPoint → ModelPoint
 rescaled raw p =
     let status = statusOf (p .definition) (classified (p .definition .typeCode) (p .raw)) raw in
@@ -59,8 +59,8 @@ rescaled raw p =
       scale = scaleOf (p .definition) status raw;
     }
 
--- A point p of a model has become q by writing a raw value to the point w of the same model: the point written, one whose scale
--- factor it is, or another, which stays as it is.
+-- Point p has become q by writing `raw` to the point w of the same model: p is the point written; or w is its scale factor; or p
+-- stays as it is.
 abbrev pub PointAfter : Content → ModelPoint → ℕ → ModelPoint → ModelPoint → Type 0
 PointAfter top w raw p q =
     elim (eqb (p .offset) (w .offset)) [
@@ -68,14 +68,14 @@ PointAfter top w raw p q =
       | false ↦ elim (isScaleFactorOf top w p) [ true ↦ q ≡ rescaled raw p | false ↦ q ≡ p ]
     ]
 
--- The same of a point of any model, by whether its model is that of w, and the top group of that model's definition: a point of
+-- The same for a point of any model, by whether its model is that of w and by the top group of that model's definition: a point of
 -- another model stays as it is.
 abbrev pub PointBecomes : Bool → Option Content → ModelPoint → ℕ → ModelPoint → ModelPoint → Type 0
 PointBecomes false top w raw p q = q ≡ p
 PointBecomes true none w raw p q = ⊥
 PointBecomes true (some top) w raw p q = PointAfter top w raw p q
 
--- A record r has become s by writing a raw value to the point with the record w, by the definitions of a catalog.
+-- Record r has become s by writing `raw` to the point of record w, by the definitions `ds` of a catalog.
 pub record RecordAfter (ds : List Definition) (w : Record) (raw : ℕ) (r s : Record) : Type 0 where
   pub index : s .index ≡ r .index
   pub id : s .id ≡ r .id

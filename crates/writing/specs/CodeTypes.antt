@@ -1,8 +1,8 @@
--- What the code's types stand for.
+-- From the code's types to the definitions' types.
 use Rattle.writing.specs.Writing.{Result, refusedResult, writtenResult}
 use Rattle.writing.specs.declared.Written.{Written}
 
--- The answer of `write`.
+-- What `write` returns.
 abbrev pub toSpecWritten : Written → Result
 toSpecWritten Written.Done = writtenResult
 toSpecWritten (Written.Refused number place) = refusedResult number place

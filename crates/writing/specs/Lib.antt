@@ -1,4 +1,9 @@
 pub mod Writing
-pub mod AfterWriting
 pub mod CodeTypes
+pub mod Calls
+pub mod AfterWriting
+pub mod ScaleFactors
+pub mod ReadBack
+pub mod OtherRecords
+pub mod NoSuchPoint
 pub mod InternalContracts

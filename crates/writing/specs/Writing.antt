@@ -1,4 +1,4 @@
--- Writing a raw value to a point of a map (document 01, "Writing"): the answer, and the map behind it.
+-- Writing a raw value to a point of a map (document 01, "Writing"): the answer, and the map after it.
 use mathlib.Core.Bool.{Bool, true, false, not, _&&_}
 use mathlib.Core.List.{List}
 use mathlib.Core.Option.{Option, none, some}
@@ -11,12 +11,12 @@ use Rattle.catalog_frames.specs.Frames.{Point, readOnly}
 use Rattle.listing.specs.Finding as Finding
 use Rattle.listing.specs.Finding.{finding, Target, targetOf}
 
--- Can a point hold a raw value? It is a value of its type, and not too wide for its registers.
+-- Can point p hold `raw`? It must be a value of p's type, and not too wide for p's registers.
 abbrev pub canHold : Point → ℕ → Bool
 canHold p raw = isValue (classified (p .typeCode) raw) && not (tooWide (p .size) raw)
 
--- The refusals of a point that is found, in order. 32: its access is R. 33: it takes over four registers. 34: its present
--- registers, joined, are unimplemented. 35: the new value is unimplemented, out of range or too wide.
+-- The refusal of a write to the target t, if there is one: the first that applies. 32: its access is R. 33: it takes over four
+-- registers. 34: its present registers, joined, are unimplemented. 35: the new value is unimplemented, out of range or too wide.
 unfoldable pub refusal : Target → ℕ → Option ℕ
 refusal t raw =
     elim (eqb (t .definition .access) readOnly) [
@@ -30,21 +30,21 @@ refusal t raw =
       ]
     ]
 
--- The map with a raw value in the registers of a point, the highest first. Only these change. (They lie in the map:
--- `proofs/RawValues.antt`.)
+-- The map with `raw` in the registers of the target, the highest first. Only these change. (They lie in the map: `record-inside` of
+-- `listed_records`, proofs/RawValues.antt.)
 unfoldable pub rewritten : Target → ℕ → List ℕ → List ℕ
 rewritten t raw map = sets map (t .address) (split (t .definition .size) raw)
 
--- What writing comes to: a refusal with its place, or the new map.
+-- What a write results in: a refusal with its number and place, or the new map.
 pub data Answer : Type 0 where
   refused : ℕ → ℕ → Answer
   written : List ℕ → Answer
 
--- Writing a raw value to a point that is found. 32 to 35 have place 0.
+-- Writing `raw` to a target that was found. 32 to 35 have place 0.
 abbrev pub writingTo : Target → ℕ → List ℕ → Answer
 writingTo t raw map = elim (refusal t raw) [ some n ↦ refused n 0 | none ↦ written (rewritten t raw map) ]
 
--- Writing a raw value to the point with a number at a path, in the model with an index. Listing's 1 to 29 come first, with
+-- Writing `raw` to the point with this number and path, in the model with this index. Listing's refusals 1 to 29 come first, with
 -- their place. 31: there is no such point; its place is 0.
 unfoldable pub writing : List ℕ → List ℕ → ℕ → ℕ → List ℕ → ℕ → Answer
 writing catalog map index number path raw =
@@ -54,17 +54,17 @@ writing catalog map index number path raw =
       | Finding.found r ↦ writingTo (targetOf r) raw map
     ]
 
--- The map behind an answer: a refusal changes nothing.
+-- The map after an answer: a refusal changes nothing.
 abbrev pub mapAfter : Answer → List ℕ → List ℕ
 mapAfter (refused n place) map = map
 mapAfter (written new) map = new
 
--- What is told of an answer: the refusal, or that the point is written.
+-- What is returned of an answer: the refusal, or that the point is written.
 pub data Result : Type 0 where
   refusedResult : ℕ → ℕ → Result
   writtenResult : Result
 
--- The refusal with its place, or that the point is written.
+-- The result of an answer.
 abbrev pub result : Answer → Result
 result (refused n place) = refusedResult n place
 result (written new) = writtenResult

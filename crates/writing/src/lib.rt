@@ -22,21 +22,21 @@ ghost use Rattle.writing.specs.Writing as Writings;
 ghost use Rattle.writing.specs.CodeTypes.{toSpecWritten};
 ghost use Rattle.writing.specs.InternalContracts.{toSpecVerdict};
 
-// What `write` answers: that the point is written, or the number of a refusal and its place.
+// What `write` returns: the point is written, or a refusal with its number and place.
 pub enum Written {
     Done,
     Refused { number: u16, place: usize },
 }
 
-// Whether a point takes a value, or by which number it is refused.
+// Whether a point takes a value, or the number of the refusal.
 enum Verdict {
     Takes,
     Refuses(u16),
 }
 
-// Writes a raw value to the point with a number at a path, in the model with an index. All refusals are decided
-// before anything is written. The time is that of listing's survey, and of a few reads of each header and of each frame of
-// that model's definition.
+// Writes `raw` to the point with the number `point` and the instance numbers `path`, in the model with the index `model`.
+// All refusals are decided before anything is written. It takes the time of `find`: listing's survey, and a few reads of each
+// header and of each frame of that model's definition.
 pub fn write(
     catalog: &[u16],
     map: &mut [u16],
@@ -59,7 +59,7 @@ pub fn write(
     }
 }
 
-// Writes a raw value to a point that was found.
+// Writes `raw` to the point that was found, if it takes it.
 fn write_to(map: &mut [u16], target: Target, raw: u64) -> Written
     requires { ⌜ target .address + target .point .size ≤ length (now map) ⌝ }
     ensures { λ r. ⌜ toSpecWritten r ≡ Writings.result (Writings.writingTo (toSpecTarget target) raw (now (map .entry))) ⌝ }
@@ -75,7 +75,7 @@ fn write_to(map: &mut [u16], target: Target, raw: u64) -> Written
     }
 }
 
-// 32 to 35, in order. What 32 and 34 ask is at hand before the first test, so that the order is that of the tests alone.
+// Refusals 32 to 35, in order. The facts that 32 and 34 test are computed first, so the order of refusals is the order of the ifs.
 fn judge(target: Target, raw: u64) -> Verdict
     ensures { λ r. ⌜ toSpecVerdict r ≡ Writings.refusal (toSpecTarget target) raw ⌝ }
 {
@@ -97,7 +97,7 @@ fn judge(target: Target, raw: u64) -> Verdict
     Verdict::Takes
 }
 
-// Is a raw number the unimplemented pattern of a type?
+// Is `raw` the unimplemented pattern of a type?
 fn is_unimplemented(type_code: u16, raw: u64) -> bool
     ensures { λ r. ⌜ r ≡ isUnimplementedClass (classified «type_code» raw) ⌝ }
 {
@@ -113,14 +113,14 @@ fn is_unimplemented(type_code: u16, raw: u64) -> bool
     }
 }
 
-// Can a point hold a raw value? A string is as wide as its registers, and not as its type at its longest.
+// Can `point` hold `raw`? A string has the width of its own registers, not that of the longest string.
 fn can_hold(point: Point, raw: u64) -> bool
     ensures { λ r. ⌜ r ≡ Writings.canHold (toSpecPoint point) raw ⌝ }
 {
     is_value(point.type_code, raw) && !too_wide(point.size, raw)
 }
 
-// Writes the registers of a raw value, the highest first.
+// Writes the `size` registers of `raw` from `address`, the highest first.
 fn put_registers(map: &mut [u16], address: usize, size: usize, raw: u64)
     requires { ⌜ (size ≤ 4) × (address + size ≤ length (now map)) ⌝ }
     ensures { λ _. ⌜ now (map .exit) ≡ sets (now (map .entry)) address (split size raw) ⌝ }
@@ -132,7 +132,7 @@ fn put_registers(map: &mut [u16], address: usize, size: usize, raw: u64)
     }
 }
 
-// The register of a raw value that has so many behind it.
+// The register of `raw` with `lower` registers after it.
 fn register_of(raw: u64, lower: usize) -> u16
     requires { ⌜ lower ≤ 3 ⌝ }
     ensures { λ r. ⌜ r ≡ raw / 65536 ^ lower % 65536 ⌝ }
@@ -140,7 +140,7 @@ fn register_of(raw: u64, lower: usize) -> u16
     (raw / power(lower) % 0x10000) as u16
 }
 
-// The weight of a register that has so many behind it: 65536 to that power.
+// The weight of a register with `lower` registers after it: 65536 to the power `lower`.
 fn power(lower: usize) -> u64
     requires { ⌜ lower ≤ 3 ⌝ }
     ensures { λ r. ⌜ r ≡ 65536 ^ lower ⌝ }

@@ -1,4 +1,4 @@
--- `writing::can_hold` meets its contract: the type is asked first, then the width.
+-- `writing::can_hold` meets its contract: first the type, then the width.
 use mathlib.Core.Path.{sym, ap, _∙_}
 use mathlib.Core.Bool.{not, _&&_}
 use Rattle.registers.specs.Registers.{tooWide}

@@ -1,4 +1,4 @@
--- `writing::write` meets its contract: by what is found.
+-- `writing::write` meets its contract: by what `find` returns.
 use mathlib.Core.Path.{sym, ap, _∙_}
 use Rattle.listing.specs.CodeTypes.{toSpecTarget, toSpecFinding}
 use Rattle.writing.specs.Writing.{result, mapAfter}

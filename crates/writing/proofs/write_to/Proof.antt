@@ -1,4 +1,4 @@
--- `writing::write_to` meets its contract: by the verdict.
+-- `writing::write_to` meets its contract: by what `judge` returns.
 use mathlib.Core.Path.{sym, ap, _∙_}
 use Rattle.listing.specs.CodeTypes.{toSpecTarget}
 use Rattle.writing.specs.InternalContracts.{toSpecVerdict}
