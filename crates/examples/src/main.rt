@@ -4,7 +4,7 @@ use libc::STDOUT_FILENO;
 use report::CATALOG_WORDS;
 use report::ENTRIES;
 use report::INPUT_BYTES;
-use report::REGISTERS;
+use report::MAP_REGISTERS;
 use report::Report;
 use report::TEXT_BYTES;
 use report::read_plant;
@@ -68,7 +68,7 @@ fn read_argument(i: usize, out: &mut [u8]) -> usize
 // Does `readplant` print just these bytes for an input?
 fn gives(input: &[u8], expected: &[u8]) -> bool {
     let mut catalog = [0u16; CATALOG_WORDS];
-    let mut map = [0u16; REGISTERS];
+    let mut map = [0u16; MAP_REGISTERS];
     let mut list = [0u64; ENTRIES];
     let mut text = [0u8; TEXT_BYTES];
     let report = read_plant(input, &mut catalog, &mut map, &mut list, &mut text);
