@@ -13,6 +13,7 @@ ghost use mathlib.Core.Path.{_≡_};
 ghost use mathlib.Core.List.{_++_};
 ghost use Prim.Native.Nat.{_+_, _≤_};
 ghost use lib.ListN.{length, take};
+ghost use Rattle.io.specs.Counts.{Counts};
 ghost use Rattle.report.specs.CodeTypes.{lengthOf, writtenBy};
 ghost use Rattle.readplant.specs.Printing.{Prints};
 
@@ -47,7 +48,7 @@ fn print(input: &[u8], count: usize, bytes: &[u8])
 fn put_output(out: &mut [u8], report: Report, text: &[u8]) -> usize
     requires { ⌜ lengthOf report ≤ length (now text) ⌝ }
     requires { ⌜ 8 + length (now text) ≤ length (now out) ⌝ }
-    ensures { λ r. ⌜ r ≤ length (now (out .exit)) ⌝ }
+    ensures { λ r. ⌜ Counts r (now (out .exit)) ⌝ }
     ensures { λ r. ⌜ take r (now (out .exit)) ≡ writtenBy report (now (text .entry)) ⌝ }
 {
     match report {

@@ -3,7 +3,6 @@ use mathlib.Core.Path.{_≡_, sym, _∙_}
 use native.Mathlib.Omega.{arith}
 use borrow.Author.Needs.{needs}
 use lib.ListN.{length}
-use lib.Seq.{length-take-le}
 use Rattle.readplant.proofs.WholeInputs.{whole-input}
 use Rattle.readplant.proofs.main.Statement.{statement}
 use Rattle.readplant.proofs.main.Tie as tie
@@ -15,9 +14,6 @@ put-output-requires : tie.Need-put-output-requires
 put-output-requires c κs =
     let r = c .before .before .read-plant .ensures .1 .1 in
     (r .0, omega (arith, r .1 .1 .1 .1 .1))
-
-slice-aggregate-print-2 : tie.Need-slice-aggregate-print-2
-slice-aggregate-print-2 c = sym (length-take-le _ _ (c .before .before .before .put-output .ensures .0))
 
 print-requires : tie.Need-print-requires
 print-requires c κs =
@@ -32,4 +28,4 @@ main-spec =
     tie.close
     (tie.spec (λ c. search needs) (λ c κs. search needs) (λ c. search needs) (λ c. search needs) (λ c κs. search needs)
     (λ c. search needs) slice-aggregate-put-output-2 put-output-requires (λ c. search needs) (λ c. search needs)
-    slice-aggregate-print-2 print-requires (λ c. search needs))
+    (λ c. search needs) print-requires (λ c. search needs))

@@ -35,12 +35,12 @@ join-requires-2 c κs =
 returns : tie.Need-returns
 returns c =
     let j = c .before .before .join .ensures in
-    (j .0, rw (c .before .before .before .before .before .before .before .report .given .1) (j .1))
+    ((j .0, sym (length-take-le _ _ (j .0))), rw (c .before .before .before .before .before .before .before .report .given .1) (j .1))
 
 returns-2 : tie.Need-returns-2
 returns-2 c =
     let j = c .before .before .join2 .ensures in
-    (j .0, rw (c .before .before .before .before .before .before .before .report2 .given .1) (j .1))
+    ((j .0, sym (length-take-le _ _ (j .0))), rw (c .before .before .before .before .before .before .before .report2 .given .1) (j .1))
 
 pub put-output-spec : {M : Type 1} → statement M
 put-output-spec =
