@@ -1,10 +1,11 @@
-// Tries the example plants. Its arguments are pairs of files, an input of `readplant` and an output: it writes for each
-// pair whether the input gives that output.
+// Runs the example plants. The arguments are pairs of files: an input of `readplant` and the expected output. For each
+// pair it writes whether `read_plant`, the call that `readplant` makes, gives that output.
 use libc::STDOUT_FILENO;
 use report::CATALOG_WORDS;
 use report::ENTRIES;
 use report::INPUT_BYTES;
-use report::REGISTERS;
+use report::MAP_REGISTERS;
+use report::OUTPUT_BYTES;
 use report::Report;
 use report::TEXT_BYTES;
 use report::read_plant;
@@ -13,14 +14,11 @@ ghost use Rattle.io.specs.Counts.{Counts};
 // The longest name of a file.
 const NAME: usize = 255;
 
-// The longest output.
-const OUTPUT: usize = TEXT_BYTES + REFUSED;
-
-// The bytes of `refused `.
+// The length of `refused `.
 const REFUSED: usize = 8;
 
 fn main() {
-    // The program's own name is counted too.
+    // `arg_count` counts the program's own name too.
     let pairs = os::arg_count() / 2;
     let mut k = 0;
     while k < pairs {
@@ -29,11 +27,11 @@ fn main() {
     }
 }
 
-// Tries the pair of files that two arguments name.
+// Compares the pair of files that the arguments `first` and `second` name.
 fn try_pair(first: usize, second: usize) {
     let mut input = [0u8; INPUT_BYTES];
     let n = read_argument(first, &mut input);
-    let mut expected = [0u8; OUTPUT];
+    let mut expected = [0u8; OUTPUT_BYTES];
     let m = read_argument(second, &mut expected);
     write_argument(first);
     if gives(&input[..n], &expected[..m]) {
@@ -45,15 +43,15 @@ fn try_pair(first: usize, second: usize) {
     write(b"\n");
 }
 
-// Writes an argument.
+// Writes argument `i`.
 fn write_argument(i: usize) {
     let mut name = [0u8; NAME];
     let length = os::arg(i, &mut name);
     write(&name[..length]);
 }
 
-// Reads the file that an argument names, as far as the buffer goes, and returns how many bytes were read: none of a file
-// that cannot be opened.
+// Reads the file that argument `i` names into `out`, until the file ends or `out` is full. Returns the number of bytes
+// read: 0 if the file cannot be opened.
 fn read_argument(i: usize, out: &mut [u8]) -> usize
     ensures { λ r. ⌜ Counts r (now (out .exit)) ⌝ }
 {
@@ -65,10 +63,11 @@ fn read_argument(i: usize, out: &mut [u8]) -> usize
     n
 }
 
-// Does `readplant` print just these bytes for an input?
+// Is `expected` the text that `read_plant` makes of `input`, after `refused ` if it is a refusal? This does not run
+// `readplant`: that its `main` prints these bytes is proved there.
 fn gives(input: &[u8], expected: &[u8]) -> bool {
     let mut catalog = [0u16; CATALOG_WORDS];
-    let mut map = [0u16; REGISTERS];
+    let mut map = [0u16; MAP_REGISTERS];
     let mut list = [0u64; ENTRIES];
     let mut text = [0u8; TEXT_BYTES];
     let report = read_plant(input, &mut catalog, &mut map, &mut list, &mut text);
@@ -78,7 +77,7 @@ fn gives(input: &[u8], expected: &[u8]) -> bool {
     }
 }
 
-// Is it `refused ` and a text behind it?
+// Is `expected` the word `refused ` followed by `text`?
 fn is_refusal(expected: &[u8], text: &[u8]) -> bool {
     if expected.len() < REFUSED {
         return false;
@@ -89,7 +88,7 @@ fn is_refusal(expected: &[u8], text: &[u8]) -> bool {
     check::same(&expected[REFUSED..], text)
 }
 
-// Writes to standard output. A write that fails is passed over: there is nowhere to report it.
+// Writes to standard output. A write that fails is ignored: there is nowhere to report it.
 fn write(bytes: &[u8]) {
     io::write_all(STDOUT_FILENO, bytes);
 }

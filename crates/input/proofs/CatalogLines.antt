@@ -1,4 +1,4 @@
--- One line of the catalog more: what is found in front of the lines left, and in the text.
+-- `survey_catalog` reads one more line of the catalog: how `FramesFound` goes on.
 use mathlib.Core.Path.{_≡_, sym, ap, _∙_}
 use mathlib.Core.Bool.{true, false}
 use mathlib.Core.List.{List, _∷_, _++_}
@@ -12,11 +12,11 @@ use Rattle.input.specs.InternalContracts.{firstLine, FramesFound}
 use Rattle.input.proofs.GoodLines.{catalog-line}
 use Rattle.input.proofs.LineSteps as steps
 
--- What is left from a position on, when so many frames were found.
+-- What the lines from position `at` give, after `count` frames.
 abbrev LeftAt : List ℕ → ℕ → ℕ → ℕ → ℕ → Input
 LeftAt text capacity count at registers = catalogFrom (count + 1) (capacity - count) registers (lines (drop at text))
 
--- At the end of the text no empty line was met.
+-- The end of the text without an empty line.
 pub at-end : (text : List ℕ) (at : ℕ) {capacity count : ℕ} → FramesFound text capacity count (LeftAt text capacity count at) → length text ≤ at
     → (registers : ℕ) → parsed text capacity registers ≡ refused 51 (count + 1)
 unfolding catalogFrom
@@ -29,7 +29,7 @@ module _ (text : List ℕ) (at end : ℕ) (inside : at < length text) (ends : en
   abbrev line : List ℕ
   line = firstLine (drop at text)
 
-  -- The first line left, and what the definition makes of it.
+  -- The first of the lines that are left, and the step that the definition takes for it.
   first : (registers : ℕ) → parsed text capacity registers
       ≡ withFrame (found .catalog) (catalogFrom (count + 1) (capacity - count) registers (line ∷ lines (drop (end + 1) text)))
   first registers =

@@ -1,5 +1,5 @@
--- Document 01, "The program", clause by clause: texts that show each clause of the input and what they give, computed together. There
--- is room for 2 frames and 5 registers.
+-- Document 01, "The program", clause by clause: texts for each clause of the input and what they give, computed together. The capacity
+-- is 2 frames and 5 registers.
 use mathlib.Core.Path.{_≡_, refl}
 use mathlib.Core.List.{List, [], _∷_, _++_, map}
 use Prim.Native.Nat.{ℕ}
@@ -16,7 +16,7 @@ frame = ascii "0001038400000000000000000000abCD\n"
 abbrev pub frameWords : List ℕ
 frameWords = 1 ∷ 900 ∷ 0 ∷ 0 ∷ 0 ∷ 0 ∷ 0 ∷ 0xABCD ∷ []
 
--- So many digits.
+-- n digits 0.
 abbrev pub digits : ℕ → List ℕ
 digits n = replicate n 48
 
@@ -57,12 +57,12 @@ cases =
     ∷ (ascii "\n" ++ digits 65, refused 50 2)
     ∷ (ascii "\n" ++ digits 68, refused 50 2)
     ∷ (ascii "\n" ++ 0 ∷ 48 ∷ 48 ∷ 48 ∷ [], refused 50 2)
-    -- Each digit's neighbours are none.
+    -- The bytes next to the ranges of digits are not digits.
     ∷ (ascii "\n/000", refused 50 2)
     ∷ (ascii "\n0:00", refused 50 2)
     ∷ (ascii "\n00@0", refused 50 2)
     ∷ (ascii "\n000`", refused 50 2)
-    -- 51: no empty line, told behind the last line.
+    -- 51: no empty line; the place is one after the last line.
     ∷ (frame, refused 51 2)
     ∷ (digits 32, refused 51 2)
     ∷ (frame ++ frame, refused 51 3)

@@ -1,5 +1,4 @@
--- A text that is cut off gives a refusal; or the whole text is refused for one of its lines; or the whole text gives the same
--- catalog and the same map, with or without further registers.
+-- The first n bytes of a text against the whole text: proof of `Continued`.
 use mathlib.Core.List.{List, [], _∷_, _++_, append-nil, append-assoc}
 use Prim.Native.Nat.{ℕ, _+_, _-_}
 use native.Mathlib.Omega.{arith}
@@ -9,50 +8,44 @@ use lib.ListN.{length, take}
 use Rattle.lists.proofs.TestOutcomes.{by-test, by-same-test}
 use Rattle.input.specs.Digits.{wordsOf}
 use Rattle.input.specs.Parsing.{isCatalogLine, isMapLine, Input, refused, words, withFrame, withRegisters, mapFrom, catalogFrom, parsed}
+use Rattle.input.specs.Truncation.{Continued, partRefused, badLine, tooMany, further}
 use Rattle.input.proofs.CutLines.{Cut, whole, nothing, within, following, cut-lines}
 use Rattle.input.proofs.GoodLines.{map-line, words-after}
-
--- What a part of a text gives, and what the whole gives.
-pub data Continued : Input → Input → Type 0 where
-  partRefused : {number place : ℕ} {x : Input} → Continued (refused number place) x
-  badLine : (place : ℕ) {x : Input} → Continued x (refused 50 place)
-  tooShort : (place : ℕ) {x : Input} → Continued x (refused 52 place)
-  further : (catalog map more : List ℕ) → Continued (words catalog map) (words catalog (map ++ more))
 
 -- Nothing is cut off.
 uncut : (x : Input) → Continued x x
 uncut (refused number place) = partRefused
 uncut (words catalog map) = rw append-nil at (further catalog map [])
 
--- A frame in front of both, and registers.
+-- The same frame, or the same registers, before both.
 continued-frame : (frame : List ℕ) {x y : Input} → Continued x y → Continued (withFrame frame x) (withFrame frame y)
 continued-frame frame partRefused = partRefused
 continued-frame frame (badLine place) = badLine place
-continued-frame frame (tooShort place) = tooShort place
+continued-frame frame (tooMany place) = tooMany place
 continued-frame frame (further catalog map more) = further (frame ++ catalog) map more
 
 continued-registers : (ws : List ℕ) {x y : Input} → Continued x y → Continued (withRegisters ws x) (withRegisters ws y)
 continued-registers ws partRefused = partRefused
 continued-registers ws (badLine place) = badLine place
-continued-registers ws (tooShort place) = tooShort place
+continued-registers ws (tooMany place) = tooMany place
 continued-registers ws (further catalog map more) = rw append-assoc at (further catalog (ws ++ map) more)
 
--- The part's last registers, and more of them in the whole.
+-- The part ends with the registers `ws`; the whole has `more` after them.
 continued-more : (ws more : List ℕ) {y : Input} → Continued (words [] []) y → Continued (words [] ws) (withRegisters (ws ++ more) y)
 continued-more ws more (badLine place) = badLine place
-continued-more ws more (tooShort place) = tooShort place
+continued-more ws more (tooMany place) = tooMany place
 continued-more ws more (further catalog map rest) = rw append-assoc (further [] ws (more ++ rest))
 
--- The part has no further line of the map.
+-- The part ends before the first line of the map.
 all-cut : (number capacity : ℕ) (ls : List (List ℕ)) → Continued (words [] []) (mapFrom number capacity ls)
 unfolding mapFrom
 all-cut number capacity [] = uncut (words [] [])
 all-cut number capacity (l ∷ ls) =
     let P : Input → Type 0 = Continued (words [] []) in
-    by-test P (isMapLine l) (λ good. by-test P (ltb capacity (length (wordsOf l))) (λ full. tooShort number)
+    by-test P (isMapLine l) (λ good. by-test P (ltb capacity (length (wordsOf l))) (λ full. tooMany number)
     (λ fits. continued-more [] (wordsOf l) (all-cut (number + 1) (capacity - length (wordsOf l)) ls))) (λ bad. badLine number)
 
--- The map's line with the cut in it: where both its part and the line are good, its words begin with those of the part.
+-- The cut is inside a line of the map. If both the part and the line are good, the line's words begin with those of the part.
 line-cut : (number capacity : ℕ) (part more : List ℕ) (ls : List (List ℕ))
     → Continued (mapFrom number capacity (part ∷ [])) (mapFrom number capacity ((part ++ more) ∷ ls))
 unfolding mapFrom
@@ -61,7 +54,7 @@ line-cut number capacity part more ls =
     let P : Input → Type 0 = λ x. Continued x (mapFrom number capacity (l ∷ ls)) in
     by-test P (isMapLine part) (λ good. by-test P (ltb capacity (length (wordsOf part))) (λ full. partRefused) (λ fits.
     let Q : Input → Type 0 = Continued (words [] (wordsOf part ++ [])) in
-    by-test Q (isMapLine l) (λ good′. by-test Q (ltb capacity (length (wordsOf l))) (λ full. tooShort number) (λ fits′.
+    by-test Q (isMapLine l) (λ good′. by-test Q (ltb capacity (length (wordsOf l))) (λ full. tooMany number) (λ fits′.
     rw (words-after part more (map-line part good .1), append-nil)
     (continued-more (wordsOf part) (wordsOf more) (all-cut (number + 1) _ ls))))
     (λ bad. badLine number))) (λ bad. partRefused)
@@ -76,7 +69,7 @@ map-cut (following n m l e c) number capacity =
     by-same-test Continued (isMapLine l) (λ good. by-same-test Continued (ltb capacity (length (wordsOf l))) (λ full. partRefused)
     (λ fits. continued-registers (wordsOf l) (map-cut c (number + 1) (capacity - length (wordsOf l))))) (λ bad. partRefused)
 
--- A part that ends in the catalog has no empty line and is refused.
+-- A part that ends inside the catalog has no empty line and is refused.
 catalog-cut : {n : ℕ} {ks ls : List (List ℕ)} → Cut n ks ls → (number frames registers : ℕ)
     → Continued (catalogFrom number frames registers ks) (catalogFrom number frames registers ls)
 unfolding catalogFrom
@@ -93,7 +86,7 @@ catalog-cut (following n m l e c) number frames registers =
     (λ good. by-same-test Continued (eqb frames 0) (λ full. partRefused)
     (λ fits. continued-frame (wordsOf l) (catalog-cut c (number + 1) (frames - 1) registers))) (λ bad. partRefused))
 
--- What the first n bytes of a text give, and what the whole gives.
+-- The first n bytes of a text against the whole text.
 pub cut-words : (n : ℕ) (text : List ℕ) (frames registers : ℕ)
     → Continued (parsed (take n text) frames registers) (parsed text frames registers)
 cut-words n text frames registers = catalog-cut (cut-lines n text) 1 frames registers

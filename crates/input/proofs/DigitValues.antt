@@ -1,4 +1,4 @@
--- The digits by their codes: which bytes have a value, and that it is under 16. Whether all bytes of a line are digits.
+-- The digits by their codes: which bytes have a value, and that the value is under 16.
 use mathlib.Core.Path.{_≡_, refl, sym}
 use mathlib.Core.Bool.{Bool, true, false, _&&_}
 use mathlib.Core.Option.{Option, none, some}
@@ -38,7 +38,7 @@ module _ (b : ℕ) where
       let m : 70 < b = omega arith in
       simp (digitValue, above 48 57 l, above 65 70 m, within 97 102 h k)
 
-  -- Below the digits, between them, and above them stand other bytes.
+  -- The bytes below, between and above the digits have no value.
   pub below-decimal : b < 48 → digitValue b ≡ none
   unfolding digitValue
   below-decimal h =
@@ -61,7 +61,7 @@ module _ (b : ℕ) where
       let m : 70 < b = omega arith in
       simp (digitValue, above 48 57 l, above 65 70 m, above 97 102 h)
 
--- Both tests hold of a byte in the range.
+-- A byte that passes both tests is in the range.
 inside : (b first last : ℕ) → (leb first b && leb b last) ≡ true → (first ≤ b) × (b ≤ last)
 inside b first last e = go (leb first b) refl (leb b last) refl e
   where

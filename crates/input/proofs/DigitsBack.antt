@@ -1,4 +1,4 @@
--- The digits of words are read back as these words.
+-- The digits of words are read back as the same words.
 use mathlib.Core.Path.{_≡_, refl}
 use mathlib.Core.Bool.{true, false, and-false}
 use mathlib.Core.List.{List, [], _∷_}
@@ -14,13 +14,13 @@ use Rattle.registers.specs.Registers.{AreRegisters}
 use Rattle.input.specs.Digits.{isBetween, digitValue, isDigit, areDigits, digitOr0, word, wordsOf}
 use Rattle.input.specs.Writing.{hexDigit, hexDigits}
 
--- A byte of a range of characters, and one behind it.
+-- A byte inside a range of characters, and one past its end.
 module _ (first last : Char) (b : ℕ) where
-  is-from : code first ≤ b → b ≤ code last → isBetween first last b ≡ true
-  is-from h g = simp (le-leb (code first) b h, le-leb b (code last) g)
+  in-range : code first ≤ b → b ≤ code last → isBetween first last b ≡ true
+  in-range h g = simp (le-leb (code first) b h, le-leb b (code last) g)
 
-  separator-last : code last < b → isBetween first last b ≡ false
-  separator-last h = simp (lt-leb b (code last) h, and-false)
+  past-last : code last < b → isBetween first last b ≡ false
+  past-last h = simp (lt-leb b (code last) h, and-false)
 
 -- A digit is read back.
 digit-back : (v : ℕ) → v < 16 → digitValue (hexDigit v) ≡ some v
@@ -31,14 +31,14 @@ digit-back v h =
     (λ t.
     let s = ltb-true v 10 t in
     let e : v + code "0" - code "0" ≡ v = omega arith in
-    simp (digitValue, is-from "0" "9" (v + code "0") (omega arith) (omega arith), e))
+    simp (digitValue, in-range "0" "9" (v + code "0") (omega arith) (omega arith), e))
     (λ f.
     let s = ltb-false v 10 f in
     let b = v - 10 + code "A" in
     let e : b - code "A" + 10 ≡ v = omega arith in
-    simp (digitValue, separator-last "0" "9" b (omega arith), is-from "A" "F" b (omega arith) (omega arith), e))
+    simp (digitValue, past-last "0" "9" b (omega arith), in-range "A" "F" b (omega arith) (omega arith), e))
 
--- So it is a digit and has its value.
+-- A written digit is a digit and has its value.
 module _ (v : ℕ) (h : v < 16) where
   digit-or-0 : digitOr0 (hexDigit v) ≡ v
   unfolding digitOr0
@@ -48,7 +48,7 @@ module _ (v : ℕ) (h : v < 16) where
   unfolding isDigit
   is-digit = rw (isDigit, digit-back v h)
 
--- The values of a word's digits make up the word.
+-- A word's four digits give the word.
 word-back : (w : ℕ) → w < 65536
     → word (hexDigit (w / 4096)) (hexDigit (w / 256 % 16)) (hexDigit (w / 16 % 16)) (hexDigit (w % 16)) ≡ w
 word-back w h =
@@ -59,7 +59,7 @@ word-back w h =
       digit-or-0 (w % 16) (omega arith),
     ) (omega arith)
 
--- The digits of words: the words that they are read as, that they are digits, and how many there are.
+-- The digits of words: the words read from them, that all are digits, and their number.
 pub words-back : (ws : List ℕ) → AreRegisters ws → wordsOf (hexDigits ws) ≡ ws
 unfolding wordsOf
 words-back [] small = refl

@@ -1,4 +1,4 @@
--- A text is its first line and the lines behind it.
+-- A text is its first line and the lines after it.
 use mathlib.Core.Path.{_≡_, refl, ap, _∙_}
 use mathlib.Core.Bool.{Bool, true, false}
 use mathlib.Core.List.{List, [], _∷_}
@@ -12,7 +12,7 @@ use lib.Seq.{drop-cons}
 use Rattle.input.specs.Lines.{lines, withByte, lineFeed}
 use Rattle.input.specs.InternalContracts.{firstLine}
 
--- Over the first byte.
+-- The first line by the text's first byte.
 pub first-byte : (b : ℕ) (bs : List ℕ) → (b ≡ lineFeed → ⊥) → firstLine (b ∷ bs) ≡ b ∷ firstLine bs
 unfolding firstLine
 first-byte b bs n = simp (firstLine, ne-eqb b lineFeed n)
@@ -21,7 +21,7 @@ pub first-none : (b : ℕ) (bs : List ℕ) → b ≡ lineFeed → firstLine (b �
 unfolding firstLine
 first-none b bs e = simp (firstLine, eq-eqb b lineFeed e)
 
--- The lengths of the line from the byte at i on.
+-- The length of the line that begins at byte i.
 module _ (t : List ℕ) (i : ℕ) where
   pub first-on : i < length t → (getD t i 0 ≡ lineFeed → ⊥)
       → length (firstLine (drop i t)) ≡ 1 + length (firstLine (drop (i + 1) t))
@@ -38,7 +38,7 @@ module _ (t : List ℕ) (i : ℕ) where
   unfolding firstLine
   first-end h = rw (drop-of-length-le t h)
 
--- A line is the first bytes of its text.
+-- The first line is the beginning of its text.
 pub first-taken : (t : List ℕ) → take (length (firstLine t)) t ≡ firstLine t
 unfolding firstLine
 first-taken [] = refl
@@ -60,7 +60,7 @@ lines-byte : (b : ℕ) (bs : List ℕ) → (b ≡ lineFeed → ⊥) → lines (b
 unfolding lines
 lines-byte b bs n = simp (lines, ne-eqb b lineFeed n)
 
--- One byte in front of the lines of a text goes into the first one.
+-- A byte before a text is added to its first line.
 byte-before : (b : ℕ) (bs : List ℕ)
     → (0 < length bs → lines bs ≡ firstLine bs ∷ lines (drop (length (firstLine bs) + 1) bs))
     → withByte b (lines bs) ≡ (b ∷ firstLine bs) ∷ lines (drop (length (firstLine bs) + 1) bs)
@@ -68,7 +68,7 @@ unfolding lines firstLine
 byte-before b [] first = refl
 byte-before b (c ∷ cs) first = rw (first (omega arith))
 
--- A text that is not empty is its first line and the lines behind the LF that ends it.
+-- The lines of a text that is not empty: the first, and those after the LF that ends it.
 pub lines-first : (t : List ℕ) → 0 < length t → lines t ≡ firstLine t ∷ lines (drop (length (firstLine t) + 1) t)
 lines-first [] h = absurd (omega arith)
 lines-first (b ∷ bs) h = go (eqb b lineFeed) refl (lines-first bs)

@@ -20,7 +20,7 @@ words-length (a ∷ b ∷ []) = refl
 words-length (a ∷ []) = refl
 words-length [] = refl
 
--- The words of whole fours, and of what is behind them.
+-- The words of whole fours of digits, followed by `more`.
 pub words-after : (fours more : List ℕ) → length fours ≡ 4 * length (wordsOf fours)
     → wordsOf (fours ++ more) ≡ wordsOf fours ++ wordsOf more
 unfolding wordsOf
@@ -47,7 +47,7 @@ map-line l e =
     let n = words-length l in
     (omega arith, omega arith)
 
--- A line of over 64 bytes is bad, in the catalog and in the map.
+-- A line of more than 64 bytes is bad, in the catalog and in the map.
 module _ (l : List ℕ) (h : 64 < length l) where
   pub not-empty : eqb (length l) 0 ≡ false
   not-empty = ne-eqb (length l) 0 (λ e. omega arith)

@@ -4,7 +4,7 @@ pub mod LongInputs
 pub mod CutWords
 pub mod ReadBack
 pub mod Refusals
--- Laws of the definitions, and what the proofs of the functions cite
+-- Laws of the definitions, cited by the proofs of the functions
 pub mod DigitValues
 pub mod DigitsBack
 pub mod WrittenLines

@@ -1,4 +1,4 @@
--- How the definitions go over one line, and over the line that begins at a position of a text.
+-- The steps of the definitions: for one line, and for the line that begins at a position of a text.
 use mathlib.Core.Path.{_≡_, refl, sym, ap, _∙_}
 use mathlib.Core.Bool.{true, false}
 use mathlib.Core.List.{List, [], _∷_, _++_, append-assoc}
@@ -13,7 +13,7 @@ use Rattle.input.specs.Parsing.{isCatalogLine, isMapLine, Input, refused
 use Rattle.input.specs.InternalContracts.{firstLine}
 use Rattle.input.proofs.FirstLines.{first-taken, lines-first}
 
--- ---- Over one line
+-- ---- One line
 
 module _ (number frames registers : ℕ) (l : List ℕ) (ls : List (List ℕ)) where
   pub catalog-empty : length l ≡ 0 → catalogFrom number frames registers (l ∷ ls) ≡ mapFrom (number + 1) registers ls
@@ -49,7 +49,7 @@ module _ (number capacity : ℕ) (l : List ℕ) (ls : List (List ℕ)) where
     unfolding mapFrom
     map-more h = simp (mapFrom, t, le-ltb _ _ h)
 
--- ---- What was found in front
+-- ---- What was found before
 
 pub no-frame : (x : Input) → x ≡ withFrame [] x
 no-frame (refused number place) = refl
@@ -80,7 +80,7 @@ module _ (text : List ℕ) (at end : ℕ) (inside : at < length text) (ends : en
       lines-first (drop at text) (omega (arith, length-drop at text))
       ∙ ap (λ (t : List ℕ). l ∷ lines t) (drop-drop (length l + 1) at text ∙ ap (λ (k : ℕ). drop k text) e)
 
--- At the end of a text there is no line.
+-- There is no line from the end of a text on.
 pub no-lines : (text : List ℕ) (at : ℕ) → length text ≤ at → lines (drop at text) ≡ []
 unfolding lines
 no-lines text at h = rw (drop-of-length-le text h)

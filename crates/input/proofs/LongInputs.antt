@@ -1,4 +1,4 @@
--- What lies far behind does not matter: a text may be cut off 65 bytes behind the end of the largest catalog and map.
+-- Only the beginning of a text matters: it may be cut off 65 bytes after the end of the largest catalog and map.
 use mathlib.Core.Path.{_≡_, refl, ap}
 use mathlib.Core.List.{List, _++_}
 use Prim.Native.Nat.{ℕ, _+_, _-_, _*_, _≤_, _<_}
@@ -12,7 +12,7 @@ use Rattle.input.specs.Parsing.{isCatalogLine, isMapLine, withFrame, wit
 use Rattle.input.proofs.CutLines.{Cut, whole, nothing, within, following, cut-lines}
 use Rattle.input.proofs.GoodLines.{catalog-line, map-line, not-empty, no-catalog-line, no-map-line}
 
--- The map: a good line of w registers takes 4 * w + 1 bytes, at most 5 * w. A line with the cut in it is bad, cut off or not.
+-- The map: a good line of w registers takes 4 * w + 1 bytes, at most 5 * w. The line with the cut in it is bad, cut off or not.
 map-cut : {n : ℕ} {ks ls : List (List ℕ)} → Cut n ks ls → (number capacity : ℕ) → 5 * capacity + 65 ≤ n
     → mapFrom number capacity ks ≡ mapFrom number capacity ls
 unfolding mapFrom
@@ -48,11 +48,11 @@ catalog-cut (following n m l e c) number frames registers h =
     let f = eqb-false frames 0 fits in
     ap (withFrame (wordsOf l)) (catalog-cut c (number + 1) (frames - 1) registers (omega arith)))) (λ bad. refl))
 
--- Only so many bytes of a text matter.
+-- Cutting a text off after n bytes changes nothing if n is large enough.
 pub cut-off : (text : List ℕ) (frames registers n : ℕ) → 33 * frames + 5 * registers + 66 ≤ n
     → parsed (take n text) frames registers ≡ parsed text frames registers
 cut-off text frames registers n h = catalog-cut (cut-lines n text) 1 frames registers h
 
--- With room for 1,024 frames and 8,192 registers, 74,818 bytes.
+-- For 1,024 frames and 8,192 registers, 74,818 bytes are enough.
 pub cut-off-largest : (text : List ℕ) → parsed (take 74818 text) 1024 8192 ≡ parsed text 1024 8192
 cut-off-largest text = cut-off text 1024 8192 74818 (omega arith)

@@ -1,4 +1,4 @@
--- One line of the map more: what is found in front of the lines left.
+-- `survey_map` reads one more line of the map: how `RegistersFound` goes on.
 use mathlib.Core.Path.{_≡_, sym, ap, _∙_}
 use mathlib.Core.Bool.{true, false}
 use mathlib.Core.List.{List, [], _∷_, _++_}
@@ -12,7 +12,7 @@ use Rattle.input.specs.InternalContracts.{firstLine, RegistersFound}
 use Rattle.input.proofs.GoodLines.{words-length}
 use Rattle.input.proofs.LineSteps as steps
 
--- At the end of the text all registers were found.
+-- The end of the text: all registers are found.
 pub at-end : (text : List ℕ) (at number : ℕ) {all : Input} {capacity count : ℕ}
     → RegistersFound all capacity count (mapFrom number (capacity - count) (lines (drop at text))) → length text ≤ at
     → RegistersFound all capacity count (words [] [])

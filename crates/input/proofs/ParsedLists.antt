@@ -1,4 +1,4 @@
--- What is found in the lines is what the text gives, and what is stored of it is what the lists are to hold.
+-- From what the surveys found: the result of `parse`, and what its lists hold.
 use mathlib.Core.Path.{_≡_, refl, sym, ap, _∙_}
 use mathlib.Core.List.{List, [], _++_, append-nil}
 use Prim.Native.Nat.{ℕ, _+_, _*_, _/_, _≤_}
@@ -16,7 +16,7 @@ stored-at-start ws old h =
     let e : 0 + length ws ≡ length ws = omega arith in
     sets-eq ws old 0 (omega arith) ∙ ap (λ (k : ℕ). ws ++ drop k old) e
 
--- A refusal is told as it is, and leaves both lists as they were.
+-- A refusal is returned as it is, and leaves both lists unchanged.
 module _ {x : Input} {number place : ℕ} (e : x ≡ refused number place) where
   pub refusal-result : refusedResult number place ≡ result x
   refusal-result = sym (ap result e)

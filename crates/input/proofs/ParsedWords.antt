@@ -1,4 +1,4 @@
--- The words that a text gives are those of its digits, line feeds passed over: what is stored is what was found.
+-- The words that a text gives are the words of its digits, with line feeds skipped.
 use mathlib.Core.Path.{_≡_, refl, sym, ap, _∙_}
 use mathlib.Core.List.{List, [], _∷_, _++_}
 use Prim.Native.Nat.{ℕ, _+_, _-_, _*_, _<_}
@@ -14,13 +14,13 @@ use Rattle.input.proofs.FirstLines.{lines-first}
 use Rattle.input.proofs.GoodLines.{catalog-line, map-line}
 use Rattle.input.proofs.WordRuns.{line-passed}
 
--- Where a text has lines, the first and those behind it are the text's own.
+-- A text that has a line has a byte.
 some-bytes : (t l : List ℕ) (ls : List (List ℕ)) → lines t ≡ l ∷ ls → 0 < length t
 unfolding lines
 some-bytes [] l ls e = impossible (cc)
 some-bytes (b ∷ bs) l ls e = omega arith
 
--- A first line of k words, and as many words behind it as are asked for.
+-- The words of a text whose first line has k words: that line's words, and those of the lines after it.
 first-words : (t l : List ℕ) (ls : List (List ℕ)) (k : ℕ) (ws : List ℕ) → lines t ≡ l ∷ ls → length l ≡ 4 * k → length (wordsOf l) ≡ k
     → ((u : List ℕ) → lines u ≡ ls → wordsFrom (length ws) u ≡ ws) → wordsFrom (length (wordsOf l ++ ws)) t ≡ wordsOf l ++ ws
 first-words t l ls k ws e n m rest =
@@ -35,7 +35,7 @@ first-words t l ls k ws e n m rest =
     ∙ ap (λ (x : List ℕ). wordsOf x ++ wordsFrom (length ws) (drop (4 * k + 1) t)) same
     ∙ ap (λ (x : List ℕ). wordsOf l ++ x) (ap (λ (n : ℕ). wordsFrom (length ws) (drop n t)) (sym far) ∙ rest u following)
 
--- What is put in front can be taken off again.
+-- What `withRegisters` and `withFrame` add can be taken off again.
 registers-off : (ws : List ℕ) (x : Input) (c m : List ℕ) → withRegisters ws x ≡ words c m → (n : List ℕ) × (x ≡ words c n) × (m ≡ ws ++ n)
 registers-off ws (refused number place) c m e = impossible (cc)
 registers-off ws (words catalog map) c m e = (map, (cc), (cc))
@@ -44,7 +44,7 @@ frame-off : (ws : List ℕ) (x : Input) (c m : List ℕ) → withFrame ws x ≡ 
 frame-off ws (refused number place) c m e = impossible (cc)
 frame-off ws (words catalog map) c m e = (catalog, (cc), (cc))
 
--- The map's lines give no catalog.
+-- The map's lines give an empty catalog.
 map-only : (ls : List (List ℕ)) (number capacity : ℕ) (c m : List ℕ) → mapFrom number capacity ls ≡ words c m → c ≡ []
 unfolding mapFrom
 map-only [] number capacity c m = λ q. cc

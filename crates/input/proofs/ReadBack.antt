@@ -1,4 +1,4 @@
--- Every catalog and map that fits can be given: written as a text, they are read back.
+-- Every catalog and map within the capacity has a text: written as a text, they are read back.
 use mathlib.Core.Path.{_≡_, refl, ap, _∙_}
 use mathlib.Core.List.{List, [], _∷_, _++_, append-nil}
 use Prim.Native.Nat.{ℕ, zero, suc, _+_, _-_, _*_, _/_, _≤_, _<_}
@@ -11,7 +11,7 @@ use Rattle.input.specs.Parsing.{words, withFrame, withRegisters, mapFrom
 use Rattle.input.specs.Writing.{linesOfWords, written}
 use Rattle.input.proofs.WrittenLines.{first-line, registers-back, frame-back}
 
--- A map, in as many lines as it needs.
+-- A map in lines of 16 registers.
 map-back : (count number capacity : ℕ) (map : List ℕ) → AreRegisters map
     → length map ≤ 16 * count → 16 * count < length map + 16 → length map ≤ capacity
     → mapFrom number capacity (lines (linesOfWords count 16 map ++ [])) ≡ words [] map
@@ -30,7 +30,7 @@ map-back (suc count) number capacity map small high low fits =
     ∙ ap (withRegisters line) (back (omega arith) (omega arith) (omega arith))
     ∙ ap (words []) (take-append-drop 16 map)
 
--- A catalog, an empty line and a rest that is read as a map.
+-- A catalog, an empty line, and the text `rest` of a map.
 catalog-back : (k number frames registers : ℕ) (catalog map rest : List ℕ) → AreRegisters catalog → length catalog ≡ 8 * k
     → k ≤ frames
     → ((n : ℕ) → mapFrom n registers (lines rest) ≡ words [] map)
@@ -51,7 +51,7 @@ catalog-back (suc k) number frames registers catalog map rest small e fits back 
     (catalog-back k (number + 1) (frames - 1) registers following map rest small′ (omega arith) (omega arith) back)
     ∙ ap (λ ws. words ws map) (take-append-drop 8 catalog)
 
--- A catalog of whole frames and a map, if there is room for both, are read back.
+-- A catalog of whole frames and a map, both within the capacity, are read back.
 pub read-back : (catalog map : List ℕ) (k frames registers : ℕ) → AreRegisters catalog → AreRegisters map
     → length catalog ≡ 8 * k → k ≤ frames → length map ≤ registers
     → parsed (written catalog map) frames registers ≡ words catalog map

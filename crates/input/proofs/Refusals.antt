@@ -1,7 +1,7 @@
--- What a text can give: a refusal at one of its lines or just behind the last, or words that fit.
+-- What a text can give: proof of `Outcome`.
 use mathlib.Core.Path.{_≡_, refl}
 use mathlib.Core.List.{List, [], _∷_, _++_}
-use Prim.Native.Nat.{ℕ, _+_, _-_, _*_, _≤_}
+use Prim.Native.Nat.{ℕ, _+_, _-_, _≤_}
 use native.Mathlib.Omega.{arith}
 use borrow.Author.Tests.{ltb-false, eqb-false}
 use lib.Dec.{eqb, ltb}
@@ -9,42 +9,34 @@ use lib.ListN.{length, length-append}
 use Rattle.lists.proofs.TestOutcomes.{by-test}
 use Rattle.input.specs.Lines.{lines}
 use Rattle.input.specs.Digits.{wordsOf}
-use Rattle.input.specs.Parsing.{Input, refused, words, isCatalogLine, isMapLine, withFrame, withRegisters, mapFrom, catalogFrom, parsed}
+use Rattle.input.specs.Parsing.{Input, isCatalogLine, isMapLine, withFrame, withRegisters, mapFrom, catalogFrom, parsed}
+use Rattle.input.specs.Outcomes.{Outcome, badLine, noEmptyLine, tooMany, given}
 use Rattle.input.proofs.GoodLines.{catalog-line}
 
--- The outcomes for so many lines, with room for so many frames and registers. 50 and 52 are told at one of the lines, 51 just
--- behind the last. The catalog is k frames of eight words.
-pub data Outcome (count frames registers : ℕ) : Input → Type 0 where
-  badLine : (place : ℕ) → 1 ≤ place → place ≤ count → Outcome count frames registers (refused 50 place)
-  noEmptyLine : (place : ℕ) → place ≡ count + 1 → Outcome count frames registers (refused 51 place)
-  tooShort : (place : ℕ) → 1 ≤ place → place ≤ count → Outcome count frames registers (refused 52 place)
-  given : (catalog map : List ℕ) (k : ℕ) → length catalog ≡ 8 * k → k ≤ frames → length map ≤ registers
-      → Outcome count frames registers (words catalog map)
-
 module _ (count frames registers : ℕ) where
-  -- A frame in front.
+  -- One frame before the rest.
   one-frame-more : (frame : List ℕ) {x : Input} → length frame ≡ 8 → (frames ≡ 0 → ⊥)
       → Outcome count (frames - 1) registers x
       → Outcome count frames registers (withFrame frame x)
   one-frame-more frame e n (badLine p l h) = badLine p l h
   one-frame-more frame e n (noEmptyLine p q) = noEmptyLine p q
-  one-frame-more frame e n (tooShort p l h) = tooShort p l h
+  one-frame-more frame e n (tooMany p l h) = tooMany p l h
   one-frame-more frame e n (given catalog map k c f r) =
       let s = length-append frame catalog in
       given (frame ++ catalog) map (k + 1) (omega arith) (omega (arith, n)) r
 
-  -- Registers in front.
+  -- Registers before the rest.
   more-registers : (ws : List ℕ) {x : Input} → length ws ≤ registers
       → Outcome count frames (registers - length ws) x
       → Outcome count frames registers (withRegisters ws x)
   more-registers ws e (badLine p l h) = badLine p l h
   more-registers ws e (noEmptyLine p q) = noEmptyLine p q
-  more-registers ws e (tooShort p l h) = tooShort p l h
+  more-registers ws e (tooMany p l h) = tooMany p l h
   more-registers ws e (given catalog map k c f r) =
       let s = length-append ws map in
       given catalog (ws ++ map) k c f (omega arith)
 
--- From a line of the map on, and from a line of the catalog on.
+-- From line `number` on: of the map, and of the catalog.
 map-outcome : (count frames number capacity : ℕ) (ls : List (List ℕ)) → 1 ≤ number → number + length ls ≡ count + 1
     → Outcome count frames capacity (mapFrom number capacity ls)
 unfolding mapFrom
@@ -52,7 +44,7 @@ map-outcome count frames number capacity [] low e = given [] [] 0 refl (omega ar
 map-outcome count frames number capacity (l ∷ ls) low e =
     let P : Input → Type 0 = Outcome count frames capacity in
     let used = length (wordsOf l) in
-    by-test P (isMapLine l) (λ good. by-test P (ltb capacity used) (λ full. tooShort number low (omega arith)) (λ fits.
+    by-test P (isMapLine l) (λ good. by-test P (ltb capacity used) (λ full. tooMany number low (omega arith)) (λ fits.
     more-registers count frames capacity (wordsOf l) (ltb-false capacity used fits)
     (map-outcome count frames (number + 1) (capacity - used) ls (omega arith) (omega arith))))
     (λ bad. badLine number low (omega arith))
@@ -65,7 +57,7 @@ catalog-outcome count number frames registers (l ∷ ls) low e =
     let P : Input → Type 0 = Outcome count frames registers in
     by-test P (eqb (length l) 0)
     (λ empty. map-outcome count frames (number + 1) registers ls (omega arith) (omega arith))
-    (λ filled. by-test P (isCatalogLine l) (λ good. by-test P (eqb frames 0) (λ full. tooShort number low (omega arith)) (λ fits.
+    (λ filled. by-test P (isCatalogLine l) (λ good. by-test P (eqb frames 0) (λ full. tooMany number low (omega arith)) (λ fits.
     one-frame-more count frames registers (wordsOf l) (catalog-line l good .1) (eqb-false frames 0 fits)
     (catalog-outcome count (number + 1) (frames - 1) registers ls (omega arith) (omega arith))))
     (λ bad. badLine number low (omega arith)))

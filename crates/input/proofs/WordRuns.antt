@@ -1,4 +1,4 @@
--- The words of a text's digits: a line feed is passed over, and four digits are a word.
+-- The words of a text's digits: a line feed is skipped, and four digits are a word.
 use mathlib.Core.Path.{_≡_, refl, sym, ap, _∙_}
 use mathlib.Core.Bool.{Bool, true, false}
 use mathlib.Core.List.{List, [], _∷_, _++_}
@@ -24,7 +24,7 @@ four-bytes (suc n) (a ∷ b ∷ []) h = absurd (omega arith)
 four-bytes (suc n) (a ∷ []) h = absurd (omega arith)
 four-bytes (suc n) [] h = absurd (omega arith)
 
--- Over the first byte, a line feed.
+-- The first byte is a line feed.
 pub feed-passed : (n a : ℕ) (bs : List ℕ) → a ≡ lineFeed → wordsFrom n (a ∷ bs) ≡ wordsFrom n bs
 unfolding wordsFrom
 feed-passed zero a bs e = refl
@@ -33,13 +33,13 @@ feed-passed (suc n) a (b ∷ c ∷ []) e = refl
 feed-passed (suc n) a (b ∷ []) e = refl
 feed-passed (suc n) a [] e = refl
 
--- Over the first four bytes, the digits of a word.
+-- The first four bytes are the digits of a word.
 pub word-passed : (n a b c d : ℕ) (bs : List ℕ) → (a ≡ lineFeed → ⊥)
     → wordsFrom (suc n) (a ∷ b ∷ c ∷ d ∷ bs) ≡ word a b c d ∷ wordsFrom n bs
 unfolding wordsFrom
 word-passed n a b c d bs k = simp (wordsFrom, ne-eqb a lineFeed k)
 
--- Four bytes of a text from a position on.
+-- The four bytes of a text from position i on.
 four-from : (t : List ℕ) (i : ℕ) → i + 4 ≤ length t
     → drop i t ≡ getD t i 0 ∷ getD t (i + 1) 0 ∷ getD t (i + 2) 0 ∷ getD t (i + 3) 0 ∷ drop (i + 4) t
 four-from t i h =
@@ -61,7 +61,7 @@ four-from t i h =
 
 -- ---- Storing, from a position of a text on
 
--- So many words are to be stored, of which k are: those that are left, stored from here on, make the whole list.
+-- k of `count` words are stored in `out`. Storing the words that are left gives the list `whole`.
 pub record WordsLeft (text whole : List ℕ) (count size : ℕ) (out : List ℕ) (at k : ℕ) : Type 0 where
   pub makes : sets out k (wordsFrom (count - k) (drop at text)) ≡ whole
   pub left : length (wordsFrom (count - k) (drop at text)) ≡ count - k
@@ -112,7 +112,7 @@ module _ {text whole out : List ℕ} {count size at k : ℕ} (w : WordsLeft text
 
 -- ---- Lines
 
--- The words behind an empty line.
+-- The words after an empty line.
 pub after-empty : (n : ℕ) (t : List ℕ) → length (firstLine t) ≡ 0 → wordsFrom n t ≡ wordsFrom n (drop 1 t)
 after-empty n [] h = refl
 after-empty n (b ∷ bs) h = go (eqb b lineFeed) refl
@@ -121,7 +121,7 @@ after-empty n (b ∷ bs) h = go (eqb b lineFeed) refl
     go true e = feed-passed n b bs (eqb-true b lineFeed e)
     go false e = absurd (omega (arith, h, ap length (first-byte b bs (eqb-false b lineFeed e))))
 
--- A byte of a line that is not yet at its end.
+-- The first byte of a line that is not empty is not LF.
 not-feed : (b : ℕ) (bs : List ℕ) → 0 < length (firstLine (b ∷ bs)) → b ≡ lineFeed → ⊥
 not-feed b bs h e = omega (arith, h, ap length (first-none b bs e))
 
@@ -142,7 +142,7 @@ no-bytes : (l : List ℕ) → length l ≡ 0 → l ≡ []
 no-bytes [] h = refl
 no-bytes (b ∷ l) h = absurd (omega arith)
 
--- A line of k words, and what is behind it.
+-- A line of k words, and the text after it.
 pub line-passed : (k n : ℕ) (t : List ℕ) → length (firstLine t) ≡ 4 * k
     → wordsFrom (k + n) t ≡ wordsOf (firstLine t) ++ wordsFrom n (drop (4 * k + 1) t)
 unfolding wordsOf

@@ -1,4 +1,4 @@
--- Words written as lines: they are the lines of the text, each is good, and it holds just its words.
+-- Words written as lines: the text has exactly these lines, each is good, and each gives its words.
 use mathlib.Core.Path.{_≡_, refl, sym, ap, _∙_}
 use mathlib.Core.Bool.{true, false}
 use mathlib.Core.List.{List, [], _∷_, _++_, append-assoc}
@@ -18,12 +18,12 @@ use Rattle.input.proofs.DigitsBack.{words-back, are-digits, digits-leng
 
 -- ---- Lines
 
--- LF is no digit.
+-- A digit is not LF.
 no-line-feed : (b : ℕ) → isDigit b ≡ true → eqb b lineFeed ≡ false
 unfolding isDigit digitValue
 no-line-feed b e = ne-eqb b lineFeed (λ q. clash (sym (rw q at e)))
 
--- A byte that is no LF begins the first line.
+-- A byte other than LF begins the first line.
 next-byte : (b : ℕ) (bs : List ℕ) → eqb b lineFeed ≡ false → lines (b ∷ bs) ≡ withByte b (lines bs)
 unfolding lines
 next-byte b bs e = rw (e, lines)
@@ -36,7 +36,7 @@ line-back (b ∷ l) rest e =
     let d = both (isDigit b) (areDigits l) e in
     next-byte b (l ++ lineFeed ∷ rest) (no-line-feed b (d .0)) ∙ ap (withByte b) (line-back l rest (d .1))
 
--- The first of the lines.
+-- The first line that `linesOfWords` writes.
 pub first-line : (count width : ℕ) (ws rest : List ℕ) → AreRegisters ws
     → lines (linesOfWords (suc count) width ws ++ rest)
     ≡ hexDigits (take width ws) ∷ lines (linesOfWords count width (drop width ws) ++ rest)

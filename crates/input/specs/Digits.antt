@@ -7,7 +7,7 @@ use Prim.Native.Char.{Char, code}
 use lib.Dec.{leb}
 use Rattle.lists.specs.Tests.{every}
 
--- Is the byte one of the characters from the first to the last?
+-- Is byte b one of the characters from `first` to `last`?
 abbrev pub isBetween : Char → Char → ℕ → Bool
 isBetween first last b = leb (code first) b && leb b (code last)
 
@@ -39,7 +39,7 @@ digitOr0 b = elim (digitValue b) [ some v ↦ v | none ↦ 0 ]
 abbrev pub word : ℕ → ℕ → ℕ → ℕ → ℕ
 word a b c d = ((digitOr0 a * 16 + digitOr0 b) * 16 + digitOr0 c) * 16 + digitOr0 d
 
--- The words of a line, four digits a word. (Only a line of digits in fours is asked for them.)
+-- The words of a line, four digits a word. (It is used only for lines of digits in fours.)
 unfoldable pub wordsOf : List ℕ → List ℕ
 wordsOf (a ∷ b ∷ c ∷ d ∷ bs) = word a b c d ∷ wordsOf bs
 wordsOf (a ∷ b ∷ c ∷ []) = []

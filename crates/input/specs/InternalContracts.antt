@@ -1,4 +1,4 @@
--- What private functions promise each other. No public call is stated by these.
+-- Internal: contracts of private functions; no public contract cites this file.
 use mathlib.Core.Path.{_≡_}
 use mathlib.Core.Bool.{true, false}
 use mathlib.Core.List.{List, [], _∷_}
@@ -16,7 +16,7 @@ unfoldable pub firstLine : List ℕ → List ℕ
 firstLine [] = []
 firstLine (b ∷ bs) = elim (eqb b lineFeed) [ true ↦ [] | false ↦ b ∷ firstLine bs ]
 
--- So many words of the digits of a text, or as many as there are, whatever lines they stand in.
+-- The first n words of the digits of a text, or all if it has fewer. Line feeds between words are skipped.
 unfoldable pub wordsFrom : ℕ → List ℕ → List ℕ
 wordsFrom zero text = []
 wordsFrom (suc n) (a ∷ b ∷ c ∷ d ∷ bs) =
@@ -26,27 +26,27 @@ wordsFrom (suc n) (a ∷ b ∷ []) = []
 wordsFrom (suc n) (a ∷ []) = []
 wordsFrom (suc n) [] = []
 
--- So many frames were found in front of the lines that are left, and what a text gives is these and what is found there.
+-- `count` frames were found before the lines that are left. The text gives these frames and what `left`, the rest of the lines, gives.
 pub record FramesFound (text : List ℕ) (capacity count : ℕ) (left : ℕ → Input) : Type 0 where
   pub catalog : List ℕ
   pub full : length catalog ≡ count * 8
   pub fits : count ≤ capacity
   pub rest : (registers : ℕ) → parsed text capacity registers ≡ withFrame catalog (left registers)
 
--- What is found in the catalog's lines: the refusal of the text; or the frames, and where the map's lines begin.
+-- What `survey_catalog` returns: the refusal of the text; or the number of frames, and the position of the map's first line.
 abbrev pub CatalogFound : List ℕ → ℕ → CatalogLines → Type 0
 CatalogFound text capacity (CatalogLines.Refused number place) = (registers : ℕ) → parsed text capacity registers ≡ refused number place
 CatalogFound text capacity (CatalogLines.Frames count next) =
     FramesFound text capacity count (λ registers. mapFrom (count + 2) registers (lines (drop next text))) × (count + 1 ≤ next)
 
--- So many registers were found in front of the lines that are left.
+-- `count` registers were found before the lines that are left.
 pub record RegistersFound (all : Input) (capacity count : ℕ) (left : Input) : Type 0 where
   pub map : List ℕ
   pub full : length map ≡ count
   pub fits : count ≤ capacity
   pub rest : all ≡ withRegisters map left
 
--- What is found in the map's lines, from a position on: a refusal, or the registers.
+-- What `survey_map` returns for the lines from position `at`, numbered from `number`: a refusal, or the number of registers.
 abbrev pub MapFound : List ℕ → ℕ → ℕ → ℕ → MapLines → Type 0
 MapFound text at number capacity (MapLines.Refused fault place) = mapFrom number capacity (lines (drop at text)) ≡ refused fault place
 MapFound text at number capacity (MapLines.Registers count) =

@@ -9,7 +9,7 @@ use lib.Dec.{eqb}
 abbrev pub lineFeed : ℕ
 lineFeed = code "\n"
 
--- A byte put in front of the first line; where there is no line, it begins one.
+-- The lines with a byte added at the start of the first one. If there is no line, the byte begins one.
 abbrev pub withByte : ℕ → List (List ℕ) → List (List ℕ)
 withByte b [] = (b ∷ []) ∷ []
 withByte b (l ∷ ls) = (b ∷ l) ∷ ls

@@ -11,27 +11,27 @@ use Rattle.input.specs.Digits.{areDigits, wordsOf}
 abbrev pub isCatalogLine : List ℕ → Bool
 isCatalogLine l = eqb (length l) 32 && areDigits l
 
--- A line of the map: 4 to 64 digits, in fours. An empty line is none.
+-- A line of the map: 4 to 64 digits, in fours. An empty line is not one.
 abbrev pub isMapLine : List ℕ → Bool
 isMapLine l = leb 4 (length l) && leb (length l) 64 && eqb (length l % 4) 0 && areDigits l
 
--- What a text gives: the words of the catalog and the registers of the map; or a refusal with its number and its place, a line
--- counted from 1.
+-- What a text gives: the words of the catalog and the registers of the map; or the number of a refusal and its place, a line counted
+-- from 1.
 pub data Input : Type 0 where
   refused : ℕ → ℕ → Input
   words : List ℕ → List ℕ → Input
 
--- A frame in front of the catalog.
+-- The input with a frame added before the catalog.
 abbrev pub withFrame : List ℕ → Input → Input
 withFrame frame (refused number place) = refused number place
 withFrame frame (words catalog map) = words (frame ++ catalog) map
 
--- Registers in front of the map.
+-- The input with registers added before the map.
 abbrev pub withRegisters : List ℕ → Input → Input
 withRegisters registers (refused number place) = refused number place
 withRegisters registers (words catalog map) = words catalog (registers ++ map)
 
--- The map's lines, the first of which has a place, with room for so many registers. 50: a bad line; 52: too many registers.
+-- The map's lines, numbered from `place`, with a capacity of registers. 50: a bad line; 52: too many registers.
 unfoldable pub mapFrom : ℕ → ℕ → List (List ℕ) → Input
 mapFrom place capacity [] = words [] []
 mapFrom place capacity (l ∷ ls) =
@@ -44,8 +44,8 @@ mapFrom place capacity (l ∷ ls) =
           ]
     ]
 
--- The catalog's lines, the first of which has a place, with room for so many frames; behind the first empty line, the map's. 50: a
--- bad line; 51: no empty line, told at the place behind the last line; 52: too many frames.
+-- The catalog's lines, numbered from `place`, up to the first empty line, and then the map's; with a capacity of `frames` and
+-- `registers`. 50: a bad line; 51: no empty line (its place is one after the last line); 52: too many frames.
 unfoldable pub catalogFrom : ℕ → ℕ → ℕ → List (List ℕ) → Input
 catalogFrom place frames registers [] = refused 51 place
 catalogFrom place frames registers (l ∷ ls) =
@@ -62,15 +62,15 @@ catalogFrom place frames registers (l ∷ ls) =
           ]
     ]
 
--- A text, with room for so many frames and registers. The first faulty line decides.
+-- A text, with a capacity of `frames` and `registers`. The first faulty line decides.
 abbrev pub parsed : List ℕ → ℕ → ℕ → Input
 parsed text frames registers = catalogFrom 1 frames registers (lines text)
 
--- A list afterwards: the words at its start, and the rest as it was.
+-- A list after the call: the words at its start, and the rest unchanged.
 abbrev pub stored : List ℕ → List ℕ → List ℕ
 stored ws old = ws ++ drop (length ws) old
 
--- The catalog's list and the map's afterwards. On a refusal each is as it was.
+-- The catalog's list and the map's list after the call. A refusal changes neither.
 abbrev pub storedCatalog : Input → List ℕ → List ℕ
 storedCatalog (refused number place) old = old
 storedCatalog (words catalog map) old = stored catalog old

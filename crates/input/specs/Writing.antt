@@ -1,4 +1,4 @@
--- A catalog and a register map written as a text. (No code writes such texts; they show that every catalog and map can be given.)
+-- A catalog and a register map written as a text. (No code writes such texts; they show that every catalog and map has one.)
 use mathlib.Core.Bool.{true, false}
 use mathlib.Core.List.{List, [], _∷_, _++_}
 use Prim.Native.Nat.{ℕ, zero, suc, _+_, _-_, _/_, _%_}
@@ -17,7 +17,7 @@ hexDigits [] = []
 hexDigits (w ∷ ws) =
     hexDigit (w / 4096) ∷ hexDigit (w / 256 % 16) ∷ hexDigit (w / 16 % 16) ∷ hexDigit (w % 16) ∷ hexDigits ws
 
--- So many lines of so many words each; the last may be shorter.
+-- The words as `count` lines of `width` words each; the last line may be shorter.
 unfoldable pub linesOfWords : ℕ → ℕ → List ℕ → List ℕ
 linesOfWords zero width ws = []
 linesOfWords (suc count) width ws = hexDigits (take width ws) ++ lineFeed ∷ linesOfWords count width (drop width ws)

@@ -5,13 +5,13 @@ ghost use lib.ListN.{length, getD};
 ghost use Rattle.input.specs.Digits.{digitValue, isDigit, digitOr0, areDigits, word};
 ghost use Rattle.input.specs.CodeTypes.{toSpecDigit};
 
-// The value of a hexadecimal digit, or none for any other byte.
+// The value of a hexadecimal digit; none for any other byte.
 pub enum Digit {
     Of(u16),
     None,
 }
 
-// The value of the digit that a byte is; other bytes have none.
+// The value of `byte` as a digit.
 pub fn digit_of(byte: u8) -> Digit
     ensures { λ r. ⌜ toSpecDigit r ≡ digitValue byte ⌝ }
 {
@@ -48,7 +48,7 @@ pub(crate) fn are_digits(bytes: &[u8]) -> bool
     true
 }
 
-// The value of a digit, and 0 for any other byte.
+// The value of a digit; 0 for any other byte.
 fn digit_or_0(byte: u8) -> u16
     ensures { λ r. ⌜ r ≡ digitOr0 byte ⌝ }
     ensures { λ r. ⌜ r < 16 ⌝ }
@@ -60,7 +60,7 @@ fn digit_or_0(byte: u8) -> u16
     }
 }
 
-// The word of the four digits from `at` on.
+// The word of the four digits from position `at` on.
 pub(crate) fn word_at(text: &[u8], at: usize) -> u16
     requires { ⌜ at + 4 ≤ length (now text) ⌝ }
     ensures { λ r. ⌜ r ≡ word (getD (now (text .entry)) at 0) (getD (now (text .entry)) (at + 1) 0) (getD (now (text .entry)) (at + 2) 0) (getD (now (text .entry)) (at + 3) 0) ⌝ }

@@ -13,18 +13,18 @@ ghost use mathlib.Core.Path.{_≡_};
 ghost use Rattle.input.specs.Parsing.{storedCatalog, storedMap};
 ghost use Rattle.input.specs.CodeTypes.{toSpecParsed, result, parsedInto, CountsFit};
 
-// The words of a frame.
+// The words of a frame: the same number as `WORDS` of `catalog_frames`, on which this crate does not depend.
 pub const FRAME_WORDS: usize = 8;
 
-// What `parse` answers: how many frames and registers there are, or the number of a refusal and its place, a line
-// counted from 1.
+// The result of `parse`: the number of frames and of registers, or the number of a refusal and its place, a line counted
+// from 1.
 pub enum Parsed {
     Of { frames: usize, registers: usize },
     Refused { number: u16, place: usize },
 }
 
-// Puts the catalog and the map that `text` holds at the start of the two lists, whose lengths are the room for
-// frames and registers. All lines are tried before anything is stored, so a refusal changes neither list.
+// Stores the catalog and the map of `text` at the start of the two lists; the lengths of the lists are the capacity for
+// frames and registers. All lines are checked before anything is stored, so a refusal changes neither list.
 pub fn parse(text: &[u8], catalog: &mut [u16], map: &mut [u16]) -> Parsed
     ensures { λ r. ⌜ toSpecParsed r ≡ result (parsedInto (now (text .entry)) (now (catalog .entry)) (now (map .entry))) ⌝ }
     ensures { λ _. ⌜ now (catalog .exit) ≡ storedCatalog (parsedInto (now (text .entry)) (now (catalog .entry)) (now (map .entry))) (now (catalog .entry)) ⌝ }

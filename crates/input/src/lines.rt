@@ -17,13 +17,13 @@ const WORD_DIGITS: usize = 4;
 
 const MAP_DIGITS: usize = 64;
 
-// What the catalog's lines hold: a refusal; or so many frames, and where the map's lines begin.
+// What the catalog's lines hold: a refusal; or `count` frames, with the map's first line at position `next`.
 pub(crate) enum CatalogLines {
     Refused { number: u16, place: usize },
     Frames { count: usize, next: usize },
 }
 
-// What the map's lines hold: a refusal, or so many registers.
+// What the map's lines hold: a refusal, or the number of registers.
 pub(crate) enum MapLines {
     Refused { number: u16, place: usize },
     Registers(usize),
@@ -45,7 +45,7 @@ fn line_end(text: &[u8], at: usize) -> usize
     i
 }
 
-// Is it a line of the catalog?
+// Is this a good line of the catalog?
 fn is_catalog_line(line: &[u8]) -> bool
     ensures { λ r. ⌜ r ≡ isCatalogLine (now (line .entry)) ⌝ }
 {
@@ -55,7 +55,7 @@ fn is_catalog_line(line: &[u8]) -> bool
     are_digits(line)
 }
 
-// Is it a line of the map?
+// Is this a good line of the map?
 fn is_map_line(line: &[u8]) -> bool
     ensures { λ r. ⌜ r ≡ isMapLine (now (line .entry)) ⌝ }
 {
@@ -71,8 +71,8 @@ fn is_map_line(line: &[u8]) -> bool
     are_digits(line)
 }
 
-// Tries the lines up to the first empty one, with room for so many frames. Each line so far was a frame, so the count
-// is the number of the line before.
+// Checks the lines up to the first empty one; `capacity` is the most frames. Each line so far was a frame, so `count` is
+// also the number of the line before.
 pub(crate) fn survey_catalog(text: &[u8], capacity: usize) -> CatalogLines
     ensures { λ r. ⌜ CatalogFound (now (text .entry)) capacity r ⌝ }
 {
@@ -107,8 +107,8 @@ pub(crate) fn survey_catalog(text: &[u8], capacity: usize) -> CatalogLines
     }
 }
 
-// Tries the lines from `start` on, the first of which is line `first`, with room for so many registers.
-// Every line takes a byte at least, so that its number is at most one more than its position, and cannot overflow.
+// Checks the lines from position `start` on, numbered from `first`; `capacity` is the most registers.
+// Every line takes at least one byte, so its number is at most its position plus one and cannot overflow.
 pub(crate) fn survey_map(text: &[u8], start: usize, first: usize, capacity: usize) -> MapLines
     requires { ⌜ first ≤ start + 1 ⌝ }
     ensures { λ r. ⌜ MapFound (now (text .entry)) start first capacity r ⌝ }
@@ -138,7 +138,7 @@ pub(crate) fn survey_map(text: &[u8], start: usize, first: usize, capacity: usiz
     MapLines::Registers(count)
 }
 
-// Stores so many words, whose digits begin at `start`, at the start of `out`. Line ends stand only between words.
+// Stores `count` words, whose digits begin at position `start`, at the start of `out`. Line ends are only between words.
 pub(crate) fn store_words(text: &[u8], start: usize, count: usize, out: &mut [u16])
     requires { ⌜ length (wordsFrom count (drop start (now text))) ≡ count ⌝ }
     requires { ⌜ count ≤ length (now out) ⌝ }

@@ -8,10 +8,10 @@ use lib.ListN.{length, take}
 use lib.Seq.{take-at, length-take-le}
 use Rattle.report.specs.Program.{output}
 use Rattle.report.proofs.EnoughInput.{enough}
-use Rattle.readplant.specs.Answering.{Answers}
+use Rattle.readplant.specs.Printing.{Prints}
 
 pub whole-input : (buffer : List ℕ) (count : ℕ) (text : List ℕ) → length buffer ≡ 74818 → count ≤ length buffer
-    → text ≡ output (take count buffer) → Answers buffer count text
+    → text ≡ output (take count buffer) → Prints buffer count text
 whole-input buffer count text full h e rest ended = go (decLe (length buffer) count)
   where
     go : Dec (length buffer ≤ count) → text ≡ output (take count buffer ++ rest)

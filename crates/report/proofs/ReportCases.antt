@@ -20,12 +20,13 @@ pub record Made (a : Answer) (before after : List ℕ) (report : Report) : Type 
   pub reports : report ≡ toCodeReport a
   pub holds : after ≡ storedText a before
   pub fits : lengthOf report ≤ length after
+  pub keeps : length after ≡ length before
 
 pub refusal-made : {before after : List ℕ} {end : ℕ} (a : Answer) (number place headers : ℕ) → a ≡ refused number place headers
     → Put before after 0 (refusalText number place) end → end ≤ length after → Made a before after (Report.Refusal end)
 refusal-made {before} {after} {end} a number place headers e p h =
     let n : end ≡ length (refusalText number place) = omega (arith, p .ends) in
-    rw e (record { reports = ap Report.Refusal n; holds = put-start p (omega (arith, put-length p)); fits = h })
+    rw e (record { reports = ap Report.Refusal n; holds = put-start p (omega (arith, put-length p)); fits = h; keeps = put-length p })
 
 pub listing-made : {before after list : List ℕ} {end : ℕ} (a : Answer) (points headers : ℕ) (r : Records a points headers) (old : List ℕ)
     → list ≡ stored a old
@@ -37,4 +38,4 @@ listing-made {before} {after} {list} {end} a points headers r old s p h =
     let l : list ≡ entries rs ++ rest = s ∙ ap (λ (x : Answer). stored x old) (r .is) in
     let q : Put before after 0 (listingText rs headers) end = put-same (rw (l, r .count) (listing-text rs rest headers)) p in
     let n : end ≡ length (listingText rs headers) = omega (arith, q .ends) in
-    rw (r .is) (record { reports = ap Report.Listing n; holds = put-start q (omega (arith, put-length q)); fits = h })
+    rw (r .is) (record { reports = ap Report.Listing n; holds = put-start q (omega (arith, put-length q)); fits = h; keeps = put-length p })

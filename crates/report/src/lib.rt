@@ -18,36 +18,41 @@ ghost use Rattle.input.specs.Parsing.{storedCatalog, storedMap};
 ghost use Rattle.report.specs.Program.{parsedInput, found, output, listCapacity, storedText, storedList};
 ghost use Rattle.report.specs.CodeTypes.{toCodeReport, writtenBy, lengthOf};
 
-// As many bytes of an input as can matter (proofs/EnoughInput.antt): 33 for each of 1,024 frames, 5 for each of 8,192
-// registers, the empty line, and 65 of the line behind these, which make it a bad one.
+// Only the first 74,818 bytes of an input decide the output (proofs/EnoughInput.antt): 33 for each of 1,024 frames, 5 for
+// each of 8,192 registers, the empty line, and 65 of the next line, which is a bad line if it is that long.
 pub const INPUT_BYTES: usize = 74818;
 
-// The words of the largest catalog: 1,024 frames.
-pub const CATALOG_WORDS: usize = 8192;
+// The most frames of a catalog, and the words of that many frames.
+const FRAMES: usize = 1024;
 
-// The registers of the largest map.
-pub const REGISTERS: usize = 8192;
+pub const CATALOG_WORDS: usize = FRAMES * FRAME_WORDS;
 
-// The most records of a listing, and the entries of a list for them.
+// The most registers of a map.
+pub const MAP_REGISTERS: usize = 8192;
+
+// The most records of a listing, and the entries of an output list for that many records.
 const RECORDS: usize = 400;
 
 pub const ENTRIES: usize = RECORDS * WIDTH;
 
-// Room for every text: 64 bytes for the first line, and 20 digits and a space or LF for each entry.
-pub const TEXT_BYTES: usize = 84064;
+// The longest text: 64 bytes for the first line, and for each entry 20 digits and a space or LF.
+pub const TEXT_BYTES: usize = 64 + ENTRIES * 21;
 
-// How long the text is that was made: a listing, or what follows `refused ` in the line of a refusal.
+// The longest output: `refused ` and a text.
+pub const OUTPUT_BYTES: usize = 8 + TEXT_BYTES;
+
+// The length of the text that `read_plant` made: of a listing, or of what follows `refused ` in the line of a refusal.
 pub enum Report {
     Listing(usize),
     Refusal(usize),
 }
 
-// Reads a catalog and a map from `input`, lists the map, and makes the text of it in `out`. The arrays are working
-// memory: their contents at the call do not matter.
+// Reads a catalog and a map from `input`, lists the map, and puts the text of the listing or of the refusal into `out`.
+// The arrays are working memory: their contents at the call do not matter.
 pub fn read_plant(
     input: &[u8],
     catalog: &mut [u16; CATALOG_WORDS],
-    map: &mut [u16; REGISTERS],
+    map: &mut [u16; MAP_REGISTERS],
     list: &mut [u64; ENTRIES],
     out: &mut [u8; TEXT_BYTES],
 ) -> Report
@@ -58,6 +63,7 @@ pub fn read_plant(
     ensures { λ _. ⌜ now (catalog .exit) ≡ storedCatalog (parsedInput (now (input .entry))) (now (catalog .entry)) ⌝ }
     ensures { λ _. ⌜ now (map .exit) ≡ storedMap (parsedInput (now (input .entry))) (now (map .entry)) ⌝ }
     ensures { λ _. ⌜ now (list .exit) ≡ storedList (parsedInput (now (input .entry))) (now (list .entry)) ⌝ }
+    ensures { λ _. ⌜ length (now (out .exit)) ≡ length (now (out .entry)) ⌝ }
 {
     let parsed = parse(input, catalog, map);
     match parsed {
@@ -80,6 +86,7 @@ fn report_listing(
     ensures { λ r. ⌜ lengthOf r ≤ length (now (out .exit)) ⌝ }
     ensures { λ _. ⌜ now (out .exit) ≡ storedText (Listings.listing (now (catalog .entry)) (now (map .entry)) listCapacity) (now (out .entry)) ⌝ }
     ensures { λ _. ⌜ now (list .exit) ≡ Listings.stored (Listings.listing (now (catalog .entry)) (now (map .entry)) listCapacity) (now (list .entry)) ⌝ }
+    ensures { λ _. ⌜ length (now (out .exit)) ≡ length (now (out .entry)) ⌝ }
 {
     let listing = listing::list(catalog, map, list);
     match listing {

@@ -1,4 +1,4 @@
--- `gives` is safe: the text that `read_plant` tells the length of lies in its buffer.
+-- `gives` is safe: the length that `read_plant` returns is within the buffer.
 use mathlib.Core.Path.{sym}
 use native.Mathlib.Omega.{arith}
 use borrow.Author.Needs.{needs}

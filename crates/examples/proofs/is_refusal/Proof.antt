@@ -1,4 +1,4 @@
--- `is_refusal` is safe: eight bytes are compared where there are so many.
+-- `is_refusal` is safe: the first eight bytes are compared only if there are eight.
 use mathlib.Core.Path.{sym}
 use borrow.Author.Needs.{needs}
 use lib.Seq.{length-take-le}

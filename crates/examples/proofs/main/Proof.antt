@@ -1,4 +1,4 @@
--- `main` ends: a pair of arguments fewer is left after each turn.
+-- `main` terminates: each turn leaves one pair of arguments fewer.
 use Prim.Native.Nat.{_-_, _*_, _<_, _^_}
 use borrow.Author.Needs.{needs}
 use Rattle.examples.proofs.main.Statement.{statement}

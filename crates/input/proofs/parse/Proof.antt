@@ -1,4 +1,4 @@
--- `parse`: what was found in the lines is what the text gives, and what is stored is what was found.
+-- `parse`: the surveys find what the text gives, and `store_words` stores it.
 use mathlib.Core.Path.{ap, _∙_}
 use Prim.Native.Nat.{_/_}
 use native.Mathlib.Omega.{arith}

@@ -38,7 +38,10 @@ returns c =
         made .reports,
         (
           made .fits,
-          (made .holds, (says .1 .0, (says .1 .1 .0, sym (ap (λ (i : Parsing.Input). storedList i (a .list .now)) e)))),
+          (
+            made .holds,
+            (says .1 .0, (says .1 .1 .0, (sym (ap (λ (i : Parsing.Input). storedList i (a .list .now)) e), made .keeps))),
+          ),
         ),
       ),
     )
@@ -61,11 +64,11 @@ returns-2 c =
     let reports = r .0 ∙ ap toCodeReport same in
     let holds = r .1 .1 .0 ∙ ap (λ (b : Answer). storedText b (a .out .now)) same in
     let list =
-    r .1 .1 .1
+    r .1 .1 .1 .0
     ∙ ap (λ (b : Answer). stored b (a .list .now)) same
     ∙ list-stored (a .input .now) (g .0 .0) (g .0 .1 .0) w (a .list .now) in (
       written (found (a .input .now)) (a .out .now) _ _ reports holds,
-      (reports, (r .1 .0, (holds, (says .1 .0, (says .1 .1 .0, list))))),
+      (reports, (r .1 .0, (holds, (says .1 .0, (says .1 .1 .0, (list, r .1 .1 .1 .1)))))),
     )
 
 pub read-plant-spec : {M : Type 1} → statement M

@@ -32,7 +32,7 @@ returns c =
     let reports = ap toSpecListing (sym (g .1)) ∙ (rw capacity at (c .before .before .before .before .before .list .ensures .0)) in
     let stores = rw capacity at (c .before .before .before .before .before .list .ensures .1) in
     let made = refusal-made found (g .0 .0) (g .0 .1 .0) (g .0 .1 .1 .0) (result-refused found (g .0 .0) (g .0 .1 .0) (g .0 .1 .1 .0) reports) (c .put-refusal .ensures .0) (c .put-refusal .ensures .1) in
-    (made .reports, (made .fits, (made .holds, stores)))
+    (made .reports, (made .fits, (made .holds, (stores, made .keeps))))
 
 returns-2 : tie.Need-returns-2
 returns-2 c =
@@ -44,7 +44,7 @@ returns-2 c =
     let stores = rw capacity at (c .before .before .before .before .before .before .before .list .ensures .1) in
     let r = result-listed found (g .0 .0) (g .0 .1 .0) reports in
     let made = listing-made found (g .0 .0) (g .0 .1 .0) r (a .list .now) stores (c .put-listing .ensures .0) (c .put-listing .ensures .1) in
-    (made .reports, (made .fits, (made .holds, stores)))
+    (made .reports, (made .fits, (made .holds, (stores, made .keeps))))
 
 pub report-listing-spec : {M : Type 1} → statement M
 report-listing-spec =

@@ -1,4 +1,4 @@
--- `are_digits`: what is left of the bytes decides.
+-- `are_digits`: the bytes so far are digits, so the rest decides.
 use mathlib.Core.Path.{_≡_, sym, _∙_}
 use Prim.Native.Nat.{_-_}
 use borrow.Author.Tests.{not-true, not-false}

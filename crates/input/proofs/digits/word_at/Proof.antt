@@ -1,4 +1,4 @@
--- `word_at` meets its contract: four digits, the first the highest.
+-- `word_at`: four digits, the first the highest.
 use Prim.Native.Nat.{_+_, _*_}
 use borrow.Author.Needs.{needs}
 use Rattle.input.proofs.digits.word_at.Statement.{statement}

@@ -1,4 +1,4 @@
--- `line_end`: the end of what is left of the line is the end of the line.
+-- `line_end`: the rest of the line ends where the line ends.
 use mathlib.Core.Path.{_≡_}
 use Prim.Native.Nat.{_+_, _-_, _≤_}
 use native.Mathlib.Omega.{arith}

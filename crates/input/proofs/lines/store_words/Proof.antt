@@ -1,4 +1,4 @@
--- `store_words`: the words left, stored from here on, make the list that all of them make.
+-- `store_words`: storing the words that are left gives the list that storing all of them gives.
 use Prim.Native.Nat.{_-_}
 use native.Mathlib.Omega.{arith}
 use borrow.Author.Needs.{needs}

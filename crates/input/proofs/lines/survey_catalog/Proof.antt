@@ -1,4 +1,4 @@
--- `survey_catalog`: the frames so far and the lines left are the text.
+-- `survey_catalog`: the text gives the frames so far and what the lines left give.
 use mathlib.Core.Path.{_≡_, refl, sym, _∙_}
 use mathlib.Core.List.{[]}
 use Prim.Native.Nat.{_+_, _-_, _*_, _≤_}

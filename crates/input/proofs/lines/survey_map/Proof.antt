@@ -1,4 +1,4 @@
--- `survey_map`: the registers so far and the lines left are all of them.
+-- `survey_map`: the lines give the registers so far and what the lines left give.
 use mathlib.Core.Path.{_≡_, refl, sym, _∙_}
 use mathlib.Core.List.{[]}
 use Prim.Native.Nat.{_+_, _-_, _≤_}
