@@ -12,7 +12,7 @@ use Rattle.display.proofs.ScaledIntegers.{swap, cancel, same-integer, i
 -- The quantity that an amount was made of is accepted.
 abbrev pub Accepted : Amount → Type 0
 Accepted (amount value scale) = Unit {0}
-Accepted (refused n) = ⊥
+Accepted (refused n place) = ⊥
 
 is-equal : (b : Bool) → equalIf b ≡ equal → b ≡ true
 is-equal true e = refl
@@ -39,7 +39,7 @@ module _ (v s w t : ℤ) where
 
 pub reflexive : (a : Amount) → Accepted a → equality a a ≡ equal
 reflexive (amount v s) h = means-equal v s v s refl
-reflexive (refused n) h = absurd h
+reflexive (refused n place) h = absurd h
 
 either-way : (x y : ℤ) → isSameInteger x y ≡ isSameInteger y x
 either-way (pos a) (pos b) = same-test a b b a sym sym
@@ -54,8 +54,8 @@ symmetric (amount v s) (amount w t) h k =
     let p = fractionOf v s in
     let q = fractionOf w t in
     ap equalIf (either-way (p .numerator *ℤ pos (q .denominator)) (q .numerator *ℤ pos (p .denominator)))
-symmetric (amount v s) (refused n) h k = absurd k
-symmetric (refused n) b h k = absurd h
+symmetric (amount v s) (refused n place) h k = absurd k
+symmetric (refused n place) b h k = absurd h
 
 -- With a common denominator in between.
 through : (a b c : Fraction) → 0 < a .denominator → 0 < b .denominator → 0 < c .denominator → SameNumber a b → SameNumber b c
@@ -77,6 +77,6 @@ transitive (amount v s) (amount w t) (amount x u) p q =
     means-equal v s x u
     (through (fractionOf v s) (fractionOf w t) (fractionOf x u) (positive (places s)) (positive (places t)) (positive (places u))
     (equal-means v s w t p) (equal-means w t x u q))
-transitive (amount v s) (amount w t) (refused n) p q = cc
-transitive (amount v s) (refused n) c p q = cc
-transitive (refused n) b c p q = cc
+transitive (amount v s) (amount w t) (refused n place) p q = cc
+transitive (amount v s) (refused n place) c p q = cc
+transitive (refused n place) b c p q = cc

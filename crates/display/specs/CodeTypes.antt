@@ -24,20 +24,20 @@ quantityAmount q = Amounts.amountOf (q .«type_code») (q .raw) (scaleFactor (q 
 abbrev pub decimalInto : ℕ → ℕ → ℕ → List ℕ → Decimals.Decimal
 decimalInto code raw scale buffer = Decimals.decimalOf code raw (scaleFactor scale) (length buffer)
 
--- What it answers: the length of the text, or a refusal.
+-- The result of `decimal`: the length of the text, or a refusal by its number and place.
 pub data Length : Type 0 where
   bytes : ℕ → Length
-  refused : ℕ → Length
+  refused : (number place : ℕ) → Length
 
 -- The length of what is asked for.
 abbrev pub lengthOf : Decimals.Decimal → Length
 lengthOf (Decimals.text t) = bytes (length t)
-lengthOf (Decimals.Decimal.refused n) = Length.refused n
+lengthOf (Decimals.Decimal.refused n place) = Length.refused n place
 
--- The answer of `decimal`.
+-- The code's result of `decimal`. A refusal is at place 0.
 abbrev pub toSpecDecimal : DecimalText → Length
 toSpecDecimal (DecimalText.Length n) = bytes n
-toSpecDecimal (DecimalText.Refused n) = Length.refused n
+toSpecDecimal (DecimalText.Refused n) = Length.refused n 0
 
 -- The length that is answered is no more than the buffer's, so that a caller may cut the text out of the buffer. (What the buffer
 -- holds is said by `stored`.)
@@ -53,8 +53,8 @@ toCodeDigits n =
       count = Decimals.digitCount n;
     }
 
--- The answer of `equal_quantities`.
+-- The result of `equal_quantities`. A refusal is at place 0.
 abbrev pub toSpecEquality : declared.Equality → Equality.Equality
 toSpecEquality declared.Equality.Equal = Equality.equal
 toSpecEquality declared.Equality.Different = Equality.different
-toSpecEquality (declared.Equality.Refused n) = Equality.Equality.refused n
+toSpecEquality (declared.Equality.Refused n) = Equality.Equality.refused n 0

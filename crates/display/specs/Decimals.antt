@@ -59,20 +59,20 @@ unsignedText n places = digitsOf (n / 10 ^ places) ++ decimalPlaces places n
 abbrev pub decimalText : ℤ → ℤ → List ℕ
 decimalText value scale = sign (not (nonNeg value)) ++ unsignedText (natAbs value * 10 ^ zeros scale) (places scale)
 
--- What a buffer gets: a text, or nothing and a refusal.
+-- What a buffer gets: a text; or nothing, and a refusal by its number and place.
 pub data Decimal : Type 0 where
   text : List ℕ → Decimal
-  refused : ℕ → Decimal
+  refused : (number place : ℕ) → Decimal
 
--- 43–45 as for the amount; 46: the buffer has under 32 bytes.
+-- 43–45 as for the amount; 46: the buffer has under 32 bytes (place 0).
 unfoldable pub decimalOf : ℕ → ℕ → ℤ → ℕ → Decimal
 decimalOf code raw scale bufferLength =
     elim (amountOf code raw scale) [
-      | Amount.refused n ↦ Decimal.refused n
-      | amount value s ↦ elim (ltb bufferLength 32) [ true ↦ Decimal.refused 46 | false ↦ text (decimalText value s) ]
+      | Amount.refused n place ↦ Decimal.refused n place
+      | amount value s ↦ elim (ltb bufferLength 32) [ true ↦ Decimal.refused 46 0 | false ↦ text (decimalText value s) ]
     ]
 
 -- The buffer afterwards: the text at its start and the later bytes as they were; on a refusal all of it as it was.
 abbrev pub stored : Decimal → List ℕ → List ℕ
 stored (text t) buffer = t ++ drop (length t) buffer
-stored (Decimal.refused n) buffer = buffer
+stored (Decimal.refused n place) buffer = buffer

@@ -16,10 +16,10 @@ isSameInteger (negsuc a) (negsuc b) = eqb a b
 abbrev pub isSameFraction : Fraction → Fraction → Bool
 isSameFraction p q = isSameInteger (p .numerator *ℤ pos (q .denominator)) (q .numerator *ℤ pos (p .denominator))
 
--- The answers: yes, no, or a refusal.
+-- The results: yes, no, or a refusal by its number and place.
 pub data Equality : Type 0 where
   equal different : Equality
-  refused : ℕ → Equality
+  refused : (number place : ℕ) → Equality
 
 -- Yes where a test is true.
 abbrev pub equalIf : Bool → Equality
@@ -28,6 +28,6 @@ equalIf false = different
 
 -- The answer for two amounts: the first one's refusal, then the second's, else whether value × 10 ^ scale is equal.
 unfoldable pub equality : Amount → Amount → Equality
-equality (Amount.refused n) b = Equality.refused n
-equality (amount value scale) (Amount.refused n) = Equality.refused n
+equality (Amount.refused n place) b = Equality.refused n place
+equality (amount value scale) (Amount.refused n place) = Equality.refused n place
 equality (amount v s) (amount w t) = equalIf (isSameFraction (fractionOf v s) (fractionOf w t))

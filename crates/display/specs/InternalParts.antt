@@ -27,7 +27,7 @@ toCodeParts value scale =
 -- What the code reads a quantity as: its amount or its refusal.
 abbrev pub toCodeAccepted : Amounts.Amount → Accepted
 toCodeAccepted (Amounts.amount value scale) = Accepted.Of (toCodeParts value scale)
-toCodeAccepted (Amounts.refused n) = Accepted.Refused n
+toCodeAccepted (Amounts.refused n place) = Accepted.Refused n
 
 -- At most ten zeros or ten places, and not both.
 pub record TenAtMost (zeros places : ℕ) : Type 0 where

@@ -13,7 +13,7 @@ pub use event_fields::EventBits;
 pub use event_fields::event_bits;
 pub use strings::text;
 
-// The length of the text that was written. Refused: 43 to 46.
+// The length of the text that was written. Refused: 43 to 46, at place 0.
 pub enum DecimalText {
     Length(usize),
     Refused { number: u16 },
@@ -35,7 +35,7 @@ pub struct Quantity {
     pub scale: u16,
 }
 
-// Whether two quantities are the same amount. Refused: 43 to 45.
+// Whether two quantities are the same amount. Refused: 43 to 45, at place 0.
 pub enum Equality {
     Equal,
     Different,

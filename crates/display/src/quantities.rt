@@ -16,7 +16,7 @@ pub(crate) struct ScaledNumber {
     pub(crate) places: usize,
 }
 
-// What a quantity is, or its refusal: 43 to 45.
+// What a quantity is, or its refusal: 43 to 45, at place 0.
 pub(crate) enum Accepted {
     Of(ScaledNumber),
     Refused { number: u16 },

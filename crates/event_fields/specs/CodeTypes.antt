@@ -2,7 +2,7 @@
 use Rattle.event_fields.specs.Events as Events
 use Rattle.event_fields.specs.declared.EventBits.{EventBits}
 
--- The answer of `event_bits`.
+-- The result of `event_bits`. A refusal is at place 0.
 abbrev pub toSpecEventBits : EventBits → Events.EventBits
 toSpecEventBits (EventBits.Of count lowest) = Events.bits count lowest
-toSpecEventBits (EventBits.Refused n) = Events.refused n
+toSpecEventBits (EventBits.Refused n) = Events.refused n 0

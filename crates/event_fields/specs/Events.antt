@@ -29,18 +29,18 @@ firstOr other (x ∷ xs) = x
 abbrev pub isBitfield : ℕ → Bool
 isBitfield code = eqb code 5 || eqb code 13
 
--- The answers: how many bits are set and the position of the lowest, 64 where there is none; or a refusal.
+-- The results: the number of bits that are set and the position of the lowest, 64 if there is none; or a refusal, by number and place.
 pub data EventBits : Type 0 where
   bits : (count lowest : ℕ) → EventBits
-  refused : ℕ → EventBits
+  refused : (number place : ℕ) → EventBits
 
--- 41: the type is not 5 or 13. 42: unimplemented, out of range or too wide.
+-- 41: the type is not 5 or 13. 42: unimplemented, out of range or too wide. Both have place 0.
 unfoldable pub eventBits : ℕ → ℕ → EventBits
 eventBits code raw =
     elim (isBitfield code) [
-      | false ↦ refused 41
+      | false ↦ refused 41 0
       | true ↦ elim (isValue (classified code raw)) [
         | true ↦ bits (length (setPositions raw)) (firstOr 64 (setPositions raw))
-        | false ↦ refused 42
+        | false ↦ refused 42 0
       ]
     ]

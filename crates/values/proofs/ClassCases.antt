@@ -30,7 +30,7 @@ module _ (code raw : ℕ) where
 
 -- What `decoded` is by the code's row.
 module _ (code : ℕ) (registers : List ℕ) where
-  pub beyond : 18 < code → decoded code registers ≡ refused 40
+  pub beyond : 18 < code → decoded code registers ≡ refused 40 0
   unfolding decodable decoded
   beyond h = simp (decoded, decodable, lt-leb _ _ h, and-false)
 
@@ -42,7 +42,7 @@ module _ (code : ℕ) (registers : List ℕ) where
       go true = e
       go false = refl
 
-  pub no-row : rowOf code ≡ none → decoded code registers ≡ refused 40
+  pub no-row : rowOf code ≡ none → decoded code registers ≡ refused 40 0
   unfolding decoded
   no-row e = simp (decoded, no-row-decodes e)
 

@@ -37,16 +37,16 @@ answered row raw = by-class (classOf row raw) refl (row .kind) refl
     by-class Class.unimplemented c k q = asUnimplemented c
     by-class Class.outOfRange c k q = asOutOfRange c
 
--- The answer for a code and registers: by the code's row, or refusal 40.
+-- The answer for a code and registers: by the code's row, or refusal 40 at place 0.
 pub data Cases (code : ℕ) (registers : List ℕ) : Decoded → Type 0 where
   byRow : {d : Decoded} (row : TypeRow) → decodable code ≡ some row → Answered row (patternIn row registers) d → Cases code registers d
-  noRow : decodable code ≡ none → Cases code registers (refused 40)
+  noRow : decodable code ≡ none → Cases code registers (refused 40 0)
 
 pub cases : (code : ℕ) (registers : List ℕ) → Cases code registers (decoded code registers)
 unfolding decoded
 cases code registers = go (decodable code) refl
   where
     go : (o : Option TypeRow) → decodable code ≡ o
-        → Cases code registers (elim o [ none ↦ refused 40 | some row ↦ valueOf row (patternIn row registers) ])
+        → Cases code registers (elim o [ none ↦ refused 40 0 | some row ↦ valueOf row (patternIn row registers) ])
     go none e = noRow e
     go (some row) e = byRow row e (answered row (patternIn row registers))

@@ -10,14 +10,14 @@ use Rattle.values.specs.declared.Class.{Class}
 use Rattle.values.specs.declared.Classified.{Classified}
 use Rattle.values.specs.declared.UnscaledValue.{UnscaledValue}
 
--- The answer of `decode`: a code that is not 1–18 is refusal 40.
+-- The result of `decode`. `NotDecodable` is refusal 40 at place 0: the code is not 1–18.
 abbrev pub toSpecValue : Value → Decoding.Decoded
 toSpecValue (Value.Signed z) = Decoding.signed z
 toSpecValue (Value.Unsigned n) = Decoding.unsigned n
 toSpecValue (Value.Float x) = Decoding.float x
 toSpecValue Value.Unimplemented = Decoding.unimplemented
 toSpecValue Value.OutOfRange = Decoding.outOfRange
-toSpecValue Value.NotDecodable = Decoding.refused 40
+toSpecValue Value.NotDecodable = Decoding.refused 40 0
 
 -- The class in an answer of `classify`.
 abbrev pub toSpecClass : Class → Classes.Class

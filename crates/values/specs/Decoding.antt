@@ -11,14 +11,14 @@ use Rattle.registers.specs.Registers.{join}
 use Rattle.point_types.specs.Rows.{TypeRow, Kind, rowOf}
 use Rattle.values.specs.Classes.{Class, width, twosComplement, classOf}
 
--- The answers, with their data; a refusal by its number.
+-- The results with their data; a refusal by its number and place (document 01: place 0 where none is named).
 pub data Decoded : Type 0 where
   signed : ℤ → Decoded
   unsigned : ℕ → Decoded
   float : Float → Decoded
   unimplemented : Decoded
   outOfRange : Decoded
-  refused : ℕ → Decoded
+  refused : (number place : ℕ) → Decoded
 
 -- The number of a pattern that is a value, as its type reads it.
 unfoldable pub numberOf : TypeRow → ℕ → Decoded
@@ -49,4 +49,4 @@ decodable code = elim (leb 1 code && leb code 18) [ true ↦ rowOf code | false 
 -- One value of four registers, the first ones used. 40: the code is not 1–18.
 unfoldable pub decoded : ℕ → List ℕ → Decoded
 decoded code registers =
-    elim (decodable code) [ none ↦ refused 40 | some row ↦ valueOf row (patternIn row registers) ]
+    elim (decodable code) [ none ↦ refused 40 0 | some row ↦ valueOf row (patternIn row registers) ]

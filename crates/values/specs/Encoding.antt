@@ -21,7 +21,7 @@ rawNumber row (unsigned n) = some n
 rawNumber row (float x) = some (toBits binary32 x)
 rawNumber row unimplemented = none
 rawNumber row outOfRange = none
-rawNumber row (refused n) = none
+rawNumber row (refused n place) = none
 
 -- The registers of a decoded number of a type, the highest first.
 unfoldable pub encoded : TypeRow → Decoded → Option (List ℕ)

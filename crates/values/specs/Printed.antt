@@ -45,4 +45,4 @@ Within r (unsigned n) = (r .least ≤ℤ pos n) × (pos n ≤ℤ r .greatest)
 Within r (float x) = ⊥
 Within r unimplemented = Unit {0}
 Within r outOfRange = Unit {0}
-Within r (refused n) = ⊥
+Within r (refused n place) = ⊥

@@ -37,8 +37,8 @@ pub enum Classified {
     UnknownType,
 }
 
-// What `decode` answers: a number, or why there is none. NotDecodable is refusal 40: the code is not 1–18.
-// string and ipv6addr are types, but may take more than the four registers.
+// The result of `decode`: a number, or why there is none. NotDecodable is refusal 40 at place 0: the code is
+// not 1–18. (string and ipv6addr are types, but may take more than four registers.)
 pub enum Value {
     Signed(i64),
     Unsigned(u64),

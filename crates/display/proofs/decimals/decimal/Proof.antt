@@ -48,7 +48,7 @@ returns-2 c =
     let o = c .before in
     let a = o .before .before .before .before .args in
     let r =
-    was-refused (amountOf (a .type-code) (a .raw) (scaleFactor (a .scale))) (o .accepted .given .0 .0)
+    was-refused (a .type-code) (a .raw) (scaleFactor (a .scale)) (o .accepted .given .0 .0)
     (sym (o .accepted .given .1) ∙ o .before .before .accept .ensures) in
     (simp (decimalOf, r), (simp (decimalOf, r), tt))
 
