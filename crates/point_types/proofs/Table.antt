@@ -3,7 +3,7 @@ use mathlib.Core.Path.{_≡_, refl, sym, ap, subst, _∙_}
 use mathlib.Core.Bool.{Bool, true, false, not, _&&_, _||_}
 use mathlib.Core.List.{List, [], _∷_}
 use mathlib.Core.Option.{none, some}
-use Prim.Native.Nat.{ℕ, zero, suc, _+_, _-_, _*_, _^_, _≤_, _<_}
+use Prim.Native.Nat.{ℕ, zero, suc, _+_, _-_, _≤_, _<_}
 use native.Mathlib.Nat.{add-zero, add-suc, suc-add}
 use native.Mathlib.Omega.{arith}
 use borrow.Author.Tests.{eqb-true, le-leb, eq-eqb, ne-eqb}
@@ -13,7 +13,7 @@ use lib.ListN.{length, getD}
 use lib.Ieee.Fits.{and-l, and-r}
 use Rattle.lists.specs.Tests.{every}
 use Rattle.lists.proofs.TestOutcomes.{impossible}
-use Rattle.point_types.specs.Rows.{TypeRow, Kind, signed, unsigned, float, Unimplemented, never, pattern, Range, whole, between, notNaN, rows, rowAmong, rowOf, Listed}
+use Rattle.point_types.specs.Rows.{TypeRow, Kind, signed, unsigned, float, Range, whole, between, notNaN, rows, rowAmong, rowOf, Listed}
 
 -- The row found is one of the list, with the code looked for.
 found-among : (test : TypeRow → Bool) (rs : List TypeRow) (c : ℕ) (r : TypeRow) → T (every test rs) → rowAmong rs c ≡ some r
@@ -168,17 +168,19 @@ module _ (r : TypeRow) (l : Listed r) where
       go unsigned q t = absurd t
       go float q t = absurd t
 
--- A signed type without a narrower range is unimplemented at its least pattern, and only a float's range is that of a float.
-abbrev pub edgeTest : Range → Kind → Unimplemented → ℕ → Bool
-edgeTest (between low high) k m width = true
-edgeTest whole signed never width = false
-edgeTest whole signed (pattern p) width = eqb p (2 ^ (width - 1))
-edgeTest whole unsigned m width = true
-edgeTest whole float m width = true
-edgeTest notNaN signed m width = false
-edgeTest notNaN unsigned m width = false
-edgeTest notNaN float m width = true
+-- Only a float's range is that of the floats.
+abbrev floatTest : Range → Kind → Bool
+floatTest whole k = true
+floatTest (between low high) k = true
+floatTest notNaN signed = false
+floatTest notNaN unsigned = false
+floatTest notNaN float = true
 
-pub edges : (r : TypeRow) → Listed r → T (edgeTest (r .range) (r .kind) (r .unimplemented) (16 * r .most))
+pub only-float : (r : TypeRow) → Listed r → r .range ≡ notNaN → r .kind ≡ float
 unfolding rows
-edges r l = found (λ x. edgeTest (x .range) (x .kind) (x .unimplemented) (16 * x .most)) tt (r .code) r l .1
+only-float r l e = go (r .kind) refl (rw e at (found (λ x. floatTest (x .range) (x .kind)) tt (r .code) r l .1))
+  where
+    go : (k : Kind) → r .kind ≡ k → T (floatTest notNaN k) → r .kind ≡ float
+    go signed q t = absurd t
+    go unsigned q t = absurd t
+    go float q t = q

@@ -3,7 +3,7 @@ use mathlib.Core.Path.{_≡_, refl, sym, ap, _∙_}
 use mathlib.Core.Bool.{false}
 use mathlib.Core.List.{List, [], _∷_}
 use Prim.Native.Nat.{ℕ, zero, suc, _+_, _*_, _/_, _%_, _^_, _≤_, _<_}
-use native.Mathlib.Nat.{pow-suc, mul-assoc, mul-comm, mul-add-div-right, mul-add-mod-self-right, mod-eq-of-lt, div-eq-of-lt, mul-le-mul-right, div-div-eq-div-mul, div-add-mod', div-one}
+use native.Mathlib.Nat.{pow-suc, mul-assoc, mul-comm, mul-add-div-right, mul-add-mod-self-right, mod-eq-of-lt, mod-lt, div-eq-of-lt, mul-le-mul-right, div-div-eq-div-mul, div-add-mod', div-one}
 use native.Mathlib.Omega.{arith}
 use borrow.Author.Tests.{leb-false}
 use lib.ListN.{length, getD}
@@ -43,6 +43,11 @@ pub split-length : (n raw : ℕ) → length (split n raw) ≡ n
 unfolding split
 split-length zero raw = refl
 split-length (suc n) raw = ap suc (split-length n raw)
+
+pub split-registers : (n raw : ℕ) → AreRegisters (split n raw)
+unfolding split
+split-registers zero raw = tt
+split-registers (suc n) raw = (mod-lt (raw / 65536 ^ n) (omega arith), split-registers n raw)
 
 -- The registers of a raw number are its low part.
 low-part : (n raw : ℕ) → raw / 65536 ^ n * 65536 ^ n + join (split n raw) ≡ raw
