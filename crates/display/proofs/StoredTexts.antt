@@ -1,18 +1,12 @@
--- Texts that are stored one behind another are stored as one.
+-- Consecutive texts that are stored one by one are stored as one text.
 use mathlib.Core.Path.{_≡_, refl, sym, ap, _∙_}
 use mathlib.Core.List.{List, [], _∷_, _++_}
-use Prim.Native.Nat.{ℕ, suc, _+_, _-_, _≤_}
-use native.Mathlib.Nat.{add-zero, add-suc, suc-add}
+use Prim.Native.Nat.{ℕ, _+_, _-_, _≤_}
 use native.Mathlib.Omega.{arith}
 use lib.ListN.{length, length-append, set, drop, replicate, length-replicate, replicate-append-replicate}
-use lib.Seq.{sets, length-sets, sets-eq, drop-at}
+use lib.Seq.{length-sets, sets-eq, drop-at}
+use Rattle.lists.proofs.StoreLaws.{sets-append}
 use Rattle.display.specs.InternalParts.{Put}
-
-sets-joined : (out : List ℕ) (i : ℕ) (xs ys : List ℕ) → sets (sets out i xs) (i + length xs) ys ≡ sets out i (xs ++ ys)
-sets-joined out i [] ys = ap (λ (k : ℕ). sets out k ys) (add-zero i)
-sets-joined out i (x ∷ xs) ys =
-    ap (λ (k : ℕ). sets (sets (set out i x) (suc i) xs) k ys) (add-suc i (length xs) ∙ sym (suc-add i (length xs)))
-    ∙ sets-joined (set out i x) (suc i) xs ys
 
 -- One byte.
 pub put-byte : (out : List ℕ) (position byte : ℕ) → Put out (set out position byte) position (byte ∷ []) (position + 1)
@@ -21,7 +15,7 @@ put-byte out position byte = record { stored = refl; ends = refl }
 pub put-both : {a b c : List ℕ} {i j k : ℕ} {xs ys : List ℕ} → Put a b i xs j → Put b c j ys k → Put a c i (xs ++ ys) k
 put-both {a} {b} {c} {i} {j} {k} {xs} {ys} p q =
     record {
-      stored = q .stored ∙ rw (p .stored, p .ends) (sets-joined a i xs ys);
+      stored = q .stored ∙ rw (p .stored, p .ends) (sym (sets-append a i xs ys));
       ends = omega (arith, p .ends, q .ends, length-append xs ys);
     }
 
