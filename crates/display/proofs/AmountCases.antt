@@ -1,4 +1,4 @@
--- The ways to an amount or its refusal, and what an amount that was accepted is bounded by.
+-- The cases of `amountOf`, and the bounds of an accepted amount.
 use mathlib.Core.Path.{_≡_, refl, ap, _∙_}
 use mathlib.Core.Bool.{Bool, true, false, not}
 use Prim.Native.Nat.{ℕ}
@@ -14,12 +14,12 @@ use Rattle.display.specs.declared.quantities.ScaledNumber.{ScaledNumber}
 use Rattle.display.specs.declared.quantities.Accepted.{Accepted}
 use Rattle.display.proofs.ScaleFactors.{ten-at-most}
 
--- If the code refuses the amount with n, it is refusal n at place 0.
+-- If the code refuses the amount with number n, the amount is refusal n at place 0.
 abbrev RefusedAt0 : ℕ → Amount → Type 0
 RefusedAt0 n a = Accepted.Refused n ≡ toCodeAccepted a → a ≡ refused n 0
 
 module _ (code raw : ℕ) (scale : ℤ) where
-  -- An amount has the value and the scale factor that it was made of.
+  -- An amount has the value and the scale factor of its quantity.
   pub record AmountOf (value s : ℤ) : Type 0 where
     pub is : unscaled code raw ≡ number value
     pub same-scale : scale ≡ s
@@ -48,7 +48,7 @@ module _ (code raw : ℕ) (scale : ℤ) where
       by-value noValue u q = impossible (cc)
       by-value notScalable u q = impossible (cc)
 
-  -- A quantity that the code refuses has that refusal, at place 0.
+  -- All refusals of a quantity have place 0.
   pub was-refused : (n : ℕ) → RefusedAt0 n (amountOf code raw scale)
   unfolding amountOf
   was-refused n = by-value (unscaled code raw)
@@ -91,7 +91,7 @@ parts-within code raw s parts e =
     let w = was-amount (amountOf code raw s) parts e in
     rw (w .form) (scale-within code raw s (w .value) (w .scale) (w .is))
 
--- Parts that agree one by one are the same.
+-- Parts with equal fields are equal.
 pub same-parts : (value scale : ℤ) (parts : ScaledNumber) → parts .negative ≡ not (nonNeg value) → parts .magnitude ≡ natAbs value
     → parts .zeros ≡ zeros scale → parts .places ≡ places scale → parts ≡ toCodeParts value scale
 same-parts value scale parts n m z p = rw (← n, ← m, ← z, ← p)

@@ -1,4 +1,5 @@
--- On quantities that are accepted, being the same amount is reflexive, symmetric and transitive; and it is what the integers say.
+-- On accepted quantities, equality of amounts is reflexive, symmetric and transitive; and it is equality of the cross-multiplied
+-- integers.
 use mathlib.Core.Path.{_≡_, refl, sym, ap, _∙_}
 use mathlib.Core.Bool.{Bool, true, false}
 use Prim.Native.Nat.{_<_}
@@ -9,7 +10,7 @@ use Rattle.display.proofs.PowersOfTen.{positive}
 use Rattle.display.proofs.Multiples.{same-test}
 use Rattle.display.proofs.ScaledIntegers.{swap, cancel, same-integer, integer-same}
 
--- The quantity that an amount was made of is accepted.
+-- The amount is no refusal.
 abbrev pub Accepted : Amount → Type 0
 Accepted (amount value scale) = Unit {0}
 Accepted (refused n place) = ⊥
@@ -18,7 +19,7 @@ is-equal : (b : Bool) → equalIf b ≡ equal → b ≡ true
 is-equal true e = refl
 is-equal false e = cc
 
--- value × 10 ^ scale is equal, cross-multiplied.
+-- Two fractions are the same number: their cross-multiplied integers are equal.
 abbrev pub SameNumber : Fraction → Fraction → Type 0
 SameNumber p q = p .numerator *ℤ pos (q .denominator) ≡ q .numerator *ℤ pos (p .denominator)
 
@@ -47,7 +48,7 @@ either-way (pos a) (negsuc b) = refl
 either-way (negsuc a) (pos b) = refl
 either-way (negsuc a) (negsuc b) = same-test a b b a sym sym
 
--- The answer is the same for the two quantities turned round.
+-- The result is the same with the two quantities exchanged.
 pub symmetric : (a b : Amount) → Accepted a → Accepted b → equality a b ≡ equality b a
 unfolding equality
 symmetric (amount v s) (amount w t) h k =
@@ -57,7 +58,7 @@ symmetric (amount v s) (amount w t) h k =
 symmetric (amount v s) (refused n place) h k = absurd k
 symmetric (refused n place) b h k = absurd h
 
--- With a common denominator in between.
+-- Transitivity: the denominator of b cancels.
 through : (a b c : Fraction) → 0 < a .denominator → 0 < b .denominator → 0 < c .denominator → SameNumber a b → SameNumber b c
     → SameNumber a c
 through a b c h k l p q =

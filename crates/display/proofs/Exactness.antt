@@ -23,14 +23,14 @@ use Rattle.display.proofs.DigitTexts.{digits-length, number-length}
 use Rattle.display.proofs.AmountCases.{amount-of, value-within, scale-within}
 use Rattle.display.proofs.ReadingBack.{read-unsigned, no-minus}
 
--- What is claimed of a text that `decimal` writes for a type code, a raw value and a scale factor.
+-- The claim for a text that `decimal` writes for a type code, a raw value and a scale factor.
 pub record Exact (code raw : ℕ) (scale : ℤ) (t : List ℕ) : Type 0 where
   pub value : ℤ
   pub is : unscaled code raw ≡ number value
   pub reads-back : readDecimal t ≡ some (fractionOf value scale)
   pub thirty : length t ≤ 30
 
--- Every text reads back, whatever the value and the scale factor.
+-- The text of any value and scale factor reads back as value × 10 ^ scale.
 pub read-back : (value scale : ℤ) → readDecimal (decimalText value scale) ≡ some (fractionOf value scale)
 unfolding readDecimal
 read-back (pos a) scale =

@@ -8,7 +8,7 @@ use lib.ListN.{length, drop}
 use lib.Signed.{nonNeg}
 use Rattle.display.specs.Amounts.{Amount, amount, amountOf, zeros, places}
 
--- The bytes that a text is made of: the minus, the decimal point and the digits from 0 on.
+-- The bytes of a text: the minus, the decimal point and the digits (48 is 0).
 abbrev pub minusSign : ℕ
 minusSign = 45
 
@@ -27,13 +27,13 @@ unfoldable pub lastDigits : ℕ → ℕ → List ℕ
 lastDigits zero n = []
 lastDigits (suc k) n = digitAt n k ∷ lastDigits k n
 
--- The digits of n, counted: one if it is under ten, else one more than its tenth, rounded down. (The first number bounds the steps; n
--- of them are always enough: proofs/DigitCount.antt.)
+-- The number of digits of n: one if n is under ten, else one more than that of n / 10. (`steps` bounds the recursion; n steps are
+-- always enough: proofs/DigitCount.antt.)
 unfoldable pub digitCountWithin : ℕ → ℕ → ℕ
 digitCountWithin zero n = 1
 digitCountWithin (suc steps) n = elim (ltb n 10) [ true ↦ 1 | false ↦ suc (digitCountWithin steps (n / 10)) ]
 
--- How many digits n has.
+-- The number of digits of n.
 abbrev pub digitCount : ℕ → ℕ
 digitCount n = digitCountWithin n n
 
@@ -51,7 +51,7 @@ abbrev pub decimalPlaces : ℕ → ℕ → List ℕ
 decimalPlaces zero n = []
 decimalPlaces (suc k) n = decimalPoint ∷ lastDigits (suc k) n
 
--- n / 10 ^ places, exactly: its whole part, which has a digit even if it is 0, and so many places after the decimal point.
+-- n / 10 ^ places, exact: the whole part, which has a digit even if it is 0, and `places` digits after the decimal point.
 unfoldable pub unsignedText : ℕ → ℕ → List ℕ
 unsignedText n places = digitsOf (n / 10 ^ places) ++ decimalPlaces places n
 

@@ -1,4 +1,4 @@
--- What the code's type means: the result of `event_bits` in document 01's terms.
+-- What the code's type stands for: the result of `event_bits` in document 01's terms.
 use Rattle.event_fields.specs.Events as Events
 use Rattle.event_fields.specs.declared.EventBits.{EventBits}
 

@@ -6,26 +6,26 @@ use lib.Dec.{eqb}
 use lib.ListN.{length}
 use Rattle.values.specs.Classes.{isValue, classified}
 
--- Is the bit at a position set in a number?
+-- Is the bit of n at this position set?
 abbrev pub isSet : ℕ → ℕ → Bool
 isSet n position = eqb ((n / 2 ^ position) % 2) 1
 
--- The set positions of a number, lowest first, among so many from the first on.
+-- The set positions of n among `count` positions from `first` on, lowest first.
 unfoldable pub setAmong : ℕ → ℕ → ℕ → List ℕ
 setAmong zero first n = []
 setAmong (suc count) first n =
     elim (isSet n first) [ true ↦ first ∷ setAmong count (suc first) n | false ↦ setAmong count (suc first) n ]
 
--- The set positions of a raw value, which has 64 bits.
+-- The set positions of a raw value of 64 bits.
 abbrev pub setPositions : ℕ → List ℕ
 setPositions raw = setAmong 64 0 raw
 
--- The first number of a list (of positions it is the lowest), or another if the list is empty.
+-- The first number of a list, here the lowest position; or `other` if the list is empty.
 abbrev pub firstOr : ℕ → List ℕ → ℕ
 firstOr other [] = other
 firstOr other (x ∷ xs) = x
 
--- bitfield16 and bitfield32.
+-- Is it the code of a bitfield type: 5 (bitfield16) or 13 (bitfield32)?
 abbrev pub isBitfield : ℕ → Bool
 isBitfield code = eqb code 5 || eqb code 13
 

@@ -25,7 +25,7 @@ pub fn event_bits(type_code: u16, raw: u64) -> EventBits
     }
 }
 
-// bitfield16 and bitfield32.
+// Is it the code of bitfield16 or bitfield32?
 fn is_bitfield(type_code: u16) -> bool
     ensures { λ r. ⌜ r ≡ isBitfield «type_code» ⌝ }
 {

@@ -1,4 +1,4 @@
--- Laws of the table of type rows: look-up, and what holds of each of its rows, computed once over the whole table.
+-- Laws of the table of type rows: look-up, and facts about each row, computed once over the whole table.
 use mathlib.Core.Path.{_≡_, refl, sym, ap, subst, _∙_}
 use mathlib.Core.Bool.{Bool, true, false, not, _&&_, _||_}
 use mathlib.Core.List.{List, [], _∷_}
@@ -15,7 +15,7 @@ use Rattle.lists.specs.Tests.{every}
 use Rattle.lists.proofs.TestOutcomes.{impossible}
 use Rattle.point_types.specs.Rows.{TypeRow, Kind, signed, unsigned, float, Range, whole, between, notNaN, rows, rowAmong, rowOf, Listed}
 
--- The row found is one of the list, with the code looked for.
+-- The row found has the search code, and passes a test that every row of the list passes.
 found-among : (test : TypeRow → Bool) (rs : List TypeRow) (c : ℕ) (r : TypeRow) → T (every test rs) → rowAmong rs c ≡ some r
     → (c ≡ r .code) × T (test r)
 unfolding rowAmong
@@ -30,11 +30,11 @@ found-among test (x ∷ rs) c r t e =
         (eqb-true c (x .code) b ∙ ap (λ (y : TypeRow). y .code) s, subst (λ (y : TypeRow). T (test y)) s (and-l (test x) (every test rs) t))
     go false b q ih = ih q
 
--- A test that passes at each row of the table passes at a row that is found there.
+-- A test that every row of the table passes is passed by a row found there.
 found : (test : TypeRow → Bool) → T (every test rows) → (c : ℕ) (r : TypeRow) → rowOf c ≡ some r → (c ≡ r .code) × T (test r)
 found test t c r e = found-among test rows c r t e
 
--- The row that a code finds has that code, and is a row of the table.
+-- The row found for a code has that code, and is a row of the table.
 pub own-code : (c : ℕ) (r : TypeRow) → rowOf c ≡ some r → c ≡ r .code
 unfolding rows
 own-code c r e = found (λ x. true) tt c r e .0
@@ -42,7 +42,7 @@ own-code c r e = found (λ x. true) tt c r e .0
 pub listed : (c : ℕ) (r : TypeRow) → rowOf c ≡ some r → Listed r
 listed c r e = sym (ap rowOf (own-code c r e)) ∙ e
 
--- The rows of a list carry the codes from c on, in order.
+-- Do the rows of a list have the codes c, c + 1, … in order?
 abbrev numbered : ℕ → List TypeRow → Bool
 numbered c [] = true
 numbered c (r ∷ rs) = eqb (r .code) c && numbered (suc c) rs
@@ -81,7 +81,7 @@ pub no-row-outside : (c : ℕ) → (1 ≤ c → c ≤ 20 → ⊥) → rowOf c �
 unfolding rows
 no-row-outside c n = none-outside rows c tt n
 
--- ---- What holds of each row
+-- ---- Facts about each row
 
 -- Codes count from 1.
 pub from-one : (c : ℕ) (r : TypeRow) → rowOf c ≡ some r → 1 ≤ c
@@ -141,7 +141,7 @@ module _ (r : TypeRow) (l : Listed r) where
       go (between low high) e t = absurd t
       go notNaN e t = (eqb→eq (r .most) 2 t, e)
 
--- A range that begins below 0 is a signed type's of one register, and a range that begins at 0 or above is no signed type's.
+-- A type whose range begins below 0 is signed and has one register; a type whose range begins at 0 or above is not signed.
 abbrev rangeTest : Range → Kind → ℕ → Bool
 rangeTest whole k m = true
 rangeTest notNaN k m = true
@@ -168,7 +168,7 @@ module _ (r : TypeRow) (l : Listed r) where
       go unsigned q t = absurd t
       go float q t = absurd t
 
--- Only a float's range is that of the floats.
+-- Only a float type has the range of floats.
 abbrev floatTest : Range → Kind → Bool
 floatTest whole k = true
 floatTest (between low high) k = true

@@ -1,4 +1,4 @@
--- The order of the integers: transitivity, antisymmetry, the next integer, and a negated natural number against others.
+-- Laws of the order of integers: transitivity, antisymmetry, the next integer, and negative integers.
 use mathlib.Core.Path.{_≡_, refl, ap}
 use Prim.Native.Nat.{ℕ, zero, suc, _<_}
 use native.Mathlib.Nat.{le-trans}
@@ -22,7 +22,7 @@ le-both (pos a) (negsuc b) p q = absurd p
 le-both (negsuc a) (pos b) p q = absurd q
 le-both (negsuc a) (negsuc b) p q = ap negsuc (omega (arith, leb→le b a p, leb→le a b q))
 
--- An integer from a on that is not a is from the next one on.
+-- If a ≤ z and z is not a, then a + 1 ≤ z.
 pub next-le : (a z : ℤ) → T (leZ a z) → (z ≡ a → ⊥) → T (leZ (sucℤ a) z)
 next-le (pos a) (pos b) p n = let m : b ≡ a → ⊥ = λ e. n (ap pos e) in le→leb (suc a) b (omega (arith, leb→le a b p, m))
 next-le (pos a) (negsuc b) p n = absurd p
@@ -33,7 +33,7 @@ next-le (negsuc (suc a)) (negsuc b) p n =
     let m : b ≡ suc a → ⊥ = λ e. n (ap negsuc e) in
     le→leb b a (omega (arith, leb→le b (suc a) p, m))
 
--- One up to the next integer after a that is not that one is up to a.
+-- If z ≤ a + 1 and z is not a + 1, then z ≤ a.
 pub le-last : (a z : ℤ) → T (leZ z (sucℤ a)) → (z ≡ sucℤ a → ⊥) → T (leZ z a)
 le-last (pos a) (pos b) p n = let m : b ≡ suc a → ⊥ = λ e. n (ap pos e) in le→leb b a (omega (arith, leb→le b (suc a) p, m))
 le-last (pos a) (negsuc b) p n = tt

@@ -35,12 +35,12 @@ use Rattle.values.proofs.Ranges.{in-whole, in-between, signed-integer, 
 use Rattle.values.proofs.TwosComplement.{by-half, lower-half, upper-half, pattern-back}
 use Rattle.values.proofs.MachineIntegers.{halves}
 use Rattle.values.proofs.ClassCases.{row-of-decodable, decodable-up-to, by-row}
-use Rattle.values.proofs.DecodedCases.{Answered, asSigned, asUnsigned, asFloat, asUnimplemented, asOutOfRange, Cases, byRow, noRow, cases}
+use Rattle.values.proofs.DecodedCases.{ResultOf, asSigned, asUnsigned, asFloat, asUnimplemented, asOutOfRange, Cases, byRow, noRow, cases}
 use Rattle.values.proofs.RoundTrip.{holds-pattern}
 
 -- ---- A row's range by its ends
 
--- The least and the greatest integer of a range; where it is whole, those of the patterns of so many bits.
+-- The least and the greatest integer of a range; of a whole range, those of the patterns of `bits` bits.
 abbrev lowest : Range → Kind → ℕ → ℤ
 lowest (between low high) k bits = low
 lowest whole signed bits = negℤ (pos (2 ^ (bits - 1)))
@@ -70,7 +70,7 @@ between-test low high z = (
     both false b s t = absurd s
 
 module _ (row : TypeRow) (raw : ℕ) (p : PatternOf row raw) where
-  -- The integer of a pattern is one of its width's.
+  -- The integer of a pattern lies between the ends of its width.
   of-width : (row .kind ≡ float → ⊥) → Between (lowest whole (row .kind) (width row)) (highest whole (row .kind) (width row)) (integer row raw)
   of-width n = go (row .kind) refl
     where
@@ -112,14 +112,14 @@ by-either : {A : Type 0} (a b : Bool) → T (a || b) → (T a → A) → (T b �
 by-either true b t f g = f tt
 by-either false b t f g = g t
 
--- A printed end against the row's: it is the same, or next to the row's inside it, if the row's end is marked as unimplemented.
+-- Does a printed end agree with the row's? It is the same; or, if the row's end is unimplemented (`marked`), the next one inside.
 abbrev lowTest : ℤ → ℤ → Bool → Bool
 lowTest end least marked = isSame least end || (marked && isSame least (sucℤ end))
 
 abbrev highTest : ℤ → ℤ → Bool → Bool
 highTest end greatest marked = isSame greatest end || (marked && isSame (sucℤ greatest) end)
 
--- Then an integer within the row's end that is no marked one is within the printed end, which is within the row's.
+-- Then the printed end lies within the row's, and an integer within the row's end lies within the printed end, unless it is marked.
 low-end : (end least : ℤ) (marked : Bool) → T (lowTest end least marked)
     → T (leZ end least) × ((z : ℤ) → (T marked → z ≡ end → ⊥) → T (leZ end z) → T (leZ least z))
 low-end end least marked t =
@@ -144,7 +144,7 @@ abbrev marks : TypeRow → Unimplemented → ℤ → Bool
 marks row never z = false
 marks row (pattern p) z = isSame (integer row p) z
 
--- Is the unimplemented pattern one of the width, with its integer outside the printed range?
+-- Does the unimplemented pattern fit the width, and does its integer lie outside the printed range?
 abbrev isOutside : PrintedRange → TypeRow → Unimplemented → Bool
 isOutside r row never = true
 isOutside r row (pattern p) = ltb p (2 ^ width row) && not (isBetween (r .least) (r .greatest) (integer row p))
@@ -154,7 +154,7 @@ isIntegral signed = true
 isIntegral unsigned = true
 isIntegral float = false
 
--- The printed ends agree with those of the row's range, and are integers of its width.
+-- The tests of a printed range: its ends agree with those of the row's range, and fit the row's width.
 abbrev endTests : PrintedRange → TypeRow → List Bool
 endTests r row =
     let low = lowest (row .range) (row .kind) (width row) in
@@ -190,7 +190,7 @@ module _ (r : PrintedRange) (row : TypeRow) (l : Listed row) (tests : Each T (en
   not-float : row .kind ≡ float → ⊥
   not-float k = rw k at (tests .0)
 
-  -- The kinds that are left.
+  -- The type is signed or unsigned.
   by-kind : {A : Type 0} → (row .kind ≡ signed → A) → (row .kind ≡ unsigned → A) → A
   by-kind {A} s u = go (row .kind) refl
     where
@@ -213,14 +213,14 @@ module _ (r : PrintedRange) (row : TypeRow) (l : Listed row) (tests : Each T (en
     abbrev z : ℤ
     z = integer row raw
 
-    -- A pattern that is not the unimplemented one has another integer.
+    -- A pattern that is not the unimplemented one has another integer than it.
     apart : (m : Unimplemented) → isUnimplemented m raw ≡ false → T (isOutside r row m) → (y : ℤ) → T (marks row m y) → z ≡ y → ⊥
     apart never i o y t e = t
     apart (pattern p) i o y t e =
         let small = ltb→lt p (2 ^ width row) (and-l (ltb p (2 ^ width row)) (not (isBetween (r .least) (r .greatest) (integer row p))) o) in
         eqb-false raw p i (same-pattern raw p fits small (e ∙ sym (is-same (integer row p) y t)))
 
-    -- An integer of the printed range is not the unimplemented pattern's.
+    -- A pattern whose integer is in the printed range is not the unimplemented one.
     implemented : (m : Unimplemented) → T (isOutside r row m) → Between (r .least) (r .greatest) z → isUnimplemented m raw ≡ false
     implemented never o b = refl
     implemented (pattern p) o b =
@@ -257,7 +257,7 @@ module _ (r : PrintedRange) (row : TypeRow) (l : Listed row) (tests : Each T (en
       le-le y (r .greatest) (highest whole (row .kind) (width row)) (b .1) (tests .1 .1 .1 .1 .1 .0),
     )
 
-    -- The pattern of an integer of the width is one of the width, and has that integer.
+    -- The pattern of such an integer fits the width, and has that integer.
     pattern-there : (rawOf row y < 2 ^ width row) × (integer row (rawOf row y) ≡ y)
     pattern-there =
         by-kind
@@ -290,7 +290,7 @@ module _ (r : PrintedRange) (row : TypeRow) (l : Listed row) (tests : Each T (en
 in-order : (r : PrintedRange) (z : ℤ) → Between (r .least) (r .greatest) z ↔ InPrinted r z
 in-order r z = (λ b. (record { le = b .0 }, record { le = b .1 }), λ b. (b .0 .le, b .1 .le))
 
--- What was decoded is an integer within, if it is one.
+-- If a result within the range is an integer, that integer is in the range.
 decoded-within : (r : PrintedRange) (d : Decoded) (z : ℤ) → Within r d → decodedInteger d ≡ some z → InPrinted r z
 decoded-within r (decoding.signed y) z w e = let q : y ≡ z = cc in subst (InPrinted r) q w
 decoded-within r (decoding.unsigned n) z w e = let q : pos n ≡ z = cc in subst (InPrinted r) q w
@@ -313,21 +313,21 @@ module _ (r : PrintedRange) (row : TypeRow) (is : decodable (r .code) ≡ some r
       at : (raw : ℕ) → PatternOf row raw → classOf row raw ≡ classes.value → (z : ℤ) → integer row raw ≡ z → InPrinted r z
       at raw p v z e = subst (InPrinted r) e (in-order r (integer row raw) .0 (value-printed r row is-listed tests raw (p .fits) .0 v))
 
-      answered : {d : Decoded} → Answered row (patternIn row registers) d → Within r d
-      answered (asSigned k v) =
+      by-result : {d : Decoded} → ResultOf row (patternIn row registers) d → Within r d
+      by-result (asSigned k v) =
           let raw = patternIn row registers in
           at raw (holds-pattern (r .code) registers four all row is) v (twosComplement (width row) raw) (signed-integer row raw k)
-      answered (asUnsigned k v) =
+      by-result (asUnsigned k v) =
           let raw = patternIn row registers in
           at raw (holds-pattern (r .code) registers four all row is) v (pos raw) (unsigned-integer row raw k)
-      answered (asFloat k v) = absurd (not-float r row is-listed tests k)
-      answered (asUnimplemented v) = tt
-      answered (asOutOfRange v) = tt
+      by-result (asFloat k v) = absurd (not-float r row is-listed tests k)
+      by-result (asUnimplemented v) = tt
+      by-result (asOutOfRange v) = tt
 
       go : {d : Decoded} → Cases (r .code) registers d → Within r d
       go {d} (byRow other e a) =
           let s : other ≡ row = cc in
-          answered (subst (λ (x : TypeRow). Answered x (patternIn x registers) d) s a)
+          by-result (subst (λ (x : TypeRow). ResultOf x (patternIn x registers) d) s a)
       go (noRow e) = impossible (cc)
 
   -- A printed integer is decoded from the registers of its pattern.
@@ -340,7 +340,7 @@ module _ (r : PrintedRange) (row : TypeRow) (is : decodable (r .code) ≡ some r
         value-printed r row is-listed tests (rawOf row z) (there .0) .1
         (subst (Between (r .least) (r .greatest)) (sym (there .1)) (in-order r z .1 b))
 
-    -- The number of a value, whatever its kind, is its integer.
+    -- The decoded number is the pattern's integer, for both kinds.
     integer-of : decodedInteger (numberOf row (rawOf row z)) ≡ some (integer row (rawOf row z))
     unfolding numberOf integer
     integer-of =

@@ -1,4 +1,4 @@
--- Refusal 40 is for the codes outside 1–18, and for no other.
+-- Refusal 40, at place 0, is for the codes outside 1–18, and no other code is refused.
 use mathlib.Core.Path.{_≡_, subst}
 use mathlib.Core.Bool.{false}
 use mathlib.Core.List.{List}
@@ -22,9 +22,9 @@ module _ (code : ℕ) (registers : List ℕ) where
         | no h ↦ beyond code registers (omega arith)
       ]
 
-  pub inside-answered : 1 ≤ code → code ≤ 18 → (n place : ℕ) → decoded code registers ≡ refused n place → ⊥
+  pub inside-accepted : 1 ≤ code → code ≤ 18 → (n place : ℕ) → decoded code registers ≡ refused n place → ⊥
   unfolding decodable
-  inside-answered l h n place e = go n place (subst (Cases code registers) e (cases code registers))
+  inside-accepted l h n place e = go n place (subst (Cases code registers) e (cases code registers))
     where
       go : (m p : ℕ) → Cases code registers (refused m p) → ⊥
       go m p (noRow is) =

@@ -1,4 +1,4 @@
--- `equal_quantities` tries the first quantity, then the second, then compares the amounts.
+-- `equal_quantities` tests the first quantity, then the second, then compares the amounts.
 use mathlib.Core.Path.{sym, ap, _∙_}
 use borrow.Author.Needs.{needs}
 use Rattle.display.specs.CodeTypes.{scaleFactor, quantityAmount}

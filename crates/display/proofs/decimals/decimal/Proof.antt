@@ -1,4 +1,4 @@
--- `decimal` tries the amount, then the buffer, then stores the text.
+-- `decimal` tests the quantity, then the buffer, and then stores the text.
 use mathlib.Core.Path.{sym, ap, _∙_}
 use native.Mathlib.Omega.{arith}
 use borrow.Author.Needs.{needs}
@@ -13,7 +13,7 @@ use Rattle.display.proofs.StoredTexts.{put-start, put-length}
 use Rattle.display.proofs.decimals.decimal.Statement.{statement}
 use Rattle.display.proofs.decimals.decimal.Tie as tie
 
--- The amount that was accepted.
+-- The accepted amount.
 accepted : (c : tie.After-accepted2)
     → WasAmount
     (amountOf
