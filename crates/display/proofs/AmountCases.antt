@@ -1,4 +1,4 @@
--- The ways to an amount or its refusal, and what an amount that was accepted is bounded by.
+-- The cases of `amountOf`, and the bounds of an accepted amount.
 use mathlib.Core.Path.{_≡_, refl, ap, _∙_}
 use mathlib.Core.Bool.{Bool, true, false, not}
 use Prim.Native.Nat.{ℕ}
@@ -14,8 +14,12 @@ use Rattle.display.specs.declared.quantities.ScaledNumber.{ScaledNumber}
 use Rattle.display.specs.declared.quantities.Accepted.{Accepted}
 use Rattle.display.proofs.ScaleFactors.{ten-at-most}
 
+-- If the code refuses the amount with number n, the amount is refusal n at place 0.
+abbrev RefusedAt0 : ℕ → Amount → Type 0
+RefusedAt0 n a = Accepted.Refused n ≡ toCodeAccepted a → a ≡ refused n 0
+
 module _ (code raw : ℕ) (scale : ℤ) where
-  -- An amount has the value and the scale factor that it was made of.
+  -- An amount has the value and the scale factor of its quantity.
   pub record AmountOf (value s : ℤ) : Type 0 where
     pub is : unscaled code raw ≡ number value
     pub same-scale : scale ≡ s
@@ -26,7 +30,7 @@ module _ (code raw : ℕ) (scale : ℤ) where
   amount-of value s e = by-value (unscaled code raw) refl e
     where
       by-scale : (z : ℤ) → unscaled code raw ≡ number z → (b : Bool) → isScaleFactor scale ≡ b
-          → _≡_ {A = Amount} (elim b [ true ↦ amount z scale | false ↦ refused 45 ]) (amount value s) → AmountOf value s
+          → _≡_ {A = Amount} (elim b [ true ↦ amount z scale | false ↦ refused 45 0 ]) (amount value s) → AmountOf value s
       by-scale z u true b q =
           let v : z ≡ value = cc in
           record { is = u ∙ ap number v; same-scale = cc; in-range = b }
@@ -35,25 +39,40 @@ module _ (code raw : ℕ) (scale : ℤ) where
       by-value : (u : Unscaled) → unscaled code raw ≡ u
           → _≡_ {A = Amount}
           (elim u [
-            | notScalable ↦ refused 43
-            | noValue ↦ refused 44
-            | number z ↦ elim (isScaleFactor scale) [ true ↦ amount z scale | false ↦ refused 45 ]
+            | notScalable ↦ refused 43 0
+            | noValue ↦ refused 44 0
+            | number z ↦ elim (isScaleFactor scale) [ true ↦ amount z scale | false ↦ refused 45 0 ]
           ])
           (amount value s) → AmountOf value s
       by-value (number z) u q = by-scale z u (isScaleFactor scale) refl q
       by-value noValue u q = impossible (cc)
       by-value notScalable u q = impossible (cc)
 
+  -- All refusals of a quantity have place 0.
+  pub was-refused : (n : ℕ) → RefusedAt0 n (amountOf code raw scale)
+  unfolding amountOf
+  was-refused n = by-value (unscaled code raw)
+    where
+      by-scale : (z : ℤ) (b : Bool) → RefusedAt0 n (elim b [ true ↦ amount z scale | false ↦ refused 45 0 ])
+      by-scale z true q = impossible (cc)
+      by-scale z false q = cc
+
+      by-value : (u : Unscaled)
+          → RefusedAt0 n
+          (elim u [
+            | notScalable ↦ refused 43 0
+            | noValue ↦ refused 44 0
+            | number z ↦ elim (isScaleFactor scale) [ true ↦ amount z scale | false ↦ refused 45 0 ]
+          ])
+      by-value (number z) = by-scale z (isScaleFactor scale)
+      by-value noValue = λ q. cc
+      by-value notScalable = λ q. cc
+
   pub value-within : (value s : ℤ) → amountOf code raw scale ≡ amount value s → Within64 value
   value-within value s e = unscaled-range code raw value (amount-of value s e .is)
 
   pub scale-within : (value s : ℤ) → amountOf code raw scale ≡ amount value s → TenAtMost (zeros s) (places s)
   scale-within value s e = let a = amount-of value s e in rw (← a .same-scale) (ten-at-most scale (a .in-range))
-
--- What the code's reading of a quantity tells of its amount.
-pub was-refused : (a : Amount) (n : ℕ) → Accepted.Refused n ≡ toCodeAccepted a → a ≡ refused n
-was-refused (amount value scale) n e = cc
-was-refused (refused m) n e = cc
 
 pub record WasAmount (a : Amount) (parts : ScaledNumber) : Type 0 where
   pub value : ℤ
@@ -63,7 +82,7 @@ pub record WasAmount (a : Amount) (parts : ScaledNumber) : Type 0 where
 
 pub was-amount : (a : Amount) (parts : ScaledNumber) → Accepted.Of parts ≡ toCodeAccepted a → WasAmount a parts
 was-amount (amount value scale) parts e = record { value = value; scale = scale; is = refl; form = cc }
-was-amount (refused m) parts e = impossible (cc)
+was-amount (refused m place) parts e = impossible (cc)
 
 -- The parts are bounded by the scale factor's range.
 pub parts-within : (code raw : ℕ) (s : ℤ) (parts : ScaledNumber) → Accepted.Of parts ≡ toCodeAccepted (amountOf code raw s)
@@ -72,7 +91,7 @@ parts-within code raw s parts e =
     let w = was-amount (amountOf code raw s) parts e in
     rw (w .form) (scale-within code raw s (w .value) (w .scale) (w .is))
 
--- Parts that agree one by one are the same.
+-- Parts with equal fields are equal.
 pub same-parts : (value scale : ℤ) (parts : ScaledNumber) → parts .negative ≡ not (nonNeg value) → parts .magnitude ≡ natAbs value
     → parts .zeros ≡ zeros scale → parts .places ≡ places scale → parts ≡ toCodeParts value scale
 same-parts value scale parts n m z p = rw (← n, ← m, ← z, ← p)

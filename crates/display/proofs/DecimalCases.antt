@@ -1,4 +1,4 @@
--- The decimal text of an amount, and the text by the amount's parts.
+-- The cases of `decimalOf`, and the text of an amount by its parts.
 use mathlib.Core.Path.{_≡_, refl, sym, ap, _∙_}
 use mathlib.Core.Logic.{_⊎_, inl, inr}
 use mathlib.Core.List.{[], _∷_, _++_, append-nil}
@@ -13,7 +13,7 @@ use Rattle.display.specs.InternalParts.{TenAtMost, partsText}
 use Rattle.display.specs.declared.quantities.ScaledNumber.{ScaledNumber}
 use Rattle.display.proofs.AmountCases.{WasAmount}
 
--- The text, where the buffer is long enough.
+-- The text, if the buffer is long enough.
 pub long-buffer : (code raw : ℕ) (scale : ℤ) (capacity : ℕ) (parts : ScaledNumber) → WasAmount (amountOf code raw scale) parts
     → 32 ≤ capacity → decimalOf code raw scale capacity ≡ text (partsText parts)
 unfolding decimalOf
@@ -31,7 +31,7 @@ unfolding unsignedText
 places-text n zero h = absurd (omega arith)
 places-text n (suc k) h = refl
 
--- An amount has zeros or places, so its text has the one or the other.
+-- An amount has zeros or places, and not both: its text in each case.
 module _ (a : ScaledNumber) where
   pub zeros-text : a .places ≡ 0 → sign (a .negative) ++ unsignedText (a .magnitude * 10 ^ a .zeros) 0 ≡ partsText a
   zeros-text e = rw e

@@ -1,5 +1,5 @@
--- The number of digits of n is the one c from 1 on with n < 10 ^ c and, if c is more than 1, 10 ^ (c - 1) ≤ n. So the bound on the
--- steps of its definition is always enough.
+-- The number of digits of n is the only c ≥ 1 with n < 10 ^ c and, if c is more than 1, 10 ^ (c - 1) ≤ n. So the bound on the steps in
+-- its definition is always enough.
 use mathlib.Core.Path.{_≡_, refl}
 use mathlib.Core.Bool.{Bool, true, false}
 use Prim.Native.Nat.{ℕ, zero, suc, _+_, _-_, _*_, _/_, _^_, _≤_, _<_}
@@ -12,13 +12,13 @@ use lib.Pow.{pow-add}
 use Rattle.display.specs.Decimals.{digitCountWithin, digitCount}
 use Rattle.display.proofs.PowersOfTen.{positive, grow}
 
--- c digits hold n, and no fewer do.
+-- n has c digits: c digits are enough for n, and fewer are not.
 pub record CountOf (n c : ℕ) : Type 0 where
   pub some : 1 ≤ c
   pub enough : n < 10 ^ c
   pub no-fewer : 1 < c → 10 ^ (c - 1) ≤ n
 
--- Fewer digits than a number has do not hold it.
+-- x digits are not enough for a number of more than x digits.
 too-few : (n c x : ℕ) → CountOf n c → 1 ≤ x → x < c → n < 10 ^ x → ⊥
 too-few n c x o l h k = omega (arith, o .no-fewer (omega arith), grow {i = x} {j = c - 1} (omega arith))
 
@@ -30,7 +30,7 @@ unique n c d a b = go (decLe c d) (decLe d c)
     go (yes h) (no k) = absurd (too-few n d c b (a .some) (omega arith) (a .enough))
     go (no h) k = absurd (too-few n c d a (b .some) (omega arith) (b .enough))
 
--- A number that is not 0 reaches the power of its first digit.
+-- A number of c digits that is not 0 is at least 10 ^ (c - 1).
 pub first-power : (n c : ℕ) → 1 ≤ n → CountOf n c → 10 ^ (c - 1) ≤ n
 first-power n c h o = go (decLe 2 c)
   where
@@ -41,7 +41,7 @@ first-power n c h o = go (decLe 2 c)
 under-ten : (n : ℕ) → n < 10 → CountOf n 1
 under-ten n h = record { some = omega arith; enough = h; no-fewer = λ l. absurd (omega arith) }
 
--- One digit more than the tenth.
+-- n has one digit more than n / 10.
 from-tenth : (n c : ℕ) → 10 ≤ n → CountOf (n / 10) c → CountOf n (suc c)
 from-tenth n c h t =
     record {
@@ -69,14 +69,14 @@ within (suc steps) n h = go (ltb n 10) refl (λ l. within steps (n / 10) l)
 pub count : (n : ℕ) → CountOf n (digitCount n)
 count n = within n n (omega arith)
 
--- The definition without a bound on its steps.
+-- The definition's two cases, without a bound on its steps.
 pub one-digit : (n : ℕ) → n < 10 → digitCount n ≡ 1
 one-digit n h = unique n (digitCount n) 1 (count n) (under-ten n h)
 
 pub more-digits : (n : ℕ) → 10 ≤ n → digitCount n ≡ suc (digitCount (n / 10))
 more-digits n h = unique n (digitCount n) (suc (digitCount (n / 10))) (count n) (from-tenth n (digitCount (n / 10)) h (count (n / 10)))
 
--- A number has at most c digits if c hold it.
+-- A number below 10 ^ c has at most c digits.
 pub at-most : (n c : ℕ) → 1 ≤ c → n < 10 ^ c → digitCount n ≤ c
 at-most n c l h = go (decLe (digitCount n) c)
   where
@@ -84,7 +84,7 @@ at-most n c l h = go (decLe (digitCount n) c)
     go (yes k) = k
     go (no k) = absurd (too-few n (digitCount n) c (count n) l (omega arith) h)
 
--- k zeros appended to a number that is not 0 are k digits more.
+-- Appending k zeros to a number that is not 0 adds k digits.
 pub appended : (n k : ℕ) → 1 ≤ n → digitCount (n * 10 ^ k) ≡ k + digitCount n
 appended n k h = unique (n * 10 ^ k) (digitCount (n * 10 ^ k)) (k + digitCount n) (count (n * 10 ^ k)) shifted
   where

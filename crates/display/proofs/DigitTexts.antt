@@ -1,4 +1,4 @@
--- Digits as text: how they are stored one after another, and what appended zeros make of them.
+-- Digits as text: storing them one by one, and appending zeros.
 use mathlib.Core.Path.{_≡_, refl, sym, ap, _∙_}
 use mathlib.Core.List.{List, _∷_, _++_}
 use Prim.Native.Nat.{ℕ, zero, suc, _+_, _-_, _*_, _^_, _≤_, _<_}
@@ -24,7 +24,7 @@ number-length n = digits-length (digitCount n) n
 
 -- ---- Storing
 
--- The first digit that is left, stored, leaves one fewer.
+-- Storing the first of the digits left leaves one fewer to store.
 pub store-digit : (out : List ℕ) (i left n digit : ℕ) → 0 < left → digit ≡ digitAt n (left - 1)
     → sets (set out i digit) (i + 1) (lastDigits (left - 1) n) ≡ sets out i (lastDigits left n)
 unfolding lastDigits
@@ -33,13 +33,13 @@ store-digit out i (suc k) n digit h e =
     let s : suc k - 1 ≡ k = omega arith in
     rw (e, s, add-one i)
 
--- The digits that were stored at the start of zeros, cut out again.
+-- The digits, cut out of the result of `digits_of`.
 pub digits-cut : (d : Digits) (n : ℕ) → d ≡ toCodeDigits n → take (d .count) (d .bytes) ≡ digitsOf n
 digits-cut d n e = rw (e, take-at (digitsOf n) (replicate (20 - digitCount n) 0) (digitCount n) (number-length n))
 
 -- ---- Appended zeros
 
--- A digit below the appended zeros is one of them.
+-- The last k digits of n × 10 ^ k are zeros.
 low-digit : (n k j : ℕ) → j < k → digitAt (n * 10 ^ k) j ≡ digitZero
 low-digit n k j h =
     let s : k ≡ suc (k - suc j) + j = omega arith in
@@ -61,7 +61,7 @@ all-zeros n k (suc j) h =
     ap (λ (d : ℕ). d ∷ lastDigits j (n * 10 ^ k)) (low-digit n k j h ∙ sym (zero-digit j))
     ∙ ap (λ (ds : List ℕ). digitAt 0 j ∷ ds) (all-zeros n k j (omega arith))
 
--- A digit above them is the number's.
+-- The digits before them are those of n.
 high-digit : (n k j : ℕ) → digitAt (n * 10 ^ k) (k + j) ≡ digitAt n j
 high-digit n k j =
     rw (pow-add 10 k j, ← div-div-eq-div-mul (n * 10 ^ k) (10 ^ k) (10 ^ j), mul-div-cancel n (positive k))
@@ -77,7 +77,7 @@ zeros-appended n k (suc j) =
 pub appended-zeros : (n k : ℕ) → 1 ≤ n → digitsOf (n * 10 ^ k) ≡ digitsOf n ++ lastDigits k 0
 appended-zeros n k h = ap (λ (c : ℕ). lastDigits c (n * 10 ^ k)) (appended n k h) ∙ zeros-appended n k (digitCount n)
 
--- Zero is one digit, whatever is appended.
+-- Zero is one digit, whatever number of zeros is appended.
 pub zero-text : (n k : ℕ) → n ≡ 0 → digitsOf (n * 10 ^ k) ≡ lastDigits 1 0
 zero-text n k e =
     let z : n * 10 ^ k ≡ 0 = rw e (zero-mul (10 ^ k)) in

@@ -1,4 +1,4 @@
--- The answer for two amounts, as the code holds them.
+-- The result for two accepted amounts, by the code's parts.
 use mathlib.Core.Path.{_≡_, sym, ap}
 use Rattle.display.specs.Amounts.{Amount}
 use Rattle.display.specs.Equality.{equality, equalIf}

@@ -1,4 +1,5 @@
--- On quantities that are accepted, being the same amount is reflexive, symmetric and transitive; and it is what the integers say.
+-- On accepted quantities, equality of amounts is reflexive, symmetric and transitive; and it is equality of the cross-multiplied
+-- integers.
 use mathlib.Core.Path.{_≡_, refl, sym, ap, _∙_}
 use mathlib.Core.Bool.{Bool, true, false}
 use Prim.Native.Nat.{_<_}
@@ -9,16 +10,16 @@ use Rattle.display.proofs.PowersOfTen.{positive}
 use Rattle.display.proofs.Multiples.{same-test}
 use Rattle.display.proofs.ScaledIntegers.{swap, cancel, same-integer, integer-same}
 
--- The quantity that an amount was made of is accepted.
+-- The amount is no refusal.
 abbrev pub Accepted : Amount → Type 0
 Accepted (amount value scale) = Unit {0}
-Accepted (refused n) = ⊥
+Accepted (refused n place) = ⊥
 
 is-equal : (b : Bool) → equalIf b ≡ equal → b ≡ true
 is-equal true e = refl
 is-equal false e = cc
 
--- value × 10 ^ scale is equal, cross-multiplied.
+-- Two fractions are the same number: their cross-multiplied integers are equal.
 abbrev pub SameNumber : Fraction → Fraction → Type 0
 SameNumber p q = p .numerator *ℤ pos (q .denominator) ≡ q .numerator *ℤ pos (p .denominator)
 
@@ -39,7 +40,7 @@ module _ (v s w t : ℤ) where
 
 pub reflexive : (a : Amount) → Accepted a → equality a a ≡ equal
 reflexive (amount v s) h = means-equal v s v s refl
-reflexive (refused n) h = absurd h
+reflexive (refused n place) h = absurd h
 
 either-way : (x y : ℤ) → isSameInteger x y ≡ isSameInteger y x
 either-way (pos a) (pos b) = same-test a b b a sym sym
@@ -47,17 +48,17 @@ either-way (pos a) (negsuc b) = refl
 either-way (negsuc a) (pos b) = refl
 either-way (negsuc a) (negsuc b) = same-test a b b a sym sym
 
--- The answer is the same for the two quantities turned round.
+-- The result is the same with the two quantities exchanged.
 pub symmetric : (a b : Amount) → Accepted a → Accepted b → equality a b ≡ equality b a
 unfolding equality
 symmetric (amount v s) (amount w t) h k =
     let p = fractionOf v s in
     let q = fractionOf w t in
     ap equalIf (either-way (p .numerator *ℤ pos (q .denominator)) (q .numerator *ℤ pos (p .denominator)))
-symmetric (amount v s) (refused n) h k = absurd k
-symmetric (refused n) b h k = absurd h
+symmetric (amount v s) (refused n place) h k = absurd k
+symmetric (refused n place) b h k = absurd h
 
--- With a common denominator in between.
+-- Transitivity: the denominator of b cancels.
 through : (a b c : Fraction) → 0 < a .denominator → 0 < b .denominator → 0 < c .denominator → SameNumber a b → SameNumber b c
     → SameNumber a c
 through a b c h k l p q =
@@ -77,6 +78,6 @@ transitive (amount v s) (amount w t) (amount x u) p q =
     means-equal v s x u
     (through (fractionOf v s) (fractionOf w t) (fractionOf x u) (positive (places s)) (positive (places t)) (positive (places u))
     (equal-means v s w t p) (equal-means w t x u q))
-transitive (amount v s) (amount w t) (refused n) p q = cc
-transitive (amount v s) (refused n) c p q = cc
-transitive (refused n) b c p q = cc
+transitive (amount v s) (amount w t) (refused n place) p q = cc
+transitive (amount v s) (refused n place) c p q = cc
+transitive (refused n place) b c p q = cc

@@ -23,14 +23,14 @@ use Rattle.display.proofs.DigitTexts.{digits-length, number-length}
 use Rattle.display.proofs.AmountCases.{amount-of, value-within, scale-within}
 use Rattle.display.proofs.ReadingBack.{read-unsigned, no-minus}
 
--- What is claimed of a text that `decimal` writes for a type code, a raw value and a scale factor.
+-- The claim for a text that `decimal` writes for a type code, a raw value and a scale factor.
 pub record Exact (code raw : ℕ) (scale : ℤ) (t : List ℕ) : Type 0 where
   pub value : ℤ
   pub is : unscaled code raw ≡ number value
   pub reads-back : readDecimal t ≡ some (fractionOf value scale)
   pub thirty : length t ≤ 30
 
--- Every text reads back, whatever the value and the scale factor.
+-- The text of any value and scale factor reads back as value × 10 ^ scale.
 pub read-back : (value scale : ℤ) → readDecimal (decimalText value scale) ≡ some (fractionOf value scale)
 unfolding readDecimal
 read-back (pos a) scale =
@@ -76,7 +76,7 @@ unfolding decimalOf
 exactness code raw scale capacity t e = by-amount (amountOf code raw scale) refl e
   where
     by-capacity : (value s : ℤ) → amountOf code raw scale ≡ amount value s → (b : Bool)
-        → _≡_ {A = Decimal} (elim b [ true ↦ Decimal.refused 46 | false ↦ text (decimalText value s) ]) (text t) → Exact code raw scale t
+        → _≡_ {A = Decimal} (elim b [ true ↦ Decimal.refused 46 0 | false ↦ text (decimalText value s) ]) (text t) → Exact code raw scale t
     by-capacity value s a true q = impossible (cc)
     by-capacity value s a false q =
         let o = amount-of code raw scale value s a in
@@ -91,9 +91,9 @@ exactness code raw scale capacity t e = by-amount (amountOf code raw scale) refl
     by-amount : (a : Amount) → amountOf code raw scale ≡ a
         → _≡_ {A = Decimal}
         (elim a [
-          | Amount.refused n ↦ Decimal.refused n
-          | amount value s ↦ elim (ltb capacity 32) [ true ↦ Decimal.refused 46 | false ↦ text (decimalText value s) ]
+          | Amount.refused n place ↦ Decimal.refused n place
+          | amount value s ↦ elim (ltb capacity 32) [ true ↦ Decimal.refused 46 0 | false ↦ text (decimalText value s) ]
         ])
         (text t) → Exact code raw scale t
-    by-amount (Amount.refused n) a q = impossible (cc)
+    by-amount (Amount.refused n place) a q = impossible (cc)
     by-amount (amount value s) a q = by-capacity value s a (ltb capacity 32) q

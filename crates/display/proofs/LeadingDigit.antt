@@ -1,4 +1,4 @@
--- The digits of a number do not begin with 0, but for zero itself, which is the one digit 0.
+-- The digits of a number other than zero do not begin with 0; zero is the one digit 0.
 use mathlib.Core.Path.{_≡_, refl}
 use mathlib.Core.List.{List, [], _∷_}
 use Prim.Native.Nat.{ℕ, zero, suc, _-_, _*_, _/_, _^_, _≤_, _<_}
@@ -8,7 +8,7 @@ use Rattle.display.specs.Decimals.{digitZero, digitAt, lastDigits, digit
 use Rattle.display.proofs.PowersOfTen.{positive}
 use Rattle.display.proofs.DigitCount.{CountOf, first-power, count}
 
--- The first of a list of digits is not 0.
+-- The list has a first digit, and it is not 0.
 abbrev pub NotZeroFirst : List ℕ → Type 0
 NotZeroFirst [] = ⊥
 NotZeroFirst (d ∷ ds) = digitZero < d

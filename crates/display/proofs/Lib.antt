@@ -1,5 +1,7 @@
 -- The claims
 pub mod TwelveCases
+pub mod DecimalVectors
+pub mod EventVectors
 pub mod Exactness
 pub mod LeadingDigit
 pub mod Equivalence

@@ -1,4 +1,4 @@
--- Whether m is n × 10 ^ k, decided without the product, which may take more than 64 bits.
+-- Deciding whether m is n × 10 ^ k without the product, which may need more than 64 bits.
 use mathlib.Core.Path.{_≡_, refl, sym, ap, _∙_}
 use mathlib.Core.Bool.{Bool, true, false}
 use Prim.Native.Nat.{ℕ, _*_, _/_, _%_, _^_, _≤_, _<_}
@@ -22,7 +22,7 @@ module _ (n k m : ℕ) where
       let z : n * 10 ^ k ≡ 0 = rw e (zero-mul (10 ^ k)) in
       same-test m 0 (n * 10 ^ k) m (λ q. z ∙ sym q) (λ q. sym q ∙ z)
 
-  -- From 10 ^ 20 on only zero stays within 64 bits.
+  -- Of the multiples of 10 ^ 20 and higher powers only zero fits 64 bits.
   pub far-shifted : (n ≡ 0 → ⊥) → 20 ≤ k → m < 2 ^ 64 → eqb n 0 ≡ eqb (n * 10 ^ k) m
   far-shifted h far small =
       same-test n 0 (n * 10 ^ k) m (λ q. absurd (h q))

@@ -1,4 +1,4 @@
--- Powers of ten: they grow from 1 on, each ten times the one before.
+-- Laws of powers of ten: they are positive and grow, each ten times the one before.
 use mathlib.Core.Path.{_≡_, sym, ap, _∙_}
 use mathlib.Core.List.{List, [], _∷_}
 use Prim.Native.Nat.{ℕ, zero, suc, _+_, _*_, _^_, _≤_, _<_}
@@ -12,7 +12,7 @@ positive k = one-le-pow k 10 (omega arith)
 pub grow : {i j : ℕ} → i ≤ j → 10 ^ i ≤ 10 ^ j
 grow h = pow-le-pow-right {n = 10} (omega arith) h
 
--- p, ten times p, and so on.
+-- `count` numbers: p, 10 × p, and so on.
 unfoldable pub tenfold : ℕ → ℕ → List ℕ
 tenfold zero p = []
 tenfold (suc count) p = p ∷ tenfold count (p * 10)
@@ -26,6 +26,6 @@ from-power c (suc count) (suc i) h =
     ∙ from-power (suc c) count i (omega arith)
     ∙ ap (λ (k : ℕ). 10 ^ k) (suc-add c i ∙ sym (add-suc c i))
 
--- A list that begins with 1 and grows tenfold holds the powers of ten at their places.
+-- Entry i of the list that begins with 1 and grows tenfold is 10 ^ i.
 pub power-at : (count i : ℕ) → i < count → getD (tenfold count 1) i 0 ≡ 10 ^ i
 power-at count i h = from-power 0 count i h ∙ ap (λ (k : ℕ). 10 ^ k) (zero-add i)

@@ -1,4 +1,4 @@
--- Reading digits back: the last k digits of m, read behind v, are v × 10 ^ k + m % 10 ^ k.
+-- Reading digits back: v followed by the last k digits of m is read as v × 10 ^ k + m % 10 ^ k.
 use mathlib.Core.Path.{_≡_, sym, ap, _∙_}
 use mathlib.Core.Bool.{true}
 use mathlib.Core.List.{List, _∷_, _++_}
@@ -13,7 +13,7 @@ use Rattle.display.specs.Reading.{isDigit, withDigit, readPlaces, readWh
 use Rattle.display.proofs.PowersOfTen.{positive}
 use Rattle.display.proofs.DigitCount.{count}
 
--- What `digitAt` gives is read as a digit, and as its own value.
+-- `digitAt` gives a digit, which is read as its value.
 digit-small : (n k : ℕ) → n / 10 ^ k % 10 < 10
 digit-small n k = mod-lt (n / 10 ^ k) (omega arith)
 
@@ -25,7 +25,7 @@ is-digit n k =
 digit-back : (n k : ℕ) → digitAt n k - digitZero ≡ n / 10 ^ k % 10
 digit-back n k = omega arith
 
--- The remainder by a power of ten is the next digit and the remainder by the power before.
+-- The remainder by p × 10 is the digit at p, times p, plus the remainder by p.
 next-power : (m p : ℕ) → 0 < p → m % (p * 10) ≡ m / p % 10 * p + m % p
 next-power m p h =
     let q = m / p in
@@ -42,7 +42,7 @@ next-power m p h =
     ∙ mul-add-mod-self-right (q / 10) (p * 10) (q % 10 * p + r)
     ∙ mod-eq-of-lt low
 
--- One digit read, and k to come.
+-- One digit is read, and k are left.
 one-more : (v m k : ℕ) → (v * 10 + m / 10 ^ k % 10) * 10 ^ k + m % 10 ^ k ≡ v * 10 ^ suc k + m % 10 ^ suc k
 one-more v m k =
     ap (λ (x : ℕ). x + m % 10 ^ k) (add-mul (v * 10) (m / 10 ^ k % 10) (10 ^ k))
@@ -101,7 +101,7 @@ unfolding lastDigits
 digit-first zero m rest h = absurd (omega arith)
 digit-first (suc k) m rest h = without-minus (digitAt m k) (lastDigits k m ++ rest) (λ q. omega (arith, q))
 
--- n with so many places is read as n / 10 ^ places.
+-- The text of n with p places is read as n / 10 ^ p.
 pub read-unsigned : (n p : ℕ) → readUnsigned (unsignedText n p) ≡ some (n, 10 ^ p)
 unfolding readWhole unsignedText
 read-unsigned n p =

@@ -1,4 +1,4 @@
--- What the code compares, by parts, is the definition's cross-multiplication.
+-- The code's comparison by parts is the definition's cross-multiplication.
 use mathlib.Core.Path.{_≡_, sym, ap, _∙_}
 use mathlib.Core.Bool.{true, false, not, Bool·beq}
 use Prim.Native.Nat.{ℕ, _+_, _-_, _*_, _^_, _≤_}
@@ -16,7 +16,7 @@ use Rattle.display.proofs.PowersOfTen.{positive}
 use Rattle.display.proofs.Multiples.{same-test}
 use Rattle.display.proofs.ScaledIntegers.{factor-cancels, twice, same-product}
 
--- A value times both powers is the value times one.
+-- z × 10 ^ i × 10 ^ j is z × 10 ^ (i + j).
 both-powers : (z : ℤ) (i j : ℕ) → z *ℤ pos (10 ^ i) *ℤ pos (10 ^ j) ≡ z *ℤ pos (10 ^ (i + j))
 both-powers z i j = twice z (10 ^ i) (10 ^ j) (positive i) ∙ ap (λ (n : ℕ). z *ℤ pos n) (sym (pow-add 10 i j))
 
@@ -27,7 +27,7 @@ by-parts v s w t =
     ∙ ap (λ (x : ℤ). isSameInteger x (w *ℤ pos (10 ^ (zeros t + places s)))) (sym (both-powers v (zeros s) (places t)))
     ∙ ap (isSameInteger (v *ℤ pos (10 ^ zeros s) *ℤ pos (10 ^ places t))) (sym (both-powers w (zeros t) (places s)))
 
--- A power of ten that both sides have is left out.
+-- A power of ten on both sides cancels.
 shared-power : (m n d k : ℕ) → eqb (m * 10 ^ d) n ≡ eqb (m * 10 ^ (d + k)) (n * 10 ^ k)
 shared-power m n d k =
     let e : m * 10 ^ (d + k) ≡ m * 10 ^ d * 10 ^ k = rw (pow-add 10 d k) (sym (mul-assoc m (10 ^ d) (10 ^ k))) in
@@ -48,7 +48,7 @@ module _ (m n up down : ℕ) where
       ∙ ap (λ (k : ℕ). eqb (n * 10 ^ k) (m * 10 ^ up)) e
       ∙ same-test (n * 10 ^ down) (m * 10 ^ up) (m * 10 ^ up) (n * 10 ^ down) sym sym
 
--- The code's two ways to compare parts.
+-- The code's two cases: the signs differ, or they agree.
 module _ (x y : ScaledNumber) where
   pub signs-differ : not (Bool·beq (x .negative) (y .negative)) ≡ true → false ≡ isSameByParts x y
   unfolding isSameByParts

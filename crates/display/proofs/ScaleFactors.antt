@@ -1,4 +1,5 @@
--- A scale factor's register by its size: from 0 to 10 it is the zeros to append, from FFF6 on the places are what is missing to 65536.
+-- A scale factor by its register: 0 to 10 is the number of zeros to append; from FFF6 on, 65536 less the register is the number of
+-- places.
 use mathlib.Core.Path.{_≡_, refl, _∙_}
 use mathlib.Core.Bool.{Bool, true, false, _&&_}
 use mathlib.Core.Logic.{inl, inr}

@@ -1,5 +1,5 @@
--- Integers times powers of ten: the order of the factors does not matter, they cancel, and sign and magnitude decide whether two
--- products are the same.
+-- Laws of integers times positive factors: the factors can be swapped and cancelled, and two products are equal if signs and
+-- magnitudes agree.
 use mathlib.Core.Path.{_≡_, refl, sym, ap, _∙_}
 use mathlib.Core.Bool.{true, not, _&&_, Bool·beq}
 use Prim.Native.Nat.{ℕ, zero, suc, _-_, _*_, _<_}
@@ -38,7 +38,7 @@ swap z p q h k = twice z p q h ∙ ap (λ (n : ℕ). z *ℤ pos n) (mul-comm p q
 pub factor-cancels : (a b p : ℕ) → 0 < p → a * p ≡ b * p → a ≡ b
 factor-cancels a b p h e = eq-of-mul-eq-mul-left p h a b (mul-comm p a ∙ e ∙ mul-comm b p)
 
--- Two products are the same integer where their factors have the same sign and the magnitudes agree.
+-- Two products are equal if and only if the integers have the same sign and the products of the magnitudes are equal.
 pub same-product : (v w : ℤ) (p q : ℕ) → 0 < p → 0 < q
     → isSameInteger (v *ℤ pos p) (w *ℤ pos q) ≡ (Bool·beq (not (nonNeg v)) (not (nonNeg w)) && eqb (natAbs v * p) (natAbs w * q))
 same-product (pos a) (pos b) p q h k = refl
@@ -49,7 +49,7 @@ same-product (negsuc a) (negsuc b) p q h k =
     (same-test (suc a * p - 1) (suc b * q - 1) (suc a * p) (suc b * q)
     (λ e. omega (arith, e, product-some a p h, product-some b q k)) (λ e. omega (arith, e)))
 
--- The test for the same integer is equality.
+-- `isSameInteger` tests equality.
 pub same-integer : (x y : ℤ) → isSameInteger x y ≡ true → x ≡ y
 same-integer (pos a) (pos b) e = ap pos (eqb-true a b e)
 same-integer (pos a) (negsuc b) e = cc

@@ -1,32 +1,34 @@
--- Document 01, "Cases and mistakes": the twelve cases for the proved table, one by one as the document has them, held against the
--- definitions that the contracts cite by one test over the whole list, which the checker computes.
+-- Document 01, "Cases and mistakes": the twelve cases for the proved table, in the document's order. One equation over the whole list
+-- compares them with the definitions that the contracts cite; the checker computes it. Values and scale factors are registers, as the
+-- calls take them: FFFF for −1.
 use mathlib.Core.Path.{_≡_, refl}
 use mathlib.Core.List.{List, [], _∷_, map}
 use Prim.Native.Nat.{ℕ}
 use Prim.Native.String.{String}
 use lib.IntN.{ℤ, pos, negℤ}
 use lib.Ieee.{nanBits}
-use lib.ListN.{length}
+use lib.ListN.{length, replicate}
 use Rattle.lists.specs.Ascii.{ascii}
 use Rattle.registers.specs.Registers.{join, tooWide}
 use Rattle.point_types.specs.Rows.{rows, rowAmong}
 use Rattle.values.specs.Classes.{twosComplement, integer, inRange, classOf, classified}
 use Rattle.values.specs.Decoding.{Decoded, signed, unsigned, unimplemented, outOfRange, numberOf, valueOf, decodable, decoded}
-use Rattle.values.specs.Encoding.{twosPattern}
 use Rattle.values.specs.Unscaled.{unscaled}
-use Rattle.display.specs.Amounts.{Amount, amountOf}
+use Rattle.display.specs.Amounts.{amountOf}
 use Rattle.display.specs.Decimals.{Decimal, text, decimalOf, lastDigits, digitCountWithin, unsignedText}
 use Rattle.display.specs.Equality.{Equality, equal, equality}
+use Rattle.display.specs.CodeTypes.{quantityAmount, decimalInto}
+use Rattle.display.specs.declared.Quantity.{Quantity}
 
--- What the document speaks of: a decoded value, a decimal text, a comparison.
-pub data Answer : Type 0 where
-  value : Decoded → Answer
-  shown : Decimal → Answer
-  compared : Equality → Answer
+-- What a case is about: a decoded value, a decimal text, a comparison.
+pub data Result : Type 0 where
+  value : Decoded → Result
+  shown : Decimal → Result
+  compared : Equality → Result
 
--- What the definitions give, and what the document says. A case is one such line or two.
+-- What the definitions give, and what the document says. A case has one such line or two.
 abbrev pub Line : Type 0
-Line = Answer × Answer
+Line = Result × Result
 
 abbrev pub Case : Type 0
 Case = List Line
@@ -48,18 +50,18 @@ float32 = 14
 
 -- The value of a type whose first registers are these two.
 abbrev decodes : ℕ → ℕ → ℕ → Decoded → Line
-decodes type first second answer = (value (decoded type (first ∷ second ∷ 0 ∷ 0 ∷ [])), value answer)
+decodes type first second result = (value (decoded type (first ∷ second ∷ 0 ∷ 0 ∷ [])), value result)
 
--- A number, here an int16, with its scale factor.
-abbrev quantity : ℤ → ℤ → Amount
-quantity n scale = amountOf int16 (twosPattern 16 n) scale
+-- The text of an int16 with a scale factor, both as registers, in a buffer of 32 bytes.
+abbrev reads : ℕ → ℕ → String → Line
+reads raw scale t = (shown (decimalInto int16 raw scale (replicate 32 0)), shown (text (ascii t)))
 
--- Its text in a buffer of 32 bytes.
-abbrev reads : ℤ → ℤ → String → Line
-reads n scale t = (shown (decimalOf int16 (twosPattern 16 n) scale 32), shown (text (ascii t)))
+-- An int16 with a scale factor, both as registers.
+abbrev quantity : ℕ → ℕ → Quantity
+quantity raw scale = record { «type_code» = int16; raw = raw; scale = scale }
 
-abbrev equals : Amount → Amount → Line
-equals a b = (compared (equality a b), compared equal)
+abbrev equals : Quantity → Quantity → Line
+equals a b = (compared (equality (quantityAmount a) (quantityAmount b)), compared equal)
 
 abbrev minus : ℕ → ℤ
 minus n = negℤ (pos n)
@@ -73,11 +75,11 @@ cases =
     ∷ (decodes bitfield16 0x8000 0 outOfRange ∷ [])
     ∷ (decodes sunssf 0xFFF6 0 (signed (minus 10)) ∷ decodes sunssf 0x000B 0 outOfRange ∷ [])
     ∷ (decodes float32 0x7FC0 0x0001 outOfRange ∷ [])
-    ∷ (reads (pos 230) (minus 1) "23.0" ∷ [])
-    ∷ (reads (minus 5) (minus 2) "-0.05" ∷ [])
-    ∷ (reads (pos 0) (minus 2) "0.00" ∷ [])
-    ∷ (reads (pos 15) (pos 2) "1500" ∷ [])
-    ∷ (equals (quantity (pos 230) (pos 0)) (quantity (pos 2300) (minus 1)) ∷ [])
+    ∷ (reads 230 0xFFFF "23.0" ∷ [])  -- scale −1
+    ∷ (reads 0xFFFB 0xFFFE "-0.05" ∷ [])  -- −5, scale −2
+    ∷ (reads 0 0xFFFE "0.00" ∷ [])  -- scale −2
+    ∷ (reads 15 2 "1500" ∷ [])
+    ∷ (equals (quantity 230 0) (quantity 2300 0xFFFF) ∷ [])  -- scales 0 and −1
     ∷ []
 
 pub there-are-twelve : length cases ≡ 12

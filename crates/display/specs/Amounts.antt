@@ -5,18 +5,18 @@ use lib.IntN.{ℤ, pos, negsuc, _*ℤ_}
 use Rattle.values.specs.Classes.{isScaleFactor}
 use Rattle.values.specs.Unscaled.{number, noValue, notScalable, unscaled}
 
--- An integer and a scale factor; or a refusal by its number (its place is 0, here and in the other answers).
+-- An integer and a scale factor; or a refusal by its number and place.
 pub data Amount : Type 0 where
   amount : (value scale : ℤ) → Amount
-  refused : ℕ → Amount
+  refused : (number place : ℕ) → Amount
 
--- 43: a type without s. 44: unimplemented, out of range or too wide. 45: a scale factor outside −10..10.
+-- 43: a type without s. 44: unimplemented, out of range or too wide. 45: a scale factor outside −10..10. All have place 0.
 unfoldable pub amountOf : ℕ → ℕ → ℤ → Amount
 amountOf code raw scale =
     elim (unscaled code raw) [
-      | notScalable ↦ refused 43
-      | noValue ↦ refused 44
-      | number value ↦ elim (isScaleFactor scale) [ true ↦ amount value scale | false ↦ refused 45 ]
+      | notScalable ↦ refused 43 0
+      | noValue ↦ refused 44 0
+      | number value ↦ elim (isScaleFactor scale) [ true ↦ amount value scale | false ↦ refused 45 0 ]
     ]
 
 -- A scale factor k from 0 on multiplies by 10 ^ k: it appends k zeros. (negsuc k is −(k + 1).)

@@ -1,4 +1,4 @@
--- What the code's types stand for: the answers of the public calls in document 01's terms.
+-- What the code's types stand for: the arguments and results of the public calls in document 01's terms.
 use mathlib.Core.List.{List, _++_}
 use Prim.Native.Nat.{ℕ, _-_, _≤_}
 use lib.IntN.{ℤ}
@@ -12,7 +12,7 @@ use Rattle.display.specs.declared.Digits.{Digits}
 use Rattle.display.specs.declared.Equality as declared
 use Rattle.display.specs.declared.Quantity.{Quantity}
 
--- The scale factor that a register holds.
+-- The scale factor in a register: two's complement.
 abbrev pub scaleFactor : ℕ → ℤ
 scaleFactor register = twosComplement 16 register
 
@@ -20,32 +20,32 @@ scaleFactor register = twosComplement 16 register
 abbrev pub quantityAmount : Quantity → Amounts.Amount
 quantityAmount q = Amounts.amountOf (q .«type_code») (q .raw) (scaleFactor (q .scale))
 
--- What `decimal` is asked for: its scale is a register, and the room is the buffer's.
+-- The text or refusal of a call of `decimal`: its scale factor is a register, and its capacity is the buffer's length.
 abbrev pub decimalInto : ℕ → ℕ → ℕ → List ℕ → Decimals.Decimal
 decimalInto code raw scale buffer = Decimals.decimalOf code raw (scaleFactor scale) (length buffer)
 
--- What it answers: the length of the text, or a refusal.
+-- The result of `decimal`: the length of the text, or a refusal by its number and place.
 pub data Length : Type 0 where
   bytes : ℕ → Length
-  refused : ℕ → Length
+  refused : (number place : ℕ) → Length
 
--- The length of what is asked for.
+-- The length of a text, or the refusal.
 abbrev pub lengthOf : Decimals.Decimal → Length
 lengthOf (Decimals.text t) = bytes (length t)
-lengthOf (Decimals.Decimal.refused n) = Length.refused n
+lengthOf (Decimals.Decimal.refused n place) = Length.refused n place
 
--- The answer of `decimal`.
+-- The code's result of `decimal`. A refusal is at place 0.
 abbrev pub toSpecDecimal : DecimalText → Length
 toSpecDecimal (DecimalText.Length n) = bytes n
-toSpecDecimal (DecimalText.Refused n) = Length.refused n
+toSpecDecimal (DecimalText.Refused n) = Length.refused n 0
 
--- The length that is answered is no more than the buffer's, so that a caller may cut the text out of the buffer. (What the buffer
--- holds is said by `stored`.)
+-- The returned length is at most the buffer's, so that a caller may cut the text out of the buffer. (`stored` says what the buffer
+-- contains.)
 abbrev pub LengthFits : List ℕ → DecimalText → Type 0
 LengthFits buffer (DecimalText.Length n) = n ≤ length buffer
 LengthFits buffer (DecimalText.Refused n) = Unit {0}
 
--- What `digits_of` gives: the digits, zeros behind them, and how many digits there are.
+-- The result of `digits_of`: the digits, followed by zero bytes, and the number of digits.
 abbrev pub toCodeDigits : ℕ → Digits
 toCodeDigits n =
     record {
@@ -53,8 +53,8 @@ toCodeDigits n =
       count = Decimals.digitCount n;
     }
 
--- The answer of `equal_quantities`.
+-- The result of `equal_quantities`. A refusal is at place 0.
 abbrev pub toSpecEquality : declared.Equality → Equality.Equality
 toSpecEquality declared.Equality.Equal = Equality.equal
 toSpecEquality declared.Equality.Different = Equality.different
-toSpecEquality (declared.Equality.Refused n) = Equality.Equality.refused n
+toSpecEquality (declared.Equality.Refused n) = Equality.Equality.refused n 0

@@ -8,7 +8,7 @@ use lib.ListN.{length, drop}
 use lib.Signed.{nonNeg}
 use Rattle.display.specs.Amounts.{Amount, amount, amountOf, zeros, places}
 
--- The bytes that a text is made of: the minus, the decimal point and the digits from 0 on.
+-- The bytes of a text: the minus, the decimal point and the digits (48 is 0).
 abbrev pub minusSign : ℕ
 minusSign = 45
 
@@ -27,13 +27,13 @@ unfoldable pub lastDigits : ℕ → ℕ → List ℕ
 lastDigits zero n = []
 lastDigits (suc k) n = digitAt n k ∷ lastDigits k n
 
--- The digits of n, counted: one if it is under ten, else one more than its tenth, rounded down. (The first number bounds the steps; n
--- of them are always enough: proofs/DigitCount.antt.)
+-- The number of digits of n: one if n is under ten, else one more than that of n / 10. (`steps` bounds the recursion; n steps are
+-- always enough: proofs/DigitCount.antt.)
 unfoldable pub digitCountWithin : ℕ → ℕ → ℕ
 digitCountWithin zero n = 1
 digitCountWithin (suc steps) n = elim (ltb n 10) [ true ↦ 1 | false ↦ suc (digitCountWithin steps (n / 10)) ]
 
--- How many digits n has.
+-- The number of digits of n.
 abbrev pub digitCount : ℕ → ℕ
 digitCount n = digitCountWithin n n
 
@@ -51,7 +51,7 @@ abbrev pub decimalPlaces : ℕ → ℕ → List ℕ
 decimalPlaces zero n = []
 decimalPlaces (suc k) n = decimalPoint ∷ lastDigits (suc k) n
 
--- n / 10 ^ places, exactly: its whole part, which has a digit even if it is 0, and so many places after the decimal point.
+-- n / 10 ^ places, exact: the whole part, which has a digit even if it is 0, and `places` digits after the decimal point.
 unfoldable pub unsignedText : ℕ → ℕ → List ℕ
 unsignedText n places = digitsOf (n / 10 ^ places) ++ decimalPlaces places n
 
@@ -59,20 +59,20 @@ unsignedText n places = digitsOf (n / 10 ^ places) ++ decimalPlaces places n
 abbrev pub decimalText : ℤ → ℤ → List ℕ
 decimalText value scale = sign (not (nonNeg value)) ++ unsignedText (natAbs value * 10 ^ zeros scale) (places scale)
 
--- What a buffer gets: a text, or nothing and a refusal.
+-- What a buffer gets: a text; or nothing, and a refusal by its number and place.
 pub data Decimal : Type 0 where
   text : List ℕ → Decimal
-  refused : ℕ → Decimal
+  refused : (number place : ℕ) → Decimal
 
--- 43–45 as for the amount; 46: the buffer has under 32 bytes.
+-- 43–45 as for the amount; 46: the buffer has under 32 bytes (place 0).
 unfoldable pub decimalOf : ℕ → ℕ → ℤ → ℕ → Decimal
 decimalOf code raw scale bufferLength =
     elim (amountOf code raw scale) [
-      | Amount.refused n ↦ Decimal.refused n
-      | amount value s ↦ elim (ltb bufferLength 32) [ true ↦ Decimal.refused 46 | false ↦ text (decimalText value s) ]
+      | Amount.refused n place ↦ Decimal.refused n place
+      | amount value s ↦ elim (ltb bufferLength 32) [ true ↦ Decimal.refused 46 0 | false ↦ text (decimalText value s) ]
     ]
 
 -- The buffer afterwards: the text at its start and the later bytes as they were; on a refusal all of it as it was.
 abbrev pub stored : Decimal → List ℕ → List ℕ
 stored (text t) buffer = t ++ drop (length t) buffer
-stored (Decimal.refused n) buffer = buffer
+stored (Decimal.refused n place) buffer = buffer

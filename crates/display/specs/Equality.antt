@@ -12,22 +12,22 @@ isSameInteger (pos a) (negsuc b) = false
 isSameInteger (negsuc a) (pos b) = false
 isSameInteger (negsuc a) (negsuc b) = eqb a b
 
--- Two fractions are the same number: cross-multiplied, over the integers.
+-- Are two fractions the same number? Cross-multiplied, over the integers.
 abbrev pub isSameFraction : Fraction → Fraction → Bool
 isSameFraction p q = isSameInteger (p .numerator *ℤ pos (q .denominator)) (q .numerator *ℤ pos (p .denominator))
 
--- The answers: yes, no, or a refusal.
+-- The results: yes, no, or a refusal by its number and place.
 pub data Equality : Type 0 where
   equal different : Equality
-  refused : ℕ → Equality
+  refused : (number place : ℕ) → Equality
 
--- Yes where a test is true.
+-- Yes if the test is true.
 abbrev pub equalIf : Bool → Equality
 equalIf true = equal
 equalIf false = different
 
--- The answer for two amounts: the first one's refusal, then the second's, else whether value × 10 ^ scale is equal.
+-- The result for two amounts: the refusal of the first, then that of the second, else whether value × 10 ^ scale is equal.
 unfoldable pub equality : Amount → Amount → Equality
-equality (Amount.refused n) b = Equality.refused n
-equality (amount value scale) (Amount.refused n) = Equality.refused n
+equality (Amount.refused n place) b = Equality.refused n place
+equality (amount value scale) (Amount.refused n place) = Equality.refused n place
 equality (amount v s) (amount w t) = equalIf (isSameFraction (fractionOf v s) (fractionOf w t))

@@ -1,4 +1,4 @@
--- Amounts as the code holds them, and what it stores: for the contracts of private functions only. No public call is stated by these.
+-- Internal: amounts by parts, as the code represents them, and stored texts; no public contract cites this file.
 use mathlib.Core.Path.{_≡_}
 use mathlib.Core.Bool.{Bool, not, _&&_, Bool·beq}
 use mathlib.Core.Logic.{_⊎_}
@@ -14,7 +14,7 @@ use Rattle.display.specs.Decimals.{sign, unsignedText}
 use Rattle.display.specs.declared.quantities.ScaledNumber.{ScaledNumber}
 use Rattle.display.specs.declared.quantities.Accepted.{Accepted}
 
--- An amount's sign, magnitude, and its scale factor as zeros or places. A zero is never negative.
+-- An amount's sign and magnitude, and its scale factor as zeros or places. Zero is never negative.
 abbrev pub toCodeParts : ℤ → ℤ → ScaledNumber
 toCodeParts value scale =
     record {
@@ -24,10 +24,10 @@ toCodeParts value scale =
       places = Amounts.places scale;
     }
 
--- What the code reads a quantity as: its amount or its refusal.
+-- What `accept` returns for an amount or a refusal. (The place is 0 in every refusal of a quantity.)
 abbrev pub toCodeAccepted : Amounts.Amount → Accepted
 toCodeAccepted (Amounts.amount value scale) = Accepted.Of (toCodeParts value scale)
-toCodeAccepted (Amounts.refused n) = Accepted.Refused n
+toCodeAccepted (Amounts.refused n place) = Accepted.Refused n
 
 -- At most ten zeros or ten places, and not both.
 pub record TenAtMost (zeros places : ℕ) : Type 0 where
@@ -39,13 +39,13 @@ pub record TenAtMost (zeros places : ℕ) : Type 0 where
 abbrev pub partsText : ScaledNumber → List ℕ
 partsText a = sign (a .negative) ++ unsignedText (a .magnitude * 10 ^ a .zeros) (a .places)
 
--- The same sign, and the same magnitude where each is multiplied by the other's denominator. (No zero is negative here: `toCodeParts`.)
+-- The same sign, and the same magnitude after each is multiplied by the other's denominator. (Zero is never negative: `toCodeParts`.)
 unfoldable pub isSameByParts : ScaledNumber → ScaledNumber → Bool
 isSameByParts a b =
     Bool·beq (a .negative) (b .negative)
     && eqb (a .magnitude * 10 ^ (a .zeros + b .places)) (b .magnitude * 10 ^ (b .zeros + a .places))
 
--- A text was stored at a position of a buffer, and the end is behind it.
+-- The text was stored in a buffer at `position`, and `end` is the position after it.
 pub record Put (before after : List ℕ) (position : ℕ) (text : List ℕ) (end : ℕ) : Type 0 where
   pub stored : after ≡ sets before position text
   pub ends : end ≡ position + length text

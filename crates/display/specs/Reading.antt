@@ -1,4 +1,4 @@
--- A decimal text read back as a number: what the law of exactness speaks of.
+-- Reading a decimal text back as a number: the claim of exactness is stated with this.
 use mathlib.Core.Bool.{Bool, true, false, _&&_}
 use mathlib.Core.List.{List, [], _∷_}
 use mathlib.Core.Option.{Option, none, some}
@@ -12,17 +12,17 @@ use Rattle.display.specs.Decimals.{minusSign, decimalPoint, digitZero}
 abbrev pub isDigit : ℕ → Bool
 isDigit byte = leb digitZero byte && leb byte (digitZero + 9)
 
--- A digit behind the others makes the number ten times larger and adds itself.
+-- The number n with one more digit appended: n × 10 plus the digit.
 abbrev pub withDigit : ℕ → ℕ → ℕ
 withDigit n byte = n * 10 + (byte - digitZero)
 
--- Digits behind the decimal point, from a numerator and a denominator on: each makes the denominator ten times larger too. None
--- where a byte is no digit.
+-- Reads the digits after the decimal point, with numerator n and denominator d so far: each digit is appended to n and multiplies d
+-- by 10. None if a byte is no digit.
 unfoldable pub readPlaces : ℕ → ℕ → List ℕ → Option (ℕ × ℕ)
 readPlaces n d [] = some (n, d)
 readPlaces n d (b ∷ bs) = elim (isDigit b) [ true ↦ readPlaces (withDigit n b) (d * 10) bs | false ↦ none ]
 
--- Digits before it, from a number on.
+-- Reads the digits before the decimal point, with the number n so far.
 unfoldable pub readWhole : ℕ → List ℕ → Option (ℕ × ℕ)
 readWhole n [] = some (n, 1)
 readWhole n (b ∷ bs) =
@@ -31,17 +31,17 @@ readWhole n (b ∷ bs) =
       | false ↦ elim (eqb b decimalPoint) [ true ↦ readPlaces n 1 bs | false ↦ none ]
     ]
 
--- A number without a sign begins with a digit.
+-- Reads a number without a sign. It begins with a digit.
 unfoldable pub readUnsigned : List ℕ → Option (ℕ × ℕ)
 readUnsigned [] = none
 readUnsigned (b ∷ bs) = elim (isDigit b) [ true ↦ readWhole 0 (b ∷ bs) | false ↦ none ]
 
--- The numerator with a sign.
+-- The fraction with a sign applied to its numerator.
 abbrev pub signed : (ℕ → ℤ) → Option (ℕ × ℕ) → Option Fraction
 signed sign none = none
 signed sign (some (n, d)) = some (record { numerator = sign n; denominator = d })
 
--- A minus first is the number's negation.
+-- Reads a number with or without a minus.
 unfoldable pub readDecimal : List ℕ → Option Fraction
 readDecimal [] = none
 readDecimal (b ∷ bs) =

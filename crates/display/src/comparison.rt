@@ -28,7 +28,7 @@ pub fn equal_quantities(a: Quantity, b: Quantity) -> Equality
     }
 }
 
-// The answer for quantities that are accepted.
+// The result for two quantities that are accepted.
 fn equal_if(same: bool) -> Equality
     ensures { λ r. ⌜ toSpecEquality r ≡ equalIf same ⌝ }
 {

@@ -15,11 +15,11 @@ use crate::quantities::Accepted;
 use crate::quantities::ScaledNumber;
 use crate::quantities::accept;
 
-// Every buffer must have room for so many bytes, whatever the text.
+// The least length of a buffer, whatever the text.
 const CAPACITY: usize = 32;
 
-// Writes value × 10 ^ scale, exact, at the start of `out`, and answers the length of the text. On a
-// refusal nothing is written.
+// Writes value × 10 ^ scale, exact, at the start of `out`, and returns the length of the text. On a refusal it
+// writes nothing.
 pub fn decimal(type_code: u16, raw: u64, scale: u16, out: &mut [u8]) -> DecimalText
     ensures { λ r. ⌜ toSpecDecimal r ≡ lengthOf (decimalInto «type_code» raw scale (now (out .entry))) ⌝ }
     ensures { λ _. ⌜ now (out .exit) ≡ stored (decimalInto «type_code» raw scale (now (out .entry))) (now (out .entry)) ⌝ }
@@ -41,7 +41,7 @@ pub fn decimal(type_code: u16, raw: u64, scale: u16, out: &mut [u8]) -> DecimalT
     }
 }
 
-// The digits of a number, without a leading zero; 0 is one digit.
+// The digits of n, without a leading zero; 0 is one digit.
 pub fn digits_of(n: u64) -> Digits
     ensures { λ r. ⌜ r ≡ toCodeDigits n ⌝ }
     ensures { λ r. ⌜ r .count ≤ length (r .bytes) ⌝ }
@@ -51,8 +51,8 @@ pub fn digits_of(n: u64) -> Digits
     Digits { bytes, count }
 }
 
-// The sign, the whole part and the places. Like each of the following it gives the position behind what
-// it stored.
+// The sign, the whole part and the places. Like each of the following functions it returns the position after
+// the bytes that it stored.
 fn put_amount(out: &mut [u8], amount: ScaledNumber) -> usize
     requires { ⌜ 32 ≤ length (now out) ⌝ }
     requires { ⌜ TenAtMost (amount .zeros) (amount .places) ⌝ }
@@ -66,7 +66,7 @@ fn put_amount(out: &mut [u8], amount: ScaledNumber) -> usize
     put_places(out, at, amount.magnitude, amount.places)
 }
 
-// A minus below 0.
+// A minus if the number is below 0.
 fn put_sign(out: &mut [u8], negative: bool) -> usize
     requires { ⌜ 1 ≤ length (now out) ⌝ }
     ensures { λ r. ⌜ Put (now (out .entry)) (now (out .exit)) 0 (sign negative) r ⌝ }
@@ -136,7 +136,7 @@ fn digit(n: u64, k: usize) -> u8
     b'0' + (n / power_of_ten(k) % 10) as u8
 }
 
-// How many digits n has.
+// The number of digits of n.
 fn digit_count(n: u64) -> usize
     ensures { λ r. ⌜ r ≡ digitCount n ⌝ }
     ensures { λ r. ⌜ r ≤ 20 ⌝ }

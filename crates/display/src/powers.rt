@@ -2,7 +2,7 @@
 ghost use mathlib.Core.Path.{_≡_};
 ghost use Prim.Native.Nat.{_^_, _<_};
 
-// How many powers of ten there are below 2 ^ 64.
+// The number of powers of ten below 2 ^ 64.
 pub(crate) const POWERS: usize = 20;
 
 const POWERS_OF_TEN: [u64; POWERS] = [
@@ -28,7 +28,7 @@ const POWERS_OF_TEN: [u64; POWERS] = [
     10_000_000_000_000_000_000,
 ];
 
-// 10 ^ k, for the powers that 64 bits hold.
+// 10 ^ k, for the powers that fit 64 bits.
 pub(crate) fn power_of_ten(k: usize) -> u64
     requires { ⌜ k < 20 ⌝ }
     ensures { λ r. ⌜ r ≡ 10 ^ k ⌝ }

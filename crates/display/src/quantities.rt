@@ -1,4 +1,4 @@
-// A quantity, read: its number and the power of ten that it is scaled by.
+// Reading a quantity: its number, and the power of ten that scales it.
 ghost use mathlib.Core.Path.{_≡_};
 ghost use mathlib.Core.Bool.{true};
 ghost use Rattle.values.specs.Classes.{isScaleFactor};
@@ -8,7 +8,7 @@ ghost use Rattle.display.specs.InternalParts.{toCodeAccepted};
 use crate::Quantity;
 use values::UnscaledValue;
 
-// A number by its sign and magnitude, times 10 ^ zeros or divided by 10 ^ places; one of these is 0.
+// A number by its sign and magnitude, times 10 ^ zeros and divided by 10 ^ places; `zeros` or `places` is 0.
 pub(crate) struct ScaledNumber {
     pub(crate) negative: bool,
     pub(crate) magnitude: u64,
@@ -16,13 +16,13 @@ pub(crate) struct ScaledNumber {
     pub(crate) places: usize,
 }
 
-// What a quantity is, or its refusal: 43 to 45.
+// A quantity as a scaled number, or its refusal: 43 to 45, at place 0.
 pub(crate) enum Accepted {
     Of(ScaledNumber),
     Refused { number: u16 },
 }
 
-// The amount of a quantity. The type is tried first, then the value, then the scale factor.
+// Accepts or refuses a quantity. The type is tested first, then the value, then the scale factor.
 pub(crate) fn accept(quantity: Quantity) -> Accepted
     ensures { λ r. ⌜ r ≡ toCodeAccepted (quantityAmount quantity) ⌝ }
 {
@@ -43,8 +43,8 @@ pub(crate) fn accept(quantity: Quantity) -> Accepted
     }
 }
 
-// The number with its scale factor: from 0 to 10 it is zeros to append, from -10 to -1 places after the
-// decimal point.
+// The number with its scale factor: 0 to 10 is the number of zeros to append, -10 to -1 that of the places
+// after the decimal point.
 fn scaled(negative: bool, magnitude: u64, scale: u16) -> ScaledNumber
     requires { ⌜ isScaleFactor (scaleFactor scale) ≡ true ⌝ }
     ensures { λ r. ⌜ (r .negative ≡ negative) × (r .magnitude ≡ magnitude) ⌝ }

@@ -1,4 +1,4 @@
--- The machine's count of ones and of trailing zeros are the number of the set positions and the lowest of them.
+-- The machine's count of ones is the number of set positions, and its count of trailing zeros is the lowest of them.
 use mathlib.Core.Path.{_≡_, refl, sym, ap, _∙_}
 use mathlib.Core.Bool.{Bool, true, false}
 use mathlib.Core.List.{List, [], _∷_, map}
@@ -10,11 +10,11 @@ use lib.Count.{ones, onesIn, trailingZeros, ones-step, under}
 use lib.ListN.{length}
 use Rattle.event_fields.specs.Events.{isSet, setAmong, firstOr}
 
--- Position p of the half is position p + 1.
+-- Position p of n / 2 is position p + 1 of n.
 half-at : (n p : ℕ) → n / 2 / 2 ^ p ≡ n / 2 ^ suc p
 half-at n p = rw (div-div-eq-div-mul, ← pow-succ' 2 p)
 
--- The set positions from the second on are those of the half, each one further.
+-- The set positions from first + 1 on are those of n / 2 from first on, each plus 1.
 from-half : (count first n : ℕ) → setAmong count (suc first) n ≡ map suc (setAmong count first (n / 2))
 unfolding setAmong
 from-half zero first n = refl
@@ -35,7 +35,7 @@ first-map-suc : (other : ℕ) (xs : List ℕ) → firstOr (suc other) (map suc x
 first-map-suc other [] = refl
 first-map-suc other (x ∷ xs) = refl
 
--- Position 0 is set where the number is odd.
+-- Position 0 is set if the number is odd.
 first-position : (count n : ℕ)
     → setAmong (suc count) 0 n ≡ elim (eqb (n % 2) 1) [ true ↦ 0 ∷ setAmong count 1 n | false ↦ setAmong count 1 n ]
 unfolding setAmong

@@ -6,41 +6,41 @@ use lib.Dec.{eqb}
 use lib.ListN.{length}
 use Rattle.values.specs.Classes.{isValue, classified}
 
--- Is the bit at a position set in a number?
+-- Is the bit of n at this position set?
 abbrev pub isSet : ℕ → ℕ → Bool
 isSet n position = eqb ((n / 2 ^ position) % 2) 1
 
--- The set positions of a number, lowest first, among so many from the first on.
+-- The set positions of n among `count` positions from `first` on, lowest first.
 unfoldable pub setAmong : ℕ → ℕ → ℕ → List ℕ
 setAmong zero first n = []
 setAmong (suc count) first n =
     elim (isSet n first) [ true ↦ first ∷ setAmong count (suc first) n | false ↦ setAmong count (suc first) n ]
 
--- The set positions of a raw value, which has 64 bits.
+-- The set positions of a raw value of 64 bits.
 abbrev pub setPositions : ℕ → List ℕ
 setPositions raw = setAmong 64 0 raw
 
--- The first number of a list (of positions it is the lowest), or another if the list is empty.
+-- The first number of a list, here the lowest position; or `other` if the list is empty.
 abbrev pub firstOr : ℕ → List ℕ → ℕ
 firstOr other [] = other
 firstOr other (x ∷ xs) = x
 
--- bitfield16 and bitfield32.
+-- Is it the code of a bitfield type: 5 (bitfield16) or 13 (bitfield32)?
 abbrev pub isBitfield : ℕ → Bool
 isBitfield code = eqb code 5 || eqb code 13
 
--- The answers: how many bits are set and the position of the lowest, 64 where there is none; or a refusal.
+-- The results: the number of bits that are set and the position of the lowest, 64 if there is none; or a refusal, by number and place.
 pub data EventBits : Type 0 where
   bits : (count lowest : ℕ) → EventBits
-  refused : ℕ → EventBits
+  refused : (number place : ℕ) → EventBits
 
--- 41: the type is not 5 or 13. 42: unimplemented, out of range or too wide.
+-- 41: the type is not 5 or 13. 42: unimplemented, out of range or too wide. Both have place 0.
 unfoldable pub eventBits : ℕ → ℕ → EventBits
 eventBits code raw =
     elim (isBitfield code) [
-      | false ↦ refused 41
+      | false ↦ refused 41 0
       | true ↦ elim (isValue (classified code raw)) [
         | true ↦ bits (length (setPositions raw)) (firstOr 64 (setPositions raw))
-        | false ↦ refused 42
+        | false ↦ refused 42 0
       ]
     ]

@@ -3,7 +3,7 @@ ghost use mathlib.Core.Path.{_≡_};
 ghost use Rattle.event_fields.specs.Events.{isBitfield, eventBits};
 ghost use Rattle.event_fields.specs.CodeTypes.{toSpecEventBits};
 
-// The number of bits that are set and the lowest set position, 64 if none. Refused: 41, 42.
+// The number of bits that are set and the lowest set position, 64 if none. Refused: 41 or 42, at place 0.
 pub enum EventBits {
     Of { count: u32, lowest: u32 },
     Refused { number: u16 },
@@ -25,7 +25,7 @@ pub fn event_bits(type_code: u16, raw: u64) -> EventBits
     }
 }
 
-// bitfield16 and bitfield32.
+// Is it the code of bitfield16 or bitfield32?
 fn is_bitfield(type_code: u16) -> bool
     ensures { λ r. ⌜ r ≡ isBitfield «type_code» ⌝ }
 {

@@ -1,4 +1,4 @@
--- The first of a list for which a test holds.
+-- Laws of `firstWith`: the first element of a list for which a test holds.
 use mathlib.Core.Path.{_≡_, refl, sym, _∙_}
 use mathlib.Core.Bool.{Bool, true, false}
 use mathlib.Core.List.{List, [], _∷_}
@@ -8,22 +8,22 @@ use Rattle.lists.specs.Each.{Each}
 use Rattle.lists.specs.Members.{In, first, later}
 use Rattle.lists.specs.Tests.{firstWith}
 
--- Nothing is not something.
+-- `none` is not `some x`: anything follows.
 pub not-none : {A B : Type 0} {x : B} → none ≡ some x → A
 not-none e = impossible (cc)
 
 module _ {A : Type 0} (test : A → Bool) where
-  -- Where the test holds of the first one,
+  -- The test holds for the first element: it is found.
   pub found-here : (x : A) (xs : List A) → test x ≡ true → firstWith test (x ∷ xs) ≡ some x
   unfolding firstWith
   found-here x xs e = rw (e, firstWith)
 
-  -- and where it does not.
+  -- The test fails for the first element: the search continues in the rest.
   pub found-later : (x : A) (xs : List A) → test x ≡ false → firstWith test (x ∷ xs) ≡ firstWith test xs
   unfolding firstWith
   found-later x xs e = rw (e, firstWith)
 
-  -- What is found is one of the list, and the test holds of it.
+  -- The element found is a member of the list, and the test holds for it.
   pub found-in : (xs : List A) (w : A) → firstWith test xs ≡ some w → In w xs × (test w ≡ true)
   unfolding firstWith
   found-in [] w e = not-none e
@@ -37,7 +37,7 @@ module _ {A : Type 0} (test : A → Bool) where
           let r = rest (sym (found-later x xs t) ∙ e) in
           (later (r .0), r .1)
 
-  -- Where nothing is found, the test holds of none.
+  -- If nothing is found, the test fails for each element.
   pub none-found : (xs : List A) → firstWith test xs ≡ none → Each (λ x. test x ≡ false) xs
   none-found [] e = tt
   none-found (x ∷ xs) e = go (test x) refl (none-found xs)

@@ -1,4 +1,4 @@
--- The members of a list.
+-- Laws of `In`: the members of a list.
 use mathlib.Core.Path.{_≡_}
 use mathlib.Core.List.{List, [], _∷_, _++_}
 use Rattle.lists.specs.Each.{Each}
@@ -7,7 +7,7 @@ use Rattle.lists.specs.Members.{In, first, later}
 use Rattle.lists.proofs.EachLaws.{each-implied}
 
 module _ {A : Type 0} (x : A) where
-  -- With others behind the list, or in front of it.
+  -- A member of one of two lists is a member of both appended.
   pub in-append-left : (xs ys : List A) → In x xs → In x (xs ++ ys)
   in-append-left (y ∷ xs) ys first = first
   in-append-left (y ∷ xs) ys (later i) = later (in-append-left xs ys i)
@@ -16,17 +16,17 @@ module _ {A : Type 0} (x : A) where
   in-append-right [] ys i = i
   in-append-right (y ∷ xs) ys i = later (in-append-right xs ys i)
 
-  -- One of two lists has it.
+  -- A member of two appended lists is a member of one of them.
   pub in-either : (xs ys : List A) {B : Type 0} → In x (xs ++ ys) → (In x xs → B) → (In x ys → B) → B
   in-either [] ys i f g = g i
   in-either (y ∷ xs) ys first f g = f first
   in-either (y ∷ xs) ys (later i) f g = in-either xs ys i (λ j. f (later j)) g
 
--- Each of a list is one of it.
+-- Each element of a list is a member of it.
 pub all-in : {A : Type 0} (xs : List A) → Each (λ y. In y xs) xs
 all-in [] = tt
 all-in (x ∷ xs) = (first, each-implied (λ y. In y xs) (λ y. In y (x ∷ xs)) (λ y i. later i) xs (all-in xs))
 
--- Nothing is in an empty list.
+-- An empty list has no members.
 pub not-in-none : {A B : Type 0} (x : A) (xs : List A) → xs ≡ [] → In x xs → B
 not-in-none x (y ∷ ys) e i = impossible (cc)

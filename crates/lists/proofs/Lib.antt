@@ -9,3 +9,4 @@ pub mod InLaws
 pub mod FirstFound
 pub mod SelectedLaws
 pub mod PairwiseLaws
+pub mod StoreLaws

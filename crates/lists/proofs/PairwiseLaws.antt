@@ -1,4 +1,4 @@
--- Lists that are related pair by pair.
+-- Laws of lists whose elements are related pair by pair.
 use mathlib.Core.Path.{_≡_, refl, sym, _∙_}
 use mathlib.Core.Bool.{Bool, true, false}
 use mathlib.Core.List.{List, [], _∷_, _++_, map}
@@ -11,26 +11,26 @@ use Rattle.lists.specs.Tests.{firstWith}
 use Rattle.lists.proofs.FirstFound.{not-none, found-here, found-later}
 
 module _ {A : Type 0} (R : A → A → Type 0) where
-  -- Pairs behind pairs.
+  -- Two such pairs of lists, appended.
   pub pairwise-append : (xs ys us vs : List A) → Pairwise R xs ys → Pairwise R us vs → Pairwise R (xs ++ us) (ys ++ vs)
   pairwise-append [] [] us vs p q = q
   pairwise-append [] (y ∷ ys) us vs p q = absurd p
   pairwise-append (x ∷ xs) [] us vs p q = absurd p
   pairwise-append (x ∷ xs) (y ∷ ys) us vs p q = (p .0, pairwise-append xs ys us vs (p .1) q)
 
-  -- A list with itself.
+  -- A list is related to itself if each of its elements is.
   pub pairwise-same : (xs : List A) → ((x : A) → In x xs → R x x) → Pairwise R xs xs
   pairwise-same [] f = tt
   pairwise-same (x ∷ xs) f = (f x first, pairwise-same xs (λ y i. f y (later i)))
 
-  -- As many on both sides.
+  -- Both lists have the same length.
   pub pairwise-length : (xs ys : List A) → Pairwise R xs ys → length ys ≡ length xs
   pairwise-length [] [] p = refl
   pairwise-length [] (y ∷ ys) p = absurd p
   pairwise-length (x ∷ xs) [] p = absurd p
   pairwise-length (x ∷ xs) (y ∷ ys) p = let e = pairwise-length xs ys (p .1) in omega arith
 
-  -- The pair at one position.
+  -- The elements at the same position are related.
   pub pairwise-at : (preceding preceding′ : List A) (x y : A) (following following′ : List A) → length preceding ≡ length preceding′
       → Pairwise R (preceding ++ x ∷ following) (preceding′ ++ y ∷ following′) → R x y
   pairwise-at [] [] x y following following′ e p = p .0
@@ -39,7 +39,7 @@ module _ {A : Type 0} (R : A → A → Type 0) where
   pairwise-at (f ∷ preceding) (g ∷ preceding′) x y following following′ e p =
       pairwise-at preceding preceding′ x y following following′ (omega arith) (p .1)
 
-  -- Where a test comes out the same on both sides of each pair, what it finds first is a pair.
+  -- If a test has the same outcome on related elements, the first elements that it finds are related.
   pub pairwise-found : (test : A → Bool) → ((x y : A) → R x y → test y ≡ test x) → (xs ys : List A) → Pairwise R xs ys
       → (w : A) → firstWith test xs ≡ some w → (s : A) × (firstWith test ys ≡ some s) × R w s
   unfolding firstWith
@@ -57,7 +57,7 @@ module _ {A : Type 0} (R : A → A → Type 0) where
           let r = rest (sym (found-later test x xs t) ∙ e) in
           (r .0, found-later test y ys (same x y (p .0) ∙ t) ∙ r .1, r .2)
 
-  -- What follows of each pair.
+  -- A relation that follows from R for each pair holds pair by pair.
   pub pairwise-implied : (Q : A → A → Type 0) (xs ys : List A) → ((x y : A) → In x xs → R x y → Q x y) → Pairwise R xs ys
       → Pairwise Q xs ys
   pairwise-implied Q [] [] f p = tt
@@ -65,7 +65,7 @@ module _ {A : Type 0} (R : A → A → Type 0) where
   pairwise-implied Q (x ∷ xs) [] f p = absurd p
   pairwise-implied Q (x ∷ xs) (y ∷ ys) f p = (f x y first (p .0), pairwise-implied Q xs ys (λ u v i. f u v (later i)) (p .1))
 
--- Pairs of what is made of pairs.
+-- The images of related elements are related.
 pub pairwise-map : {A B : Type 0} (R : A → A → Type 0) (Q : B → B → Type 0) (f g : A → B)
     → ((x y : A) → R x y → Q (f x) (g y)) → (xs ys : List A) → Pairwise R xs ys → Pairwise Q (map f xs) (map g ys)
 pairwise-map R Q f g h [] [] p = tt

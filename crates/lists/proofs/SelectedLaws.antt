@@ -1,4 +1,4 @@
--- The elements that a test selects.
+-- Laws of `selected`: the elements that a test selects.
 use mathlib.Core.Path.{_≡_, refl, sym, ap}
 use mathlib.Core.Bool.{Bool, true, false}
 use mathlib.Core.List.{List, [], _∷_, _++_, map}
@@ -10,7 +10,7 @@ use Rattle.lists.specs.Tests.{selected}
 use Rattle.lists.proofs.TestOutcomes.{clash, by-test}
 
 module _ {A : Type 0} (test : A → Bool) where
-  -- Of two lists.
+  -- The selection from two appended lists.
   pub selected-append : (xs ys : List A) → selected test (xs ++ ys) ≡ selected test xs ++ selected test ys
   unfolding selected
   selected-append [] ys = refl
@@ -22,7 +22,7 @@ module _ {A : Type 0} (test : A → Bool) where
       go true h = ap {B = List A} (λ zs. x ∷ zs) h
       go false h = h
 
-  -- All of them, or none.
+  -- All elements are selected, or none.
   pub selected-all : (xs : List A) → Each (λ x. test x ≡ true) xs → selected test xs ≡ xs
   unfolding selected
   selected-all [] e = refl
@@ -33,7 +33,7 @@ module _ {A : Type 0} (test : A → Bool) where
   selected-none [] e = refl
   selected-none (x ∷ xs) e = rw (e .0, selected) (selected-none xs (e .1))
 
-  -- No more than there were.
+  -- A selection is no longer than the list.
   pub selected-fewer : (xs : List A) → length (selected test xs) ≤ length xs
   unfolding selected
   selected-fewer [] = omega arith

@@ -16,12 +16,12 @@ pub neither : (a b : Bool) → (a || b ≡ false) ↔ ((a ≡ false) × (b ≡ f
 neither true b = (λ e. clash e, λ h. h .0)
 neither false b = (λ e. (refl, e), λ h. h .1)
 
--- Where one test holds, another does not.
+-- Two tests do not both hold: if the first holds, the second fails.
 pub excludes : (a b : Bool) → (a && b ≡ false) ↔ (a ≡ true → b ≡ false)
 excludes true b = (λ e t. e, λ h. h refl)
 excludes false b = (λ e t. clash (sym t), λ h. refl)
 
--- A clause of a rule is not broken: in its case, what it asks for holds.
+-- A clause "in this case, `asked` must hold" is not broken: if n is the case, `asked` holds.
 pub clause : (n case : ℕ) (asked : Bool) → (eqb n case && not asked ≡ false) ↔ (n ≡ case → asked ≡ true)
 clause n case asked =
     let x = excludes (eqb n case) (not asked) in

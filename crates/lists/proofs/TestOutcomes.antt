@@ -12,19 +12,19 @@ impossible e = absurd (omega arith)
 pub clash : {A : Type 0} → true ≡ false → A
 clash e = impossible (cc)
 
--- What holds of both outcomes of a test holds of the one that it picks.
+-- A fact about both branches of a test holds of the branch that it picks.
 pub by-test : {A : Type 0} (P : A → Type 0) (b : Bool) {x y : A} → (b ≡ true → P x) → (b ≡ false → P y)
     → P (elim b [ true ↦ x | false ↦ y ])
 by-test P true t f = t refl
 by-test P false t f = f refl
 
--- The same for two things that one test picks.
+-- The same for two branchings on one test.
 pub by-same-test : {A : Type 0} (P : A → A → Type 0) (b : Bool) {x y u v : A} → (b ≡ true → P x u) → (b ≡ false → P y v)
     → P (elim b [ true ↦ x | false ↦ y ]) (elim b [ true ↦ u | false ↦ v ])
 by-same-test P true t f = t refl
 by-same-test P false t f = f refl
 
--- Where two tests hold together, each holds.
+-- If two tests hold together, each of them holds.
 pub both : (a b : Bool) → a && b ≡ true → (a ≡ true) × (b ≡ true)
 both true b e = (refl, e)
 both false b e = clash (sym e)

@@ -1,4 +1,4 @@
--- A fact about each element of a list, and a relation between the elements of two lists.
+-- A fact about each element of a list, and a relation between the elements of two lists, position by position.
 use mathlib.Core.List.{List, [], _∷_}
 
 -- The fact holds of each element.

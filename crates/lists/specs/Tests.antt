@@ -9,7 +9,7 @@ abbrev pub oneHolds : List Bool → Bool
 oneHolds [] = false
 oneHolds (t ∷ ts) = t || oneHolds ts
 
--- The number of the first rule that is broken: of each rule, is it broken, and its number.
+-- The number of the first rule that is broken. A rule is given as its test (is it broken?) and its number.
 abbrev pub firstBroken : List (Bool × ℕ) → Option ℕ
 firstBroken [] = none
 firstBroken (r ∷ rs) = elim (r .0) [ true ↦ some (r .1) | false ↦ firstBroken rs ]
@@ -29,8 +29,8 @@ unfoldable pub selected : {A : Type 0} → (A → Bool) → List A → List A
 selected test [] = []
 selected test (x ∷ xs) = elim (test x) [ true ↦ x ∷ selected test xs | false ↦ selected test xs ]
 
--- What is left by a choice for each element: true keeps it, false removes it. Elements after the last choice stay, and choices
--- after the last element say nothing.
+-- The elements kept by a choice for each: true keeps it, false removes it. Elements after the last choice stay; choices after the
+-- last element have no effect.
 abbrev pub keptBy : {A : Type 0} → List Bool → List A → List A
 keptBy [] xs = xs
 keptBy (c ∷ cs) [] = []

@@ -1,4 +1,4 @@
--- One number put into a set or taken out of it, bit by bit; and the empty set.
+-- Laws of putting one number into a set and of taking it out, bit by bit; and of the empty set.
 use mathlib.Core.Path.{_≡_, refl, sym, ap, _∙_}
 use mathlib.Core.Logic.{_≢_}
 use mathlib.Core.Bool.{Bool, true, false}
@@ -16,11 +16,11 @@ use Rattle.number_sets.specs.NumberSets.{inSet, withNumber, withoutNumbe
 
 -- ---- Bits
 
--- The bits of a power of two: its own is set, and no other.
+-- The bits of 2 ^ b: bit b is set, and no other.
 own-bit : (b : ℕ) → 2 ^ b / 2 ^ b % 2 ≡ 1
 own-bit b = rw (div-self (pow-pos b))
 
--- Below its own: the power is a multiple of an even number.
+-- A bit below it is 0: 2 ^ (suc d + j) is an even multiple of 2 ^ j.
 lower-bit : (j d : ℕ) → 2 ^ (suc d + j) / 2 ^ j % 2 ≡ 0
 lower-bit j d = rw (pow-add 2 (suc d) j, shl-shr (2 ^ suc d) j, pow-suc 2 d) (mul-mod-left (2 ^ d) 2)
 
@@ -37,7 +37,7 @@ other-bit b j n = go (ltb j b) refl
         let less : b < j = omega (arith, h, n) in
         rw (div-eq-of-lt (pow-lt less))
 
--- A bit of "or" is set if it is set in one of the two.
+-- A bit of "or" is set if it is set in at least one of the two.
 either-bit : (w m j : ℕ) → bitOr w m / 2 ^ j % 2 ≡ max (w / 2 ^ j % 2) (m / 2 ^ j % 2)
 either-bit w m j =
     let u = w / 2 ^ j in
@@ -63,7 +63,7 @@ one-bit w m j =
     let e : bitXor u v % 2 ≡ differ (u % 2) (v % 2) = omega arith in
     rw (xor-shr w m j) e
 
--- A bit is cleared by setting it and then changing it.
+-- Setting a bit and then flipping it clears it.
 cleared : (x : ℕ) → x < 2 → differ (max x 1) 1 ≡ 0
 cleared zero h = refl
 cleared (suc zero) h = refl
@@ -111,7 +111,7 @@ module _ (words : List ℕ) (m : ℕ) (u : m < 65536) where
           let other : n ≡ m → ⊥ = λ q. apart (ap (λ (k : ℕ). k % 64) q) in
           rw (ne-eqb n m other, p, here, others (n % 64) apart)
 
-  -- One number put in, and one taken out.
+  -- Putting m in, and taking m out, marks m and no other number.
   pub marks-with : Marks words (withNumber words m) (λ n. eqb n m) true
   unfolding withNumber
   marks-with =

@@ -24,7 +24,7 @@ withoutNumber words n =
 abbrev pub marked : List ℕ → ℕ → Bool → List ℕ
 marked words n present = elim present [ true ↦ withNumber words n | false ↦ withoutNumber words n ]
 
--- A set before and after the numbers for which `such` holds are put in (`present`) or taken out. The others stay as they are.
+-- A set before and after the numbers for which `such` holds are put in (`present` is true) or taken out (false). The others stay.
 pub record Marks (before after : List ℕ) (such : ℕ → Bool) (present : Bool) : Type 0 where
   pub words : length after ≡ length before
   pub has : length before ≡ 1024 → (n : ℕ) → n < 65536

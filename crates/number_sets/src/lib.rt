@@ -3,7 +3,7 @@ ghost use mathlib.Core.Path.{_≡_};
 ghost use lib.Dec.{eqb};
 ghost use Rattle.number_sets.specs.NumberSets.{inSet, withNumber, withoutNumber, marked, Marks};
 
-// The words of a set.
+// The number of words of a set.
 pub const SET_WORDS: usize = 1024;
 
 // Is the number in the set?

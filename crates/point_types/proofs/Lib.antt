@@ -1,2 +1,3 @@
 -- Laws of the table, and what the proof of `row_of` cites
 pub mod Table
+pub mod SizeVectors

@@ -1,9 +1,9 @@
--- Laws of the table of type rows: look-up, and what holds of each of its rows, computed once over the whole table.
+-- Laws of the table of type rows: look-up, and facts about each row, computed once over the whole table.
 use mathlib.Core.Path.{_≡_, refl, sym, ap, subst, _∙_}
 use mathlib.Core.Bool.{Bool, true, false, not, _&&_, _||_}
 use mathlib.Core.List.{List, [], _∷_}
 use mathlib.Core.Option.{none, some}
-use Prim.Native.Nat.{ℕ, zero, suc, _+_, _-_, _*_, _^_, _≤_, _<_}
+use Prim.Native.Nat.{ℕ, zero, suc, _+_, _-_, _≤_, _<_}
 use native.Mathlib.Nat.{add-zero, add-suc, suc-add}
 use native.Mathlib.Omega.{arith}
 use borrow.Author.Tests.{eqb-true, le-leb, eq-eqb, ne-eqb}
@@ -13,9 +13,9 @@ use lib.ListN.{length, getD}
 use lib.Ieee.Fits.{and-l, and-r}
 use Rattle.lists.specs.Tests.{every}
 use Rattle.lists.proofs.TestOutcomes.{impossible}
-use Rattle.point_types.specs.Rows.{TypeRow, Kind, signed, unsigned, float, Unimplemented, never, pattern, Range, whole, between, notNaN, rows, rowAmong, rowOf, Listed}
+use Rattle.point_types.specs.Rows.{TypeRow, Kind, signed, unsigned, float, Range, whole, between, notNaN, rows, rowAmong, rowOf, Listed}
 
--- The row found is one of the list, with the code looked for.
+-- The row found has the search code, and passes a test that every row of the list passes.
 found-among : (test : TypeRow → Bool) (rs : List TypeRow) (c : ℕ) (r : TypeRow) → T (every test rs) → rowAmong rs c ≡ some r
     → (c ≡ r .code) × T (test r)
 unfolding rowAmong
@@ -30,11 +30,11 @@ found-among test (x ∷ rs) c r t e =
         (eqb-true c (x .code) b ∙ ap (λ (y : TypeRow). y .code) s, subst (λ (y : TypeRow). T (test y)) s (and-l (test x) (every test rs) t))
     go false b q ih = ih q
 
--- A test that passes at each row of the table passes at a row that is found there.
+-- A test that every row of the table passes is passed by a row found there.
 found : (test : TypeRow → Bool) → T (every test rows) → (c : ℕ) (r : TypeRow) → rowOf c ≡ some r → (c ≡ r .code) × T (test r)
 found test t c r e = found-among test rows c r t e
 
--- The row that a code finds has that code, and is a row of the table.
+-- The row found for a code has that code, and is a row of the table.
 pub own-code : (c : ℕ) (r : TypeRow) → rowOf c ≡ some r → c ≡ r .code
 unfolding rows
 own-code c r e = found (λ x. true) tt c r e .0
@@ -42,7 +42,7 @@ own-code c r e = found (λ x. true) tt c r e .0
 pub listed : (c : ℕ) (r : TypeRow) → rowOf c ≡ some r → Listed r
 listed c r e = sym (ap rowOf (own-code c r e)) ∙ e
 
--- The rows of a list carry the codes from c on, in order.
+-- Do the rows of a list have the codes c, c + 1, … in order?
 abbrev numbered : ℕ → List TypeRow → Bool
 numbered c [] = true
 numbered c (r ∷ rs) = eqb (r .code) c && numbered (suc c) rs
@@ -81,7 +81,7 @@ pub no-row-outside : (c : ℕ) → (1 ≤ c → c ≤ 20 → ⊥) → rowOf c �
 unfolding rows
 no-row-outside c n = none-outside rows c tt n
 
--- ---- What holds of each row
+-- ---- Facts about each row
 
 -- Codes count from 1.
 pub from-one : (c : ℕ) (r : TypeRow) → rowOf c ≡ some r → 1 ≤ c
@@ -141,7 +141,7 @@ module _ (r : TypeRow) (l : Listed r) where
       go (between low high) e t = absurd t
       go notNaN e t = (eqb→eq (r .most) 2 t, e)
 
--- A range that begins below 0 is a signed type's of one register, and a range that begins at 0 or above is no signed type's.
+-- A type whose range begins below 0 is signed and has one register; a type whose range begins at 0 or above is not signed.
 abbrev rangeTest : Range → Kind → ℕ → Bool
 rangeTest whole k m = true
 rangeTest notNaN k m = true
@@ -168,17 +168,19 @@ module _ (r : TypeRow) (l : Listed r) where
       go unsigned q t = absurd t
       go float q t = absurd t
 
--- A signed type without a narrower range is unimplemented at its least pattern, and only a float's range is that of a float.
-abbrev pub edgeTest : Range → Kind → Unimplemented → ℕ → Bool
-edgeTest (between low high) k m width = true
-edgeTest whole signed never width = false
-edgeTest whole signed (pattern p) width = eqb p (2 ^ (width - 1))
-edgeTest whole unsigned m width = true
-edgeTest whole float m width = true
-edgeTest notNaN signed m width = false
-edgeTest notNaN unsigned m width = false
-edgeTest notNaN float m width = true
+-- Only a float type has the range of floats.
+abbrev floatTest : Range → Kind → Bool
+floatTest whole k = true
+floatTest (between low high) k = true
+floatTest notNaN signed = false
+floatTest notNaN unsigned = false
+floatTest notNaN float = true
 
-pub edges : (r : TypeRow) → Listed r → T (edgeTest (r .range) (r .kind) (r .unimplemented) (16 * r .most))
+pub only-float : (r : TypeRow) → Listed r → r .range ≡ notNaN → r .kind ≡ float
 unfolding rows
-edges r l = found (λ x. edgeTest (x .range) (x .kind) (x .unimplemented) (16 * x .most)) tt (r .code) r l .1
+only-float r l e = go (r .kind) refl (rw e at (found (λ x. floatTest (x .range) (x .kind)) tt (r .code) r l .1))
+  where
+    go : (k : Kind) → r .kind ≡ k → T (floatTest notNaN k) → r .kind ≡ float
+    go signed q t = absurd t
+    go unsigned q t = absurd t
+    go float q t = q

@@ -1,4 +1,4 @@
--- What the code's types stand for: the code's rows as the table's, and the answers of the public calls.
+-- What the code's types stand for: the code's rows as the table's rows, and the results of the public calls.
 use mathlib.Core.Option.{Option, none, some}
 use Prim.Native.Nat.{ℕ}
 use lib.IntN.{pos, negℤ}
@@ -10,7 +10,7 @@ use Rattle.point_types.specs.declared.TypeRow.{TypeRow}
 use Rattle.point_types.specs.declared.Found.{Found}
 use Rattle.point_types.specs.declared.RegisterCount.{RegisterCount}
 
--- The parts of a row, and a row.
+-- The parts of a row, a row, and the result of `row_of`.
 abbrev pub toSpecKind : Kind → Rows.Kind
 toSpecKind Kind.Signed = Rows.signed
 toSpecKind Kind.Unsigned = Rows.unsigned
@@ -43,7 +43,7 @@ abbrev pub toSpecFound : Found → Option Rows.TypeRow
 toSpecFound (Found.Row r) = some (toSpecRow r)
 toSpecFound Found.Nothing = none
 
--- The answer of `register_count`.
+-- The result of `register_count`.
 abbrev pub toSpecCount : RegisterCount → Option (ℕ × ℕ)
 toSpecCount (RegisterCount.Between fewest most) = some (fewest, most)
 toSpecCount RegisterCount.UnknownType = none

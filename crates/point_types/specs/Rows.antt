@@ -1,4 +1,4 @@
--- The type rows of document 01, "The value rows": one table. All that is known of a type is read from its row.
+-- The type rows of document 01, "The value rows": one table. Everything about a type is read from its row.
 use mathlib.Core.Path.{_≡_}
 use mathlib.Core.Bool.{Bool, true, false}
 use mathlib.Core.List.{List, [], _∷_}
@@ -7,8 +7,8 @@ use Prim.Native.Nat.{ℕ}
 use lib.Dec.{eqb}
 use lib.IntN.{ℤ, pos, negℤ}
 
--- How the bits of a value are read: signed by document 01's list (codes 1, 8, 9, 16), float32 as IEEE 754's binary32, all others
--- unsigned.
+-- How the bits of a value are read: as signed (document 01's list: codes 1, 8, 9, 16), as binary32 of IEEE 754 (float32), or as
+-- unsigned (all others).
 pub data Kind : Type 0 where
   signed unsigned float : Kind
 
@@ -17,8 +17,8 @@ pub data Unimplemented : Type 0 where
   never : Unimplemented
   pattern : ℕ → Unimplemented
 
--- The values in range, where document 01 names what is out of it: all of them, the integers from the first to the second, or
--- all floats but NaN.
+-- The values in range: all of them, the integers from the first to the second, or all floats but NaN. (Document 01 names those out
+-- of range.)
 pub data Range : Type 0 where
   whole : Range
   between : ℤ → ℤ → Range
@@ -34,14 +34,14 @@ pub record TypeRow : Type 0 where
   pub unimplemented : Unimplemented
   pub range : Range
 
--- Document 01's s: a point of the type may carry a scale factor, or may not.
+-- Document 01's "s": a point of the type may carry a scale factor, or may not.
 abbrev withScale : Bool
 withScale = true
 
 abbrev noScale : Bool
 noScale = false
 
--- A row, written on one line: code, fewest and most registers, may it carry a scale factor, kind, unimplemented, range.
+-- A row on one line: code, fewest and most registers, may it carry a scale factor, kind, unimplemented, range.
 abbrev pub row : ℕ → ℕ → ℕ → Bool → Kind → Unimplemented → Range → TypeRow
 row c f m s k u r =
     record { code = c; fewest = f; most = m; scalable = s; kind = k; unimplemented = u; range = r }
@@ -75,12 +75,12 @@ rows =
     ∷ row 20 8 8 noScale unsigned (pattern 0) whole  -- ipv6addr
     ∷ []
 
--- The first row of a list with a type code, or none.
+-- The first row of a list that has the type code c, or none.
 unfoldable pub rowAmong : List TypeRow → ℕ → Option TypeRow
 rowAmong [] c = none
 rowAmong (r ∷ rs) c = elim (eqb c (r .code)) [ true ↦ some r | false ↦ rowAmong rs c ]
 
--- The row of a type code; none where the type is unknown.
+-- The row of a type code; none if the type is unknown.
 abbrev pub rowOf : ℕ → Option TypeRow
 rowOf c = rowAmong rows c
 
@@ -92,6 +92,6 @@ Listed r = rowOf (r .code) ≡ some r
 unfoldable pub mayScale : ℕ → Bool
 mayScale c = elim (rowOf c) [ none ↦ false | some r ↦ r .scalable ]
 
--- The fewest and the most registers of a point of this type; none where the type is unknown.
+-- The fewest and the most registers of a point of this type; none if the type is unknown.
 unfoldable pub registersOf : ℕ → Option (ℕ × ℕ)
 registersOf c = elim (rowOf c) [ none ↦ none | some r ↦ some (r .fewest, r .most) ]

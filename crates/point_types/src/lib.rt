@@ -1,5 +1,4 @@
-// The point types: their rows as the code holds them, in one table, proved to be that of specs/Rows.antt, and what is
-// looked up there.
+// The point types: the code's table of rows, proved to be that of specs/Rows.antt, and what is looked up in it.
 // Every public call takes any arguments and carries an equation with the definitions of specs/.
 ghost use mathlib.Core.Path.{_≡_};
 ghost use mathlib.Core.Option.{some};
@@ -23,7 +22,7 @@ pub enum Kind {
     Float,
 }
 
-// The pattern that says that a point is not implemented.
+// The pattern that marks a point as unimplemented, if there is one.
 pub enum Unimplemented {
     Never,
     At(u64),
@@ -38,7 +37,7 @@ pub enum Range {
     NotNan,
 }
 
-// A type row. Its code is for the proofs: they say by it that a row is one of the table.
+// A type row. Its code is there for the proofs: by it they state that the row is one of the table.
 pub struct TypeRow {
     pub code: u16,
     pub fewest: u16,
@@ -49,13 +48,13 @@ pub struct TypeRow {
     pub range: Range,
 }
 
-// What looking a type code up finds.
+// The result of looking up a type code.
 pub enum Found {
     Row(TypeRow),
     Nothing,
 }
 
-// How many registers a point of a type takes: from fewest to most.
+// The number of registers of a point of a type: from fewest to most.
 pub enum RegisterCount {
     Between { fewest: u16, most: u16 },
     UnknownType,
@@ -90,8 +89,8 @@ pub fn row_of(type_code: u16) -> Found
     }
 }
 
-// A row as the table writes it, on one line: code, fewest and most registers, may it carry a scale
-// factor, kind, unimplemented pattern, range.
+// A row of the table on one line: code, fewest and most registers, may it carry a scale factor, kind,
+// unimplemented pattern, range.
 fn row_found(
     code: u16,
     fewest: u16,
@@ -114,7 +113,7 @@ fn row_found(
     })
 }
 
-// How many registers a point of this type takes.
+// The number of registers of a point of this type.
 pub fn register_count(type_code: u16) -> RegisterCount
     ensures { λ r. ⌜ toSpecCount r ≡ registersOf «type_code» ⌝ }
 {

@@ -12,7 +12,7 @@ use lib.ListN.{length, getD, take, drop, length-drop, drop-of-length-le}
 use lib.Seq.{drop-cons, length-take-le}
 use Rattle.registers.specs.Registers.{join, shownRaw, tooWide}
 
--- One more register below those joined.
+-- Joining one more register below the others.
 pub lower-register : (raw p r j : ℕ) → raw * (p * 65536) + (r * p + j) ≡ (raw * 65536 + r) * p + j
 lower-register raw p r j =
     let e : raw * (p * 65536) ≡ raw * 65536 * p = ap (λ (x : ℕ). raw * x) (mul-comm p 65536) ∙ sym (mul-assoc raw 65536 p) in
@@ -22,7 +22,7 @@ pub join-cons : (r : ℕ) (rs : List ℕ) → join (r ∷ rs) ≡ r * 65536 ^ le
 unfolding join
 join-cons r rs = refl
 
--- A turn of the loop: the highest of the registers left goes over to those joined.
+-- A step of the loop: it joins the highest of the registers left.
 pub join-step : (rs : List ℕ) (left raw : ℕ) → 0 < left → left ≤ length rs
     → raw * 65536 ^ left + join (drop (length rs - left) rs)
     ≡ (raw * 65536 + getD rs (length rs - left) 0) * 65536 ^ (left - 1) + join (drop (length rs - (left - 1)) rs)
@@ -39,26 +39,26 @@ join-step rs left raw h l =
     (ap (λ (p : ℕ). raw * 65536 ^ p + (r * 65536 ^ k + join rest)) n) in
     e ∙ rw next (lower-register raw (65536 ^ k) r (join rest))
 
--- All are left.
+-- At the start of the loop all registers are left.
 pub join-start : (rs : List ℕ) → 0 * 65536 ^ length rs + join (drop (length rs - length rs) rs) ≡ join rs
 join-start rs =
     let e : length rs - length rs ≡ 0 = omega arith in
     rw (e, zero-mul (65536 ^ length rs), zero-add (join rs))
 
--- None is left.
+-- At the end of the loop none is left.
 pub join-end : (rs : List ℕ) (raw : ℕ) → raw * 65536 ^ 0 + join (drop (length rs - 0) rs) ≡ raw
 unfolding join
 join-end rs raw = rw (drop-of-length-le rs {i = length rs - 0} (omega arith)) (omega arith)
 
--- What k registers hold is below 65536 ^ k, and with one more register still is.
+-- The raw value of k registers is below 65536 ^ k, and so it is with one more register.
 pub one-more : (k raw r : ℕ) → raw < 65536 ^ k → r < 65536 → raw * 65536 + r < 65536 ^ suc k
 one-more k raw r h l = rw (pow-suc 65536 k) (omega (arith, mul-le-mul-right 65536 h))
 
--- Up to three registers leave room for a fourth in 64 bits.
+-- After up to three registers, 64 bits have capacity for a fourth.
 pub capacity : (k raw : ℕ) → k < 4 → raw < 65536 ^ k → raw < 281474976710656
 capacity k raw h l = omega (arith, pow-le-pow-right {n = 65536} (omega arith) {i = k} {j = 3} (omega arith))
 
--- Any power of 65536 is positive, and k registers have 16 bits each.
+-- A power of 65536 is positive, and k registers have 16 × k bits.
 pub positive : (k : ℕ) → 0 < 65536 ^ k
 positive zero = omega arith
 positive (suc k) = rw (pow-suc 65536 k) (omega (arith, positive k))
@@ -73,16 +73,16 @@ pub shown : (rs : List ℕ) → length rs ≤ 4 → shownRaw rs ≡ join rs
 unfolding shownRaw
 shown rs h = simp (shownRaw, le-leb _ _ h)
 
--- More than four are shown as 0.
+-- The raw value of more than four registers is shown as 0.
 pub not-shown : (rs : List ℕ) → 4 < length rs → shownRaw rs ≡ 0
 unfolding shownRaw
 not-shown rs h = simp (shownRaw, lt-leb _ _ h)
 
--- The first k registers of k or more hold a pattern of k registers.
+-- The raw value of the first k registers is a pattern of k registers.
 pub first-fit : (rs : List ℕ) (k raw : ℕ) → k ≤ length rs → raw < 65536 ^ length (take k rs) → raw < 2 ^ (16 * k)
 first-fit rs k raw h l = rw (← sixteen-each k) (rw (length-take-le k rs h) at l)
 
--- The largest pattern of so many registers in 64 bits: what is above it is too wide, and up to four registers it is all ones.
+-- The largest pattern of `count` registers in 64 bits: a raw value above it is too wide; up to four registers it is all ones.
 pub above-ones : (count raw : ℕ) → raw < 2 ^ 64 → ltb (min (2 ^ (16 * count)) (2 ^ 64) - 1) raw ≡ tooWide count raw
 unfolding tooWide
 above-ones count raw h = go (decLe (2 ^ (16 * count)) raw)

@@ -1,4 +1,4 @@
--- Laws of a part of registers: it is registers again; how many a part takes from a place on; whether they are all 0.
+-- Laws of a part of a list of registers: its elements are registers, how long it is, and when they are all 0.
 use mathlib.Core.Path.{_≡_, refl, sym, _∙_}
 use mathlib.Core.Bool.{Bool, true, false, _&&_}
 use mathlib.Core.List.{List, [], _∷_}
@@ -13,18 +13,18 @@ use Rattle.lists.proofs.EachLaws.{each-take, each-drop}
 use Rattle.registers.specs.Registers.{AreRegisters, join, allZero}
 use Rattle.registers.proofs.Joining.{positive}
 
--- The first k of registers, and those after them, are registers.
+-- The first k registers, and those after them, are registers.
 pub first-registers : (k : ℕ) (rs : List ℕ) → AreRegisters rs → AreRegisters (take k rs)
 first-registers = each-take (λ r. r < 65536)
 
 pub later-registers : (k : ℕ) (rs : List ℕ) → AreRegisters rs → AreRegisters (drop k rs)
 later-registers = each-drop (λ r. r < 65536)
 
--- Behind the end nothing is taken.
+-- A part from the end on is empty.
 pub part-past-end : (rs : List ℕ) (start count : ℕ) → length rs ≤ start → [] ≡ take count (drop start rs)
 part-past-end rs start count h = rw (drop-of-length-le rs {i = start} h) (sym (take-nil count))
 
--- Where no more is left than is asked for, all of it is taken.
+-- If at most `count` registers are left, the part takes all of them.
 pub part-rest : (rs : List ℕ) (start count : ℕ) → length rs - start ≤ count
     → take (length rs - start) (drop start rs) ≡ take count (drop start rs)
 part-rest rs start count h =

@@ -1,4 +1,4 @@
--- Registers stored in a list: what is read back of them, and what they leave as it was.
+-- A run of values stored in a list: what is read back, and what stays as it was.
 use mathlib.Core.Path.{_≡_, refl, sym, ap, _∙_}
 use mathlib.Core.List.{List, [], _∷_, _++_, append-assoc}
 use mathlib.Core.Logic.{_⊎_, inl, inr, ⊎-elim}
@@ -22,13 +22,13 @@ module _ {A : Type 0} where
       ap (take size) (drop-append-le a xs ys (omega arith))
       ∙ take-append-le size (drop a xs) ys (omega (arith, length-drop a xs))
 
-  -- One stored behind a front,
+  -- Storing one value after the first list,
   set-append-right : (xs ys : List A) (i : ℕ) (a : A) → set (xs ++ ys) (length xs + i) a ≡ xs ++ set ys i a
   set-append-right [] ys i a = ap (λ k. set ys k a) (zero-add i)
   set-append-right (x ∷ xs) ys i a =
       ap (λ k. set (x ∷ (xs ++ ys)) k a) (suc-add (length xs) i) ∙ ap (λ zs. x ∷ zs) (set-append-right xs ys i a)
 
-  -- and a run.
+  -- and storing a run there.
   pub sets-append-right : (vs xs ys : List A) (i : ℕ) → sets (xs ++ ys) (length xs + i) vs ≡ xs ++ sets ys i vs
   sets-append-right [] xs ys i = refl
   sets-append-right (v ∷ vs) xs ys i =
@@ -37,7 +37,7 @@ module _ {A : Type 0} where
       ∙ ap (λ k. sets (xs ++ set ys i v) k vs) next
       ∙ sets-append-right vs xs (set ys i v) (suc i)
 
-  -- A run stored within a front.
+  -- Storing a run within the first list.
   pub sets-within : (vs xs ys : List A) (i : ℕ) → i + length vs ≤ length xs → sets (xs ++ ys) i vs ≡ sets xs i vs ++ ys
   sets-within [] xs ys i h = refl
   sets-within (v ∷ vs) xs ys i h =
@@ -48,7 +48,7 @@ module _ {A : Type 0} where
 -- ---- A run stored in a list
 
 module _ {A : Type 0} (l : List A) (at : ℕ) (vs : List A) where
-  -- What lies before or behind it is as it was.
+  -- Elements before or after the run stay.
   pub stored-outside : (k : ℕ) (d : A) → (k < at) ⊎ (at + length vs ≤ k) → getD (sets l at vs) k d ≡ getD l k d
   stored-outside = go vs l at
     where
@@ -64,15 +64,15 @@ module _ {A : Type 0} (l : List A) (at : ℕ) (vs : List A) where
     abbrev after : List A
     after = sets l at vs
 
-    -- It is what is before the run, the run, and what is behind it.
+    -- It consists of the part before the run, the run, and the part after it.
     parts : after ≡ take at l ++ (vs ++ drop (at + length vs) l)
     parts = sets-eq vs l at inside ∙ append-assoc (take at l) vs (drop (at + length vs) l)
 
-    -- As many are before the run as its place says.
+    -- The part before the run has `at` elements.
     preceding : length (take at l) ≡ at
     preceding = length-take-le at l (omega arith)
 
-    -- From the run on.
+    -- The list from the run on.
     from-run : drop at after ≡ vs ++ drop (at + length vs) l
     from-run = rw parts (drop-at (take at l) (vs ++ drop (at + length vs) l) at preceding)
 
@@ -80,7 +80,7 @@ module _ {A : Type 0} (l : List A) (at : ℕ) (vs : List A) where
     pub run-stored : take (length vs) (drop at after) ≡ vs
     run-stored = rw from-run (take-at vs (drop (at + length vs) l) (length vs) refl)
 
-    -- So is its first.
+    -- Its first element is read back.
     pub first-stored : (d : A) → 1 ≤ length vs → getD after at d ≡ getD vs 0 d
     first-stored d some =
         ap (λ (i : ℕ). getD after i d) (sym (add-zero at))
@@ -88,14 +88,14 @@ module _ {A : Type 0} (l : List A) (at : ℕ) (vs : List A) where
         ∙ sym (getD-take (length vs) (drop at after) 0 d (omega arith))
         ∙ ap (λ (xs : List A). getD xs 0 d) run-stored
 
-    -- From behind the run on.
+    -- The list after the run.
     from-after : drop (at + length vs) after ≡ drop (at + length vs) l
     from-after =
         sym (drop-drop (length vs) at after)
         ∙ ap (drop (length vs)) from-run
         ∙ drop-at vs (drop (at + length vs) l) (length vs) refl
 
-    -- A part before or behind the run stays.
+    -- A part before or after the run stays.
     pub part-stays : (a size : ℕ) → (a + size ≤ at) ⊎ (at + length vs ≤ a) → take size (drop a after) ≡ take size (drop a l)
     part-stays a size (inr following) =
         let e : at + length vs + (a - (at + length vs)) ≡ a = omega arith in
@@ -112,7 +112,7 @@ module _ {A : Type 0} (l : List A) (at : ℕ) (vs : List A) where
         ∙ sym (part-of-first T (drop at l) a size capacity)
         ∙ ap (λ (xs : List A). take size (drop a xs)) (take-append-drop at l)
 
--- What is stored where it was changes nothing.
+-- Storing a part where it already is changes nothing.
 stored-same : {A : Type 0} (l : List A) (at n : ℕ) → at + n ≤ length l → sets l at (take n (drop at l)) ≡ l
 stored-same l at n h =
     let part = take n (drop at l) in

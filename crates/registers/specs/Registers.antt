@@ -1,4 +1,4 @@
--- Registers and the raw number that they hold (document 01, "The value rows": registers join high first).
+-- Registers and the raw value that they hold (document 01, "The value rows": registers join high first).
 use mathlib.Core.Bool.{Bool, true, false}
 use mathlib.Core.List.{List, [], _∷_}
 use Prim.Native.Nat.{ℕ, zero, suc, _+_, _*_, _/_, _%_, _^_, _<_}
@@ -7,11 +7,11 @@ use lib.ListN.{length}
 use Rattle.lists.specs.Each.{Each}
 use Rattle.lists.specs.Tests.{every}
 
--- Every number of the list is a register's: below 65536.
+-- Every number of the list is a register: below 65536.
 abbrev pub AreRegisters : List ℕ → Type 0
 AreRegisters rs = Each (λ r. r < 65536) rs
 
--- The raw number of any number of registers, the first the highest.
+-- The raw value of any number of registers, the first one highest.
 unfoldable pub join : List ℕ → ℕ
 join [] = 0
 join (r ∷ rs) = r * 65536 ^ length rs + join rs
@@ -20,7 +20,7 @@ join (r ∷ rs) = r * 65536 ^ length rs + join rs
 abbrev pub allZero : List ℕ → Bool
 allZero rs = every (λ r. eqb r 0) rs
 
--- The n registers of a raw number, the highest first: what is written for it.
+-- The n registers of a raw value, the highest first: what is written for it.
 unfoldable pub split : ℕ → ℕ → List ℕ
 split zero raw = []
 split (suc n) raw = raw / 65536 ^ n % 65536 ∷ split n raw
@@ -29,6 +29,6 @@ split (suc n) raw = raw / 65536 ^ n % 65536 ∷ split n raw
 unfoldable pub shownRaw : List ℕ → ℕ
 shownRaw rs = elim (leb (length rs) 4) [ true ↦ join rs | false ↦ 0 ]
 
--- Document 01, "Events": a raw number is too wide for so many registers from 2 ^ (16 × registers) on.
+-- Document 01, "Events": is a raw value too wide for `registers` registers, 2 ^ (16 × registers) or more?
 unfoldable pub tooWide : ℕ → ℕ → Bool
 tooWide registers raw = leb (2 ^ (16 * registers)) raw

@@ -1,4 +1,4 @@
-// Registers and the raw number that they hold.
+// Registers and the raw value that they hold.
 // Every public call takes any arguments and carries an equation with the definitions of specs/.
 ghost use mathlib.Core.Path.{_≡_};
 ghost use Prim.Native.Nat.{_-_, _*_, _^_, _<_, min};
@@ -22,7 +22,7 @@ pub fn raw_value(registers: &[u16]) -> u64
     raw
 }
 
-// A register as a 64-bit number. A function, so that its bound is at hand where the sum is proved to fit.
+// A register as a 64-bit number. It is a function so that its contract gives the bound that the sum needs.
 fn wide(register: u16) -> u64
     ensures { λ r. ⌜ (r ≡ register) × (r < 65536) ⌝ }
 {
@@ -43,8 +43,8 @@ pub fn all_zero(registers: &[u16]) -> bool
     true
 }
 
-// `count` registers from `start` on, or as many as there are. What is left is compared with the count:
-// start + count could be more than a usize holds.
+// The `count` registers from `start` on, or fewer if the list ends before. The code compares `count` with the
+// number of registers left, since start + count could be more than a usize holds.
 pub fn part<'a>(registers: &'a [u16], start: usize, count: usize) -> &'a [u16]
     ensures { λ r. ⌜ now r ≡ take count (drop start (now (registers .entry))) ⌝ }
 {
@@ -57,14 +57,14 @@ pub fn part<'a>(registers: &'a [u16], start: usize, count: usize) -> &'a [u16]
     &registers[start..start + count]
 }
 
-// Is the raw number too wide for so many registers?
+// Is the raw value too wide for `count` registers?
 pub fn too_wide(count: u16, raw: u64) -> bool
     ensures { λ r. ⌜ r ≡ tooWide count raw ⌝ }
 {
     all_ones(count) < raw
 }
 
-// The largest pattern of so many registers, as far as 64 bits hold it.
+// The largest pattern of `count` registers, or of 64 bits if that is less.
 pub fn all_ones(count: u16) -> u64
     ensures { λ r. ⌜ r ≡ min (2 ^ (16 * count)) (2 ^ 64) - 1 ⌝ }
 {

@@ -1,4 +1,5 @@
 -- The claim
 pub mod PartOrFallback
+pub mod TextVectors
 -- Laws of the definitions
 pub mod TextPart

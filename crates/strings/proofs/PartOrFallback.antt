@@ -1,4 +1,4 @@
--- What `text` returns is the fallback, or so many registers of the map from the address on.
+-- `text` returns the fallback or a part of the map that begins at the address.
 use mathlib.Core.Path.{_≡_, refl, _∙_}
 use mathlib.Core.Bool.{Bool, true, false}
 use mathlib.Core.Logic.{_⊎_, inl, inr}
@@ -11,7 +11,7 @@ use Rattle.registers.specs.Registers.{allZero}
 use Rattle.strings.specs.Text.{untilZeroByte, hasString, stringAt, textAt}
 use Rattle.strings.proofs.TextPart.{text-prefix, text-shorter, no-string, string-of-zeros, string-shown, string-lies}
 
--- So many registers, at most the string's, from the address on.
+-- A part of the map: `count` registers from the address on, no more than the string has.
 pub record PartOf (map : List ℕ) (address size : ℕ) (part : List ℕ) : Type 0 where
   pub count : ℕ
   pub within : count ≤ size

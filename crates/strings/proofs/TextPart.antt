@@ -1,4 +1,4 @@
--- Laws of the text in a string's registers: it is a part of them, found register by register.
+-- Laws of the text in a string's registers: it is their first part, found register by register.
 use mathlib.Core.Path.{_≡_, refl, ap}
 use mathlib.Core.Bool.{Bool, true, false, _&&_}
 use mathlib.Core.List.{List, [], _∷_}
@@ -14,7 +14,7 @@ use Rattle.lists.proofs.TestOutcomes.{impossible}
 use Rattle.registers.specs.Registers.{allZero}
 use Rattle.strings.specs.Text.{untilZeroByte, hasString, stringAt, textAt}
 
--- The text is the first registers, so many as it has.
+-- The text is the first registers of the string, and no longer than it.
 pub text-prefix : (rs : List ℕ) → untilZeroByte rs ≡ take (length (untilZeroByte rs)) rs
 unfolding untilZeroByte
 text-prefix [] = refl
@@ -30,7 +30,7 @@ text-prefix (r ∷ rs) = go (eqb (r / 256) 0) (eqb (r % 256) 0) (text-prefix rs)
 pub text-shorter : (rs : List ℕ) → length (untilZeroByte rs) ≤ length rs
 text-shorter rs = omega (arith, ap length (text-prefix rs), length-take (length (untilZeroByte rs)) rs)
 
--- From the register at i on.
+-- The text from register i on: that register ends it without being part of it, ends it as its last part, or is part of it.
 module _ (rs : List ℕ) (i : ℕ) (h : i < length rs) where
   pub text-stops : getD rs i 0 < 256 → length (untilZeroByte (drop i rs)) ≡ 0
   unfolding untilZeroByte
@@ -55,7 +55,7 @@ pub text-end : (rs : List ℕ) (i : ℕ) → length rs ≤ i → length (untilZe
 unfolding untilZeroByte
 text-end rs i h = rw (drop-of-length-le rs h)
 
--- The ways to the text or the fallback.
+-- The cases of `textAt`: the fallback or the text.
 module _ (map : List ℕ) (address size : ℕ) (fallback : List ℕ) where
   pub no-string : hasString (length map) address size ≡ false → textAt map address size fallback ≡ fallback
   unfolding textAt
@@ -70,7 +70,7 @@ module _ (map : List ℕ) (address size : ℕ) (fallback : List ℕ) where
     unfolding textAt
     string-shown e = simp (textAt, has, ← is, e)
 
--- A string lies in the map if its address is at most what the map is longer than it.
+-- A string lies in the map if its address is at most the map's length less its size.
 pub string-end : (registers address size : ℕ) → size ≤ registers → leb address (registers - size) ≡ leb (address + size) registers
 string-end registers address size h = go (decLe (address + size) registers)
   where

@@ -15,7 +15,7 @@ untilZeroByte (r ∷ rs) =
       | false ↦ elim (eqb (r % 256) 0) [ true ↦ r ∷ [] | false ↦ r ∷ untilZeroByte rs ]
     ]
 
--- Has a map of so many registers a string at the address? Its size is 1–64, and it does not run past the map.
+-- Does a map of `registers` registers have a string of `size` registers at `address`? The size is 1–64, and it ends within the map.
 abbrev pub hasString : ℕ → ℕ → ℕ → Bool
 hasString registers address size = leb 1 size && leb size 64 && leb (address + size) registers
 
@@ -23,8 +23,7 @@ hasString registers address size = leb 1 size && leb size 64 && leb (address + s
 abbrev pub stringAt : List ℕ → ℕ → ℕ → List ℕ
 stringAt map address size = take size (drop address map)
 
--- Text: what is shown of the string at an address. Where the map has no such string, or only zeros in it, that is the fallback
--- (document 01: "stand-in").
+-- The text of the string at an address; the fallback (document 01: "stand-in") if the map has no such string or only zeros in it.
 unfoldable pub textAt : List ℕ → ℕ → ℕ → List ℕ → List ℕ
 textAt map address size fallback =
     elim (hasString (length map) address size) [

@@ -5,8 +5,8 @@ ghost use mathlib.Core.Path.{_≡_};
 ghost use lib.ListN.{length};
 ghost use Rattle.strings.specs.Text.{hasString, untilZeroByte, textAt};
 
-// The text of the `size` registers from `address` on, a part of the map; or the fallback where there is
-// no such string.
+// The text in the `size` registers from `address` on, as a part of the map; or the fallback if the map has no
+// such string or only zeros in it.
 pub fn text<'a>(map: &'a [u16], address: usize, size: usize, fallback: &'a [u16]) -> &'a [u16]
     ensures { λ r. ⌜ now r ≡ textAt (now (map .entry)) address size (now (fallback .entry)) ⌝ }
 {
@@ -20,8 +20,8 @@ pub fn text<'a>(map: &'a [u16], address: usize, size: usize, fallback: &'a [u16]
     part(string, 0, text_length(string))
 }
 
-// Has a map of so many registers a string at the address, of 1 to 64 registers? The size is
-// subtracted from the map's length: address + size could be more than a usize holds.
+// Does a map of `registers` registers have a string of `size` registers, 1 to 64, at `address`? The code subtracts
+// the size from the map's length, since address + size could be more than a usize holds.
 fn has_string(registers: usize, address: usize, size: usize) -> bool
     ensures { λ r. ⌜ r ≡ hasString registers address size ⌝ }
 {
@@ -37,8 +37,8 @@ fn has_string(registers: usize, address: usize, size: usize) -> bool
     address <= registers - size
 }
 
-// How many registers the text takes: up to the first with a zero byte, and that one if only its low byte
-// is zero.
+// The number of registers of the text: those before the first with a zero byte, and that one if only its low
+// byte is zero.
 fn text_length(string: &[u16]) -> usize
     ensures { λ r. ⌜ r ≡ length (untilZeroByte (now (string .entry))) ⌝ }
 {

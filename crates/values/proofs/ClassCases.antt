@@ -1,4 +1,4 @@
--- The ways to a class, and to the answer of `decode`.
+-- The cases of `classOf`, `classified` and `decoded`.
 use mathlib.Core.Path.{_≡_, refl}
 use mathlib.Core.Bool.{Bool, true, false, _&&_, and-false}
 use mathlib.Core.Option.{Option, none, some}
@@ -28,9 +28,9 @@ module _ (code raw : ℕ) where
   unfolding classified
   of-class row e w = simp (classified, e, w)
 
--- What `decoded` is by the code's row.
+-- `decoded`, by the code's row.
 module _ (code : ℕ) (registers : List ℕ) where
-  pub beyond : 18 < code → decoded code registers ≡ refused 40
+  pub beyond : 18 < code → decoded code registers ≡ refused 40 0
   unfolding decodable decoded
   beyond h = simp (decoded, decodable, lt-leb _ _ h, and-false)
 
@@ -42,7 +42,7 @@ module _ (code : ℕ) (registers : List ℕ) where
       go true = e
       go false = refl
 
-  pub no-row : rowOf code ≡ none → decoded code registers ≡ refused 40
+  pub no-row : rowOf code ≡ none → decoded code registers ≡ refused 40 0
   unfolding decoded
   no-row e = simp (decoded, no-row-decodes e)
 
@@ -54,7 +54,7 @@ module _ (code : ℕ) (registers : List ℕ) where
   unfolding decoded
   by-row row e = simp (decoded, e)
 
--- The row that a code decodes by is the table's.
+-- The row that decodes a code is the table's, and the code is at most 18.
 pub row-of-decodable : (code : ℕ) (row : TypeRow) → decodable code ≡ some row → rowOf code ≡ some row
 unfolding decodable
 row-of-decodable code row e = go (leb 1 code && leb code 18) e

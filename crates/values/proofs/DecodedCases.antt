@@ -1,4 +1,4 @@
--- Every answer of `decoded` with what it came from: the laws about decoded numbers go by these cases.
+-- The cases of `decoded`, each with its reason: the laws about decoded numbers go by these.
 use mathlib.Core.Path.{_≡_, refl}
 use mathlib.Core.List.{List}
 use mathlib.Core.Option.{Option, none, some}
@@ -8,20 +8,20 @@ use Rattle.point_types.specs.Rows.{TypeRow, Kind}
 use Rattle.values.specs.Classes.{Class, classOf, width, twosComplement}
 use Rattle.values.specs.Decoding.{patternIn, Decoded, signed, unsigned, float, unimplemented, outOfRange, refused, numberOf, valueOf, decodable, decoded}
 
--- A pattern's answer: a number by the type's kind where the pattern is a value.
-pub data Answered (row : TypeRow) (raw : ℕ) : Decoded → Type 0 where
-  asSigned : row .kind ≡ Kind.signed → classOf row raw ≡ Class.value → Answered row raw (signed (twosComplement (width row) raw))
-  asUnsigned : row .kind ≡ Kind.unsigned → classOf row raw ≡ Class.value → Answered row raw (unsigned raw)
-  asFloat : row .kind ≡ Kind.float → classOf row raw ≡ Class.value → Answered row raw (float (ofBits binary32 raw))
-  asUnimplemented : classOf row raw ≡ Class.unimplemented → Answered row raw unimplemented
-  asOutOfRange : classOf row raw ≡ Class.outOfRange → Answered row raw outOfRange
+-- The result for a pattern: a number, read by the type's kind, if the pattern is a value; else unimplemented or out of range.
+pub data ResultOf (row : TypeRow) (raw : ℕ) : Decoded → Type 0 where
+  asSigned : row .kind ≡ Kind.signed → classOf row raw ≡ Class.value → ResultOf row raw (signed (twosComplement (width row) raw))
+  asUnsigned : row .kind ≡ Kind.unsigned → classOf row raw ≡ Class.value → ResultOf row raw (unsigned raw)
+  asFloat : row .kind ≡ Kind.float → classOf row raw ≡ Class.value → ResultOf row raw (float (ofBits binary32 raw))
+  asUnimplemented : classOf row raw ≡ Class.unimplemented → ResultOf row raw unimplemented
+  asOutOfRange : classOf row raw ≡ Class.outOfRange → ResultOf row raw outOfRange
 
-answered : (row : TypeRow) (raw : ℕ) → Answered row raw (valueOf row raw)
+result-of : (row : TypeRow) (raw : ℕ) → ResultOf row raw (valueOf row raw)
 unfolding valueOf numberOf
-answered row raw = by-class (classOf row raw) refl (row .kind) refl
+result-of row raw = by-class (classOf row raw) refl (row .kind) refl
   where
     by-class : (c : Class) → classOf row raw ≡ c → (k : Kind) → row .kind ≡ k
-        → Answered row raw
+        → ResultOf row raw
         (elim c [
           | Class.value ↦ elim k [
             | Kind.signed ↦ signed (twosComplement (width row) raw)
@@ -37,16 +37,16 @@ answered row raw = by-class (classOf row raw) refl (row .kind) refl
     by-class Class.unimplemented c k q = asUnimplemented c
     by-class Class.outOfRange c k q = asOutOfRange c
 
--- The answer for a code and registers: by the code's row, or refusal 40.
+-- The result for a code and registers: by the code's row, or refusal 40 at place 0.
 pub data Cases (code : ℕ) (registers : List ℕ) : Decoded → Type 0 where
-  byRow : {d : Decoded} (row : TypeRow) → decodable code ≡ some row → Answered row (patternIn row registers) d → Cases code registers d
-  noRow : decodable code ≡ none → Cases code registers (refused 40)
+  byRow : {d : Decoded} (row : TypeRow) → decodable code ≡ some row → ResultOf row (patternIn row registers) d → Cases code registers d
+  noRow : decodable code ≡ none → Cases code registers (refused 40 0)
 
 pub cases : (code : ℕ) (registers : List ℕ) → Cases code registers (decoded code registers)
 unfolding decoded
 cases code registers = go (decodable code) refl
   where
     go : (o : Option TypeRow) → decodable code ≡ o
-        → Cases code registers (elim o [ none ↦ refused 40 | some row ↦ valueOf row (patternIn row registers) ])
+        → Cases code registers (elim o [ none ↦ refused 40 0 | some row ↦ valueOf row (patternIn row registers) ])
     go none e = noRow e
-    go (some row) e = byRow row e (answered row (patternIn row registers))
+    go (some row) e = byRow row e (result-of row (patternIn row registers))

@@ -1,4 +1,4 @@
--- What decoding by a row of the table rests on, where the code is at most 18 and four registers are given.
+-- Facts that decoding by a row of the table needs, if the code is at most 18 and four registers are given.
 use mathlib.Core.Path.{_≡_, sym, ap, _∙_}
 use mathlib.Core.List.{List}
 use mathlib.Core.Option.{some}
@@ -23,12 +23,12 @@ module _ (code : ℕ) (registers : List ℕ) (row : TypeRow) (four : length regi
   pub first-length : row .most ≡ length (take (row .most) registers)
   first-length = sym (length-take-le (row .most) registers among-four)
 
-  -- What they hold is a pattern of the type, and its answer is that of `decoded`.
+  -- Their raw value is a pattern of the type, and its result is that of `decoded`.
   pub pattern-of : (raw : ℕ) → raw < 65536 ^ length (take (row .most) registers) → PatternOf row raw
   pattern-of raw h = record { listed = listed code row is; fits = first-fit registers (row .most) raw among-four h }
 
-  pub answer-of : (raw : ℕ) → raw ≡ shownRaw (take (row .most) registers) → valueOf row raw ≡ decoded code registers
-  answer-of raw e =
+  pub result-of : (raw : ℕ) → raw ≡ shownRaw (take (row .most) registers) → valueOf row raw ≡ decoded code registers
+  result-of raw e =
       let l : length (take (row .most) registers) ≤ 4 = omega (arith, first-length, among-four, four) in
       ap (valueOf row) (e ∙ shown (take (row .most) registers) l)
       ∙ sym (by-row code registers row (decodes code registers row most is))

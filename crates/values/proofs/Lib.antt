@@ -6,6 +6,7 @@ pub mod PrintedRanges
 pub mod NoNaN
 pub mod RefusedCodes
 pub mod UnscaledRange
+pub mod ClassVectors
 -- Laws of the definitions, and what the proofs of the functions cite
 pub mod TwosComplement
 pub mod MachineIntegers

@@ -1,4 +1,4 @@
--- What the code computes with 64-bit integers is two's complement at every width from 1 to 64 bits.
+-- The code's 64-bit arithmetic computes two's complement at every width from 1 to 64 bits.
 use mathlib.Core.Path.{_≡_, refl, sym, ap, _∙_}
 use Prim.Native.Nat.{ℕ, zero, suc, _+_, _-_, _/_, _^_, _≤_, _<_}
 use native.Mathlib.Nat.{pow-suc, zero-add}
@@ -11,7 +11,7 @@ use mir.Facts.{toZ-pos, toZ-ofZ}
 use Rattle.values.specs.Classes.{twosComplement}
 use Rattle.values.proofs.TwosComplement.{lower-half, upper-half}
 
--- A power of two is two halves.
+-- 2 ^ bits is twice 2 ^ (bits - 1).
 pub halves : (bits : ℕ) → 1 ≤ bits → 2 ^ bits ≡ 2 ^ (bits - 1) + 2 ^ (bits - 1)
 halves zero h = absurd (omega arith)
 halves (suc k) h = let e : suc k - 1 ≡ k = omega arith in rw e (omega (arith, pow-suc 2 k))

@@ -16,7 +16,7 @@ use Rattle.values.proofs.ClassCases.{row-of-decodable}
 use Rattle.values.proofs.ThreeClasses.{class-is-its-tests}
 use Rattle.values.proofs.DecodedCases.{asFloat, Cases, byRow, cases}
 
--- A value of a float type is no NaN's pattern.
+-- A value of a float type is not the pattern of a NaN.
 pub no-nan-pattern : (row : TypeRow) (raw : ℕ) → Listed row → row .kind ≡ Kind.float → classOf row raw ≡ Class.value
     → nanBits binary32 raw ≡ false
 no-nan-pattern row raw l k v =

@@ -1,178 +1,401 @@
--- Every decoded integer lies in the range that document 000 prints for its type.
+-- The values of a type are the integers that document 000 prints for it: no other integer is decoded, and each of them is.
 use mathlib.Core.Path.{_≡_, refl, sym, ap, subst, _∙_}
-use mathlib.Core.Bool.{Bool, true, false, _&&_}
-use mathlib.Core.List.{List, [], _∷_}
+use mathlib.Core.Bool.{Bool, true, false, not, _&&_, _||_}
+use mathlib.Core.List.{List, [], _∷_, _++_}
+use mathlib.Core.Logic.{_↔_}
 use mathlib.Core.Option.{Option, none, some}
-use Prim.Native.Nat.{ℕ, suc, _-_, _^_}
+use Prim.Native.Nat.{ℕ, zero, suc, _+_, _-_, _^_, _≤_, _<_}
 use native.Mathlib.Omega.{arith}
-use borrow.Author.Tests.{eqb-false}
-use lib.Dec.{T, le→leb, eqb→eq}
-use lib.IntN.{ℤ, pos, negℤ}
-use lib.ListN.{length}
+use borrow.Author.Tests.{eqb-false, ne-eqb, lt-leb}
+use lib.Dec.{T, ltb, le→leb, leb→le, ltb→lt}
+use lib.IntN.{ℤ, pos, negsuc, negℤ, sucℤ}
+use lib.Pow.{pow-pos}
+use lib.ListN.{length, length-append, replicate, length-replicate}
+use lib.Seq.{take-at}
 use lib.Ieee.Fits.{and-l, and-r}
-use lib.Signed.{leZ, _≤ℤ_}
+use lib.Signed.{leZ}
 use Rattle.lists.specs.Each.{Each}
 use Rattle.lists.specs.Tests.{every}
-use Rattle.lists.proofs.TestOutcomes.{impossible, clash}
-use Rattle.registers.specs.Registers.{AreRegisters}
-use Rattle.point_types.specs.Rows.{TypeRow, Kind, signed, unsigned, float, Unimplemented, never, pattern, Range, whole, between, notNaN, rows, rowAmong}
-use Rattle.point_types.proofs.Table.{signed-width, edgeTest, edges}
+use Rattle.lists.proofs.EachLaws.{each-implied, each-append}
+use Rattle.lists.proofs.EveryLaws.{every-each}
+use Rattle.lists.proofs.TestOutcomes.{impossible}
+use Rattle.registers.specs.Registers.{AreRegisters, join, split, tooWide}
+use Rattle.registers.proofs.Splitting.{split-length, split-registers, join-split}
+use Rattle.point_types.specs.Rows.{TypeRow, Kind, signed, unsigned, float, Unimplemented, never, pattern, Range, whole, between, notNaN, rows, rowAmong, Listed}
+use Rattle.point_types.proofs.Table.{listed, signed-width, only-float, four-registers}
 use Rattle.values.specs.Classes as classes
 use Rattle.values.specs.Classes.{width, twosComplement, integer, isUnimplemented, isBetween, inRange, classOf, PatternOf}
-use Rattle.values.specs.Decoding.{Decoded, decoded, decodable}
-use Rattle.values.specs.Printed.{PrintedRange, printed, Within}
-use Rattle.values.proofs.IntegerOrder.{le-le, negative-le, negative-le-negative}
+use Rattle.values.specs.Decoding as decoding
+use Rattle.values.specs.Decoding.{Decoded, patternIn, numberOf, valueOf, decodable, decoded}
+use Rattle.values.specs.Encoding.{twosPattern}
+use Rattle.values.specs.Printed.{PrintedRange, printed, InPrinted, Within, decodedInteger, DecodedFrom, DecodedAsPrinted}
+use Rattle.values.proofs.IntegerOrder.{le-le, le-both, le-next, next-le, le-last, negative-le, negative-le-negative, negative-below}
 use Rattle.values.proofs.ThreeClasses.{class-is-its-tests}
-use Rattle.values.proofs.Ranges.{in-between, plain-integer, signed-integer}
-use Rattle.values.proofs.TwosComplement.{by-half}
+use Rattle.values.proofs.Ranges.{in-whole, in-between, signed-integer, unsigned-integer}
+use Rattle.values.proofs.TwosComplement.{by-half, lower-half, upper-half, pattern-back}
 use Rattle.values.proofs.MachineIntegers.{halves}
-use Rattle.values.proofs.DecodedCases.{asSigned, asUnsigned, asFloat, asUnimplemented, asOutOfRange, Cases, byRow, noRow, cases}
+use Rattle.values.proofs.ClassCases.{row-of-decodable, decodable-up-to, by-row}
+use Rattle.values.proofs.DecodedCases.{ResultOf, asSigned, asUnsigned, asFloat, asUnimplemented, asOutOfRange, Cases, byRow, noRow, cases}
 use Rattle.values.proofs.RoundTrip.{holds-pattern}
 
--- A test that comes out true passes.
-passes : (b : Bool) → b ≡ true → T b
-passes b e = subst T (sym e) tt
+-- ---- A row's range by its ends
 
--- The least and the greatest integer that a row leaves a value.
-abbrev leastIn : Range → Kind → ℕ → ℤ
-leastIn (between low high) k width = low
-leastIn whole signed width = negℤ (pos (2 ^ (width - 1) - 1))
-leastIn whole unsigned width = pos 0
-leastIn whole float width = pos 0
-leastIn notNaN k width = pos 0
+-- The least and the greatest integer of a range; of a whole range, those of the patterns of `bits` bits.
+abbrev lowest : Range → Kind → ℕ → ℤ
+lowest (between low high) k bits = low
+lowest whole signed bits = negℤ (pos (2 ^ (bits - 1)))
+lowest whole unsigned bits = pos 0
+lowest whole float bits = pos 0
+lowest notNaN k bits = pos 0
 
-abbrev greatestIn : Range → Kind → ℕ → Bool → ℤ
-greatestIn (between low high) k width onesUnimplemented = high
-greatestIn whole signed width onesUnimplemented = pos (2 ^ (width - 1) - 1)
-greatestIn whole unsigned width true = pos (2 ^ width - 2)
-greatestIn whole unsigned width false = pos (2 ^ width - 1)
-greatestIn whole float width onesUnimplemented = pos 0
-greatestIn notNaN k width onesUnimplemented = pos 0
+abbrev highest : Range → Kind → ℕ → ℤ
+highest (between low high) k bits = high
+highest whole signed bits = pos (2 ^ (bits - 1) - 1)
+highest whole unsigned bits = pos (2 ^ bits - 1)
+highest whole float bits = pos 0
+highest notNaN k bits = pos 0
 
-onesUnimplemented : TypeRow → Bool
-onesUnimplemented row = isUnimplemented (row .unimplemented) (2 ^ width row - 1)
+abbrev Between : ℤ → ℤ → ℤ → Type 0
+Between low high z = T (leZ low z) × T (leZ z high)
 
-least : TypeRow → ℤ
-least row = leastIn (row .range) (row .kind) (width row)
+between-test : (low high z : ℤ) → (isBetween low high z ≡ true) ↔ Between low high z
+between-test low high z = (
+  λ e. let t = subst T (sym e) tt in (and-l (leZ low z) (leZ z high) t, and-r (leZ low z) (leZ z high) t),
+  λ b. both (leZ low z) (leZ z high) (b .0) (b .1),
+)
+  where
+    both : (a b : Bool) → T a → T b → (a && b) ≡ true
+    both true true s t = refl
+    both true false s t = absurd t
+    both false b s t = absurd s
 
-greatest : TypeRow → ℤ
-greatest row = greatestIn (row .range) (row .kind) (width row) (onesUnimplemented row)
-
--- An integer from the row's least to its greatest.
-abbrev Bounded : TypeRow → ℤ → Type 0
-Bounded row z = T (leZ (least row) z) × T (leZ z (greatest row))
-
-other-kind : unsigned ≡ signed → ⊥
-other-kind e = impossible (cc)
-
-module _ (row : TypeRow) (raw : ℕ) (p : PatternOf row raw) (v : classOf row raw ≡ classes.value) where
-  implemented : isUnimplemented (row .unimplemented) raw ≡ false
-  implemented = class-is-its-tests row raw classes.value .0 v .0
-
-  in-range : inRange row raw ≡ true
-  in-range = class-is-its-tests row raw classes.value .0 v .1
-
-  -- A row's own range bounds the integer.
-  inside : (low high z : ℤ) → row .range ≡ between low high → integer row raw ≡ z → T (leZ low z) × T (leZ z high)
-  inside low high z e y =
-      let t = passes (isBetween low high z) (sym (in-between row raw low high e ∙ ap (isBetween low high) y) ∙ in-range) in
-      (and-l (leZ low z) (leZ z high) t, and-r (leZ low z) (leZ z high) t)
-
-  -- Else the least pattern of a signed type is the unimplemented one.
-  signed-bounded : row .kind ≡ signed → Bounded row (twosComplement (width row) raw)
-  unfolding least greatest onesUnimplemented
-  signed-bounded k = rw k (go (row .range) refl)
+module _ (row : TypeRow) (raw : ℕ) (p : PatternOf row raw) where
+  -- The integer of a pattern lies between the ends of its width.
+  of-width : (row .kind ≡ float → ⊥) → Between (lowest whole (row .kind) (width row)) (highest whole (row .kind) (width row)) (integer row raw)
+  of-width n = go (row .kind) refl
     where
-      off-edge : (m : Unimplemented) → row .unimplemented ≡ m → T (edgeTest whole signed m (width row)) → raw ≡ 2 ^ (width row - 1) → ⊥
-      off-edge never e t q = t
-      off-edge (pattern x) e t q = eqb-false raw x (rw e at implemented) (q ∙ sym (eqb→eq x (2 ^ (width row - 1)) t))
-
-      inner : (raw ≡ 2 ^ (width row - 1) → ⊥)
-          → T (leZ (leastIn whole signed (width row)) (twosComplement (width row) raw))
-          × T (leZ (twosComplement (width row) raw) (pos (2 ^ (width row - 1) - 1)))
-      inner n =
+      go : (k : Kind) → row .kind ≡ k → Between (lowest whole k (width row)) (highest whole k (width row)) (integer row raw)
+      go signed k =
+          let half = 2 ^ (width row - 1) in
           let h = halves (width row) (omega (arith, signed-width row (p .listed) k)) in
-          by-half (width row) raw (λ z. T (leZ (leastIn whole signed (width row)) z) × T (leZ z (pos (2 ^ (width row - 1) - 1)))) (p .fits)
-          (λ l. (negative-le (2 ^ (width row - 1) - 1) raw, le→leb raw (2 ^ (width row - 1) - 1) (omega arith)))
-          (λ u. (negative-le-negative (2 ^ (width row - 1) - 1) (2 ^ width row - suc raw) (omega (arith, h, p .fits, n)), tt))
+          rw (signed-integer row raw k)
+          (by-half (width row) raw (Between (negℤ (pos half)) (pos (half - 1))) (p .fits)
+          (λ l. (negative-le half raw, le→leb raw (half - 1) (omega arith)))
+          (λ u. (negative-le-negative half (2 ^ width row - suc raw) (omega (arith, h, p .fits)), tt)))
+      go unsigned k = rw (unsigned-integer row raw k) (le→leb 0 raw (omega arith), le→leb raw (2 ^ width row - 1) (omega (arith, p .fits)))
+      go float k = absurd (n k)
 
-      go : (r : Range) → row .range ≡ r
-          → T (leZ (leastIn r signed (width row)) (twosComplement (width row) raw))
-          × T (leZ (twosComplement (width row) raw) (greatestIn r signed (width row) (onesUnimplemented row)))
-      go whole e = inner (off-edge (row .unimplemented) refl (rw (e, k) at (edges row (p .listed))))
-      go (between low high) e = inside low high (twosComplement (width row) raw) e (signed-integer row raw k)
-      go notNaN e = absurd (rw (e, k) at (edges row (p .listed)))
-
-  -- And the greatest of an unsigned type may be.
-  unsigned-bounded : row .kind ≡ unsigned → Bounded row (pos raw)
-  unfolding least greatest onesUnimplemented
-  unsigned-bounded k = rw k (go (row .range) refl)
+  -- A pattern is in its type's range if and only if its integer is between the ends.
+  range-ends : (row .kind ≡ float → ⊥)
+      → (inRange row raw ≡ true)
+      ↔ Between (lowest (row .range) (row .kind) (width row)) (highest (row .range) (row .kind) (width row)) (integer row raw)
+  range-ends n = go (row .range) refl
     where
-      top : (b : Bool) → onesUnimplemented row ≡ b → T (leZ (pos raw) (greatestIn whole unsigned (width row) b))
-      top true e =
-          let n : raw ≡ 2 ^ width row - 1 → ⊥ = λ q. clash (sym e ∙ sym (ap (isUnimplemented (row .unimplemented)) q) ∙ implemented) in
-          le→leb raw (2 ^ width row - 2) (omega (arith, p .fits, n))
-      top false e = le→leb raw (2 ^ width row - 1) (omega (arith, p .fits))
-
       go : (r : Range) → row .range ≡ r
-          → T (leZ (leastIn r unsigned (width row)) (pos raw)) × T (leZ (pos raw) (greatestIn r unsigned (width row) (onesUnimplemented row)))
-      go whole e = (le→leb 0 raw (omega arith), top (onesUnimplemented row) refl)
-      go (between low high) e = inside low high (pos raw) e (plain-integer row raw (λ q. other-kind (sym k ∙ q)))
-      go notNaN e = absurd (rw (e, k) at (edges row (p .listed)))
+          → (inRange row raw ≡ true) ↔ Between (lowest r (row .kind) (width row)) (highest r (row .kind) (width row)) (integer row raw)
+      go whole e = (λ q. of-width n, λ b. in-whole row raw e)
+      go (between low high) e =
+          let t = between-test low high (integer row raw) in
+          let q = in-between row raw low high e in
+          (λ i. t .0 (sym q ∙ i), λ b. q ∙ t .1 b)
+      go notNaN e = absurd (n (only-float row (p .listed) e))
 
-integral : Kind → Bool
-integral signed = true
-integral unsigned = true
-integral float = false
+-- ---- A printed range against its row
 
--- The row of a printed range leaves no value outside it: computed for each.
-rowInside : PrintedRange → Option TypeRow → Bool
-rowInside r none = false
-rowInside r (some row) = integral (row .kind) && (leZ (r .least) (least row) && leZ (greatest row) (r .greatest))
+abbrev isSame : ℤ → ℤ → Bool
+isSame a b = leZ a b && leZ b a
 
-printed-rows : T (every (λ r. rowInside r (decodable (r .code))) printed)
-unfolding printed rows rowAmong decodable integral rowInside least greatest onesUnimplemented
-printed-rows = tt
+is-same : (a b : ℤ) → T (isSame a b) → a ≡ b
+is-same a b t = le-both a b (and-l (leZ a b) (leZ b a) t) (and-r (leZ a b) (leZ b a) t)
 
-module _ (registers : List ℕ) (four : length registers ≡ 4) (all : AreRegisters registers) where
-  module _ (r : PrintedRange) (t : T (rowInside r (decodable (r .code)))) where
-    bounds : (row : TypeRow) → decodable (r .code) ≡ some row → (z : ℤ) → Bounded row z → (r .least ≤ℤ z) × (z ≤ℤ r .greatest)
-    unfolding rowInside
-    bounds row e z b =
-        let low = leZ (r .least) (least row) in
-        let high = leZ (greatest row) (r .greatest) in
-        let s = and-r (integral (row .kind)) (low && high) (rw e at t) in (
-          record { le = le-le (r .least) (least row) z (and-l low high s) (b .0) },
-          record { le = le-le z (greatest row) (r .greatest) (b .1) (and-r low high s) },
+by-either : {A : Type 0} (a b : Bool) → T (a || b) → (T a → A) → (T b → A) → A
+by-either true b t f g = f tt
+by-either false b t f g = g t
+
+-- Does a printed end agree with the row's? It is the same; or, if the row's end is unimplemented (`marked`), the next one inside.
+abbrev lowTest : ℤ → ℤ → Bool → Bool
+lowTest end least marked = isSame least end || (marked && isSame least (sucℤ end))
+
+abbrev highTest : ℤ → ℤ → Bool → Bool
+highTest end greatest marked = isSame greatest end || (marked && isSame (sucℤ greatest) end)
+
+-- Then the printed end lies within the row's, and an integer within the row's end lies within the printed end, unless it is marked.
+low-end : (end least : ℤ) (marked : Bool) → T (lowTest end least marked)
+    → T (leZ end least) × ((z : ℤ) → (T marked → z ≡ end → ⊥) → T (leZ end z) → T (leZ least z))
+low-end end least marked t =
+    by-either (isSame least end) (marked && isSame least (sucℤ end)) t
+    (λ s. (and-r (leZ least end) (leZ end least) s, λ z n l. rw (is-same least end s) l))
+    (λ s.
+    let e = is-same least (sucℤ end) (and-r marked (isSame least (sucℤ end)) s) in
+    (rw e (le-next end), λ z n l. rw e (next-le end z l (n (and-l marked (isSame least (sucℤ end)) s)))))
+
+high-end : (end greatest : ℤ) (marked : Bool) → T (highTest end greatest marked)
+    → T (leZ greatest end) × ((z : ℤ) → (T marked → z ≡ end → ⊥) → T (leZ z end) → T (leZ z greatest))
+high-end end greatest marked t =
+    by-either (isSame greatest end) (marked && isSame (sucℤ greatest) end) t
+    (λ s. (and-l (leZ greatest end) (leZ end greatest) s, λ z n l. rw (is-same greatest end s) l))
+    (λ s.
+    let m = and-l marked (isSame (sucℤ greatest) end) s in
+    let e = is-same (sucℤ greatest) end (and-r marked (isSame (sucℤ greatest) end) s) in
+    (rw (← e) (le-next greatest), λ z n l. le-last greatest z (rw e l) (λ q. n m (q ∙ e))))
+
+-- Is z the integer of the unimplemented pattern?
+abbrev marks : TypeRow → Unimplemented → ℤ → Bool
+marks row never z = false
+marks row (pattern p) z = isSame (integer row p) z
+
+-- Does the unimplemented pattern fit the width, and does its integer lie outside the printed range?
+abbrev isOutside : PrintedRange → TypeRow → Unimplemented → Bool
+isOutside r row never = true
+isOutside r row (pattern p) = ltb p (2 ^ width row) && not (isBetween (r .least) (r .greatest) (integer row p))
+
+abbrev isIntegral : Kind → Bool
+isIntegral signed = true
+isIntegral unsigned = true
+isIntegral float = false
+
+-- The tests of a printed range: its ends agree with those of the row's range, and fit the row's width.
+abbrev endTests : PrintedRange → TypeRow → List Bool
+endTests r row =
+    let low = lowest (row .range) (row .kind) (width row) in
+    let high = highest (row .range) (row .kind) (width row) in
+    isIntegral (row .kind)
+    ∷ isOutside r row (row .unimplemented)
+    ∷ lowTest low (r .least) (marks row (row .unimplemented) low)
+    ∷ highTest high (r .greatest) (marks row (row .unimplemented) high)
+    ∷ leZ (lowest whole (row .kind) (width row)) (r .least)
+    ∷ leZ (r .greatest) (highest whole (row .kind) (width row))
+    ∷ []
+
+abbrev agrees : PrintedRange → Option TypeRow → Bool
+agrees r none = false
+agrees r (some row) = every (λ t. t) (endTests r row)
+
+-- Computed for the whole printed table.
+all-agree : T (every (λ r. agrees r (decodable (r .code))) printed)
+unfolding printed rows rowAmong decodable integer twosComplement
+all-agree = tt
+
+-- The pattern of an integer.
+abbrev rawOf : TypeRow → ℤ → ℕ
+rawOf row z = twosPattern (width row) z
+
+module _ (r : PrintedRange) (row : TypeRow) (l : Listed row) (tests : Each T (endTests r row)) where
+  abbrev low : ℤ
+  low = lowest (row .range) (row .kind) (width row)
+
+  abbrev high : ℤ
+  high = highest (row .range) (row .kind) (width row)
+
+  not-float : row .kind ≡ float → ⊥
+  not-float k = rw k at (tests .0)
+
+  -- The type is signed or unsigned.
+  by-kind : {A : Type 0} → (row .kind ≡ signed → A) → (row .kind ≡ unsigned → A) → A
+  by-kind {A} s u = go (row .kind) refl
+    where
+      go : (k : Kind) → row .kind ≡ k → A
+      go signed k = s k
+      go unsigned k = u k
+      go float k = absurd (not-float k)
+
+  -- Patterns with the same integer are the same.
+  same-pattern : (x y : ℕ) → x < 2 ^ width row → y < 2 ^ width row → integer row x ≡ integer row y → x ≡ y
+  same-pattern x y h k e =
+      by-kind
+      (λ s.
+      sym (pattern-back (width row) x h)
+      ∙ ap (twosPattern (width row)) (sym (signed-integer row x s) ∙ e ∙ signed-integer row y s)
+      ∙ pattern-back (width row) y k)
+      (λ u. let q : pos x ≡ pos y = sym (unsigned-integer row x u) ∙ e ∙ unsigned-integer row y u in cc)
+
+  module _ (raw : ℕ) (fits : raw < 2 ^ width row) where
+    abbrev z : ℤ
+    z = integer row raw
+
+    -- A pattern that is not the unimplemented one has another integer than it.
+    apart : (m : Unimplemented) → isUnimplemented m raw ≡ false → T (isOutside r row m) → (y : ℤ) → T (marks row m y) → z ≡ y → ⊥
+    apart never i o y t e = t
+    apart (pattern p) i o y t e =
+        let small = ltb→lt p (2 ^ width row) (and-l (ltb p (2 ^ width row)) (not (isBetween (r .least) (r .greatest) (integer row p))) o) in
+        eqb-false raw p i (same-pattern raw p fits small (e ∙ sym (is-same (integer row p) y t)))
+
+    -- A pattern whose integer is in the printed range is not the unimplemented one.
+    implemented : (m : Unimplemented) → T (isOutside r row m) → Between (r .least) (r .greatest) z → isUnimplemented m raw ≡ false
+    implemented never o b = refl
+    implemented (pattern p) o b =
+        ne-eqb raw p
+        (λ e.
+        let inside = between-test (r .least) (r .greatest) (integer row raw) .1 b in
+        rw (← e, inside) at (and-r (ltb p (2 ^ width row)) (not (isBetween (r .least) (r .greatest) (integer row p))) o))
+
+    -- The law: a pattern is a value if and only if its integer is in the printed range.
+    value-printed : (classOf row raw ≡ classes.value) ↔ Between (r .least) (r .greatest) z
+    value-printed =
+        let c = class-is-its-tests row raw classes.value in
+        let b = range-ends row raw (record { listed = l; fits = fits }) not-float in
+        let start = low-end low (r .least) (marks row (row .unimplemented) low) (tests .1 .1 .0) in
+        let end = high-end high (r .greatest) (marks row (row .unimplemented) high) (tests .1 .1 .1 .0) in (
+          λ v.
+              let t = c .0 v in
+              let e = b .0 (t .1) in
+              let other = apart (row .unimplemented) (t .0) (tests .1 .0) in
+              (start .1 z (other low) (e .0), end .1 z (other high) (e .1)),
+          λ p.
+              c .1 (
+                implemented (row .unimplemented) (tests .1 .0) p,
+                b .1 (le-le low (r .least) z (start .0) (p .0), le-le z (r .greatest) high (p .1) (end .0)),
+              ),
         )
 
-    is-integral : (row : TypeRow) → decodable (r .code) ≡ some row → T (integral (row .kind))
-    unfolding rowInside
-    is-integral row e = and-l (integral (row .kind)) (leZ (r .least) (least row) && leZ (greatest row) (r .greatest)) (rw e at t)
+  -- ---- From an integer to its pattern
 
-    no-row-inside : T (rowInside r none) → ⊥
-    unfolding rowInside
-    no-row-inside f = f
+  module _ (y : ℤ) (b : Between (r .least) (r .greatest) y) where
+    in-width : Between (lowest whole (row .kind) (width row)) (highest whole (row .kind) (width row)) y
+    in-width = (
+      le-le (lowest whole (row .kind) (width row)) (r .least) y (tests .1 .1 .1 .1 .0) (b .0),
+      le-le y (r .greatest) (highest whole (row .kind) (width row)) (b .1) (tests .1 .1 .1 .1 .1 .0),
+    )
 
-    in-printed : (d : Decoded) → Cases (r .code) registers d → Within r d
-    unfolding integral
-    in-printed d (byRow row e (asSigned k v)) =
-        bounds row e _ (signed-bounded row _ (holds-pattern (r .code) registers four all row e) v k)
-    in-printed d (byRow row e (asUnsigned k v)) =
-        bounds row e _ (unsigned-bounded row _ (holds-pattern (r .code) registers four all row e) v k)
-    in-printed d (byRow row e (asFloat k v)) = rw k at (is-integral row e)
-    in-printed d (byRow row e (asUnimplemented v)) = tt
-    in-printed d (byRow row e (asOutOfRange v)) = tt
-    in-printed d (noRow e) = no-row-inside (rw e at t)
+    -- The pattern of such an integer fits the width, and has that integer.
+    pattern-there : (rawOf row y < 2 ^ width row) × (integer row (rawOf row y) ≡ y)
+    pattern-there =
+        by-kind
+        (λ s.
+        let p = signed-pattern (width row) (omega (arith, signed-width row l s)) y (rw s at in-width) in
+        (p .0, signed-integer row (rawOf row y) s ∙ p .1))
+        (λ u. let p = unsigned-pattern y (rw u at in-width) in (p .0, unsigned-integer row (rawOf row y) u ∙ p .1))
+      where
+        signed-pattern : (bits : ℕ) → 1 ≤ bits → (x : ℤ) → Between (negℤ (pos (2 ^ (bits - 1)))) (pos (2 ^ (bits - 1) - 1)) x
+            → (twosPattern bits x < 2 ^ bits) × (twosComplement bits (twosPattern bits x) ≡ x)
+        signed-pattern bits w (pos n) c =
+            let h = leb→le n (2 ^ (bits - 1) - 1) (c .1) in
+            let e = halves bits w in
+            let k = pow-pos (bits - 1) in
+            (omega (arith, h, e, k), lower-half bits n (omega (arith, h, k)))
+        signed-pattern bits w (negsuc n) c =
+            let h = negative-below (2 ^ (bits - 1)) n (c .0) in
+            let e = halves bits w in
+            let x = 2 ^ bits - suc n in
+            let back : 2 ^ bits - suc x ≡ n = omega (arith, h, e) in
+            (omega (arith, h, e), upper-half bits x (omega (arith, h, e)) (omega (arith, h, e)) ∙ ap negsuc back)
 
-  -- The claim, over the whole printed table.
-  pub within-printed : Each (λ r. Within r (decoded (r .code) registers)) printed
-  within-printed = go printed printed-rows
+        unsigned-pattern : (x : ℤ) → Between (pos 0) (pos (2 ^ width row - 1)) x
+            → (twosPattern (width row) x < 2 ^ width row) × (pos (twosPattern (width row) x) ≡ x)
+        unsigned-pattern (pos n) c = (omega (arith, leb→le n (2 ^ width row - 1) (c .1), pow-pos (width row)), refl)
+        unsigned-pattern (negsuc n) c = absurd (c .0)
+
+-- ---- The claims
+
+in-order : (r : PrintedRange) (z : ℤ) → Between (r .least) (r .greatest) z ↔ InPrinted r z
+in-order r z = (λ b. (record { le = b .0 }, record { le = b .1 }), λ b. (b .0 .le, b .1 .le))
+
+-- If a result within the range is an integer, that integer is in the range.
+decoded-within : (r : PrintedRange) (d : Decoded) (z : ℤ) → Within r d → decodedInteger d ≡ some z → InPrinted r z
+decoded-within r (decoding.signed y) z w e = let q : y ≡ z = cc in subst (InPrinted r) q w
+decoded-within r (decoding.unsigned n) z w e = let q : pos n ≡ z = cc in subst (InPrinted r) q w
+decoded-within r (decoding.float x) z w e = absurd w
+decoded-within r decoding.unimplemented z w e = impossible (cc)
+decoded-within r decoding.outOfRange z w e = impossible (cc)
+decoded-within r (decoding.refused n place) z w e = absurd w
+
+module _ (r : PrintedRange) (row : TypeRow) (is : decodable (r .code) ≡ some row) (t : T (agrees r (some row))) where
+  tests : Each T (endTests r row)
+  tests = every-each (λ b. b) (endTests r row) t
+
+  is-listed : Listed row
+  is-listed = listed (r .code) row (row-of-decodable (r .code) row is)
+
+  -- Any registers are decoded as a printed integer or as none.
+  within : (registers : List ℕ) → length registers ≡ 4 → AreRegisters registers → Within r (decoded (r .code) registers)
+  within registers four all = go (cases (r .code) registers)
     where
-      go : (rs : List PrintedRange) → T (every (λ r. rowInside r (decodable (r .code))) rs)
-          → Each (λ r. Within r (decoded (r .code) registers)) rs
-      go [] t = tt
-      go (r ∷ rs) t =
-          let test : PrintedRange → Bool = λ x. rowInside x (decodable (x .code)) in
-          let here = in-printed r (and-l (test r) (every test rs) t) (decoded (r .code) registers) (cases (r .code) registers) in
-          (here, go rs (and-r (test r) (every test rs) t))
+      at : (raw : ℕ) → PatternOf row raw → classOf row raw ≡ classes.value → (z : ℤ) → integer row raw ≡ z → InPrinted r z
+      at raw p v z e = subst (InPrinted r) e (in-order r (integer row raw) .0 (value-printed r row is-listed tests raw (p .fits) .0 v))
+
+      by-result : {d : Decoded} → ResultOf row (patternIn row registers) d → Within r d
+      by-result (asSigned k v) =
+          let raw = patternIn row registers in
+          at raw (holds-pattern (r .code) registers four all row is) v (twosComplement (width row) raw) (signed-integer row raw k)
+      by-result (asUnsigned k v) =
+          let raw = patternIn row registers in
+          at raw (holds-pattern (r .code) registers four all row is) v (pos raw) (unsigned-integer row raw k)
+      by-result (asFloat k v) = absurd (not-float r row is-listed tests k)
+      by-result (asUnimplemented v) = tt
+      by-result (asOutOfRange v) = tt
+
+      go : {d : Decoded} → Cases (r .code) registers d → Within r d
+      go {d} (byRow other e a) =
+          let s : other ≡ row = cc in
+          by-result (subst (λ (x : TypeRow). ResultOf x (patternIn x registers) d) s a)
+      go (noRow e) = impossible (cc)
+
+  -- A printed integer is decoded from the registers of its pattern.
+  module _ (z : ℤ) (b : InPrinted r z) where
+    there : (rawOf row z < 2 ^ width row) × (integer row (rawOf row z) ≡ z)
+    there = pattern-there r row is-listed tests z (in-order r z .1 b)
+
+    is-value : classOf row (rawOf row z) ≡ classes.value
+    is-value =
+        value-printed r row is-listed tests (rawOf row z) (there .0) .1
+        (subst (Between (r .least) (r .greatest)) (sym (there .1)) (in-order r z .1 b))
+
+    -- The decoded number is the pattern's integer, for both kinds.
+    integer-of : decodedInteger (numberOf row (rawOf row z)) ≡ some (integer row (rawOf row z))
+    unfolding numberOf integer
+    integer-of =
+        by-kind r row is-listed tests (λ k. rw k) (λ k. rw k)
+
+    registers : List ℕ
+    registers = split (row .most) (rawOf row z) ++ replicate (4 - row .most) 0
+
+    zeros : (n : ℕ) → AreRegisters (replicate n 0)
+    zeros zero = tt
+    zeros (suc n) = (omega arith, zeros n)
+
+    decoded-there : DecodedFrom (r .code) z
+    unfolding registers valueOf tooWide
+    decoded-there =
+        let n = row .most in
+        let first = split n (rawOf row z) in
+        let rest : List ℕ = replicate (4 - n) 0 in
+        let most = four-registers (r .code) row (decodable-up-to (r .code) row is) (row-of-decodable (r .code) row is) in
+        let read : patternIn row registers ≡ rawOf row z =
+        ap join (take-at first rest n (split-length n (rawOf row z))) ∙ join-split n (rawOf row z) (lt-leb _ _ (there .0)) in
+        let number : valueOf row (rawOf row z) ≡ numberOf row (rawOf row z) = simp (valueOf, is-value) in
+        record {
+          registers = registers;
+          four = length-append first rest ∙ omega (arith, split-length n (rawOf row z), length-replicate {A = ℕ} (4 - n) 0, most);
+          all = each-append (λ (x : ℕ). x < 65536) first rest (split-registers n (rawOf row z)) (zeros (4 - n));
+          is =
+              ap decodedInteger (by-row (r .code) registers row is ∙ ap (valueOf row) read ∙ number)
+              ∙ integer-of
+              ∙ ap some (there .1);
+        }
+
+module _ (r : PrintedRange) where
+  by-agreement : (o : Option TypeRow) → decodable (r .code) ≡ o → T (agrees r o)
+      → DecodedAsPrinted r × ((registers : List ℕ) → length registers ≡ 4 → AreRegisters registers → Within r (decoded (r .code) registers))
+  by-agreement none e t = absurd t
+  by-agreement (some row) e t = (
+    λ z. (
+      λ d. decoded-within r (decoded (r .code) (d .registers)) z (within r row e t (d .registers) (d .four) (d .all)) (d .is),
+      decoded-there r row e t z,
+    ),
+    within r row e t,
+  )
+
+each-agrees : Each (λ r. T (agrees r (decodable (r .code)))) printed
+each-agrees = every-each (λ r. agrees r (decodable (r .code))) printed all-agree
+
+-- An integer is decoded from some registers if and only if it is printed: for every type of the table.
+pub decoded-as-printed : Each DecodedAsPrinted printed
+decoded-as-printed =
+    each-implied (λ r. T (agrees r (decodable (r .code)))) DecodedAsPrinted (λ r t. by-agreement r (decodable (r .code)) refl t .0) printed each-agrees
+
+-- Any four registers are decoded as a printed integer, or as unimplemented or out of range.
+pub within-printed : (registers : List ℕ) → length registers ≡ 4 → AreRegisters registers
+    → Each (λ r. Within r (decoded (r .code) registers)) printed
+within-printed registers four all =
+    each-implied (λ r. T (agrees r (decodable (r .code)))) (λ r. Within r (decoded (r .code) registers))
+    (λ r t. by-agreement r (decodable (r .code)) refl t .1 registers four all) printed each-agrees

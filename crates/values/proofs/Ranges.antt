@@ -1,4 +1,4 @@
--- The code's tests of a range are the definition's, at each row of the table.
+-- The code's tests of a range are those of the definition, for each row of the table.
 use mathlib.Core.Path.{_≡_, refl, ap, _∙_}
 use mathlib.Core.Bool.{true, not, _&&_}
 use Prim.Native.Nat.{ℕ, _≤_, _<_, _^_, _*_}

@@ -1,4 +1,4 @@
--- Refusal 40 is for the codes outside 1–18, and for no other.
+-- Refusal 40, at place 0, is for the codes outside 1–18, and no other code is refused.
 use mathlib.Core.Path.{_≡_, subst}
 use mathlib.Core.Bool.{false}
 use mathlib.Core.List.{List}
@@ -15,19 +15,19 @@ use Rattle.values.proofs.ClassCases.{beyond, no-row}
 use Rattle.values.proofs.DecodedCases.{Cases, noRow, cases}
 
 module _ (code : ℕ) (registers : List ℕ) where
-  pub outside-refused : (1 ≤ code → code ≤ 18 → ⊥) → decoded code registers ≡ refused 40
+  pub outside-refused : (1 ≤ code → code ≤ 18 → ⊥) → decoded code registers ≡ refused 40 0
   outside-refused n =
       elim (decLe code 18) [
         | yes h ↦ no-row code registers (no-row-outside code (λ l k. n l h))
         | no h ↦ beyond code registers (omega arith)
       ]
 
-  pub inside-answered : 1 ≤ code → code ≤ 18 → (n : ℕ) → decoded code registers ≡ refused n → ⊥
+  pub inside-accepted : 1 ≤ code → code ≤ 18 → (n place : ℕ) → decoded code registers ≡ refused n place → ⊥
   unfolding decodable
-  inside-answered l h n e = go n (subst (Cases code registers) e (cases code registers))
+  inside-accepted l h n place e = go n place (subst (Cases code registers) e (cases code registers))
     where
-      go : (m : ℕ) → Cases code registers (refused m) → ⊥
-      go m (noRow is) =
+      go : (m p : ℕ) → Cases code registers (refused m p) → ⊥
+      go m p (noRow is) =
           let r : rowOf code ≡ none = simp (decodable, le-leb _ _ l, le-leb _ _ h) at is in
           let s = row-at (row 0 0 0 false unsigned never whole) code l (omega arith) in
           impossible (cc)

@@ -1,4 +1,4 @@
--- A decoded number, written back as registers, is the registers that it came from.
+-- A decoded number, encoded as registers again, gives the registers that it was read from.
 use mathlib.Core.Path.{_≡_, refl, ap, subst, _∙_}
 use mathlib.Core.List.{List}
 use mathlib.Core.Bool.{not}
@@ -15,16 +15,16 @@ use Rattle.point_types.specs.Rows.{TypeRow}
 use Rattle.point_types.proofs.Table.{float-row, listed}
 use Rattle.values.specs.Classes.{Class, width, classOf, PatternOf}
 use Rattle.values.specs.Decoding.{patternIn, Decoded, decodable, decoded}
-use Rattle.values.specs.Encoding.{rawNumber, encoded}
+use Rattle.values.specs.Encoding.{rawValueOf, encoded}
 use Rattle.values.proofs.TwosComplement.{pattern-back}
 use Rattle.values.proofs.ClassCases.{row-of-decodable, decodable-up-to}
-use Rattle.values.proofs.DecodedCases.{Answered, asSigned, asUnsigned, asFloat, asUnimplemented, asOutOfRange, Cases, byRow, noRow, cases}
+use Rattle.values.proofs.DecodedCases.{ResultOf, asSigned, asUnsigned, asFloat, asUnimplemented, asOutOfRange, Cases, byRow, noRow, cases}
 use Rattle.values.proofs.FoundRow.{pattern-of, first-length}
 use Rattle.values.proofs.NoNaN.{no-nan-pattern}
 
--- The raw number of a value's answer is the pattern.
-raw-back : (row : TypeRow) (raw : ℕ) (d : Decoded) → PatternOf row raw → Answered row raw d → classOf row raw ≡ Class.value
-    → rawNumber row d ≡ some raw
+-- The raw value of a decoded number is the pattern.
+raw-back : (row : TypeRow) (raw : ℕ) (d : Decoded) → PatternOf row raw → ResultOf row raw d → classOf row raw ≡ Class.value
+    → rawValueOf row d ≡ some raw
 raw-back row raw d p (asSigned k v) e = ap some (pattern-back (width row) raw (p .fits))
 raw-back row raw d p (asUnsigned k v) e = refl
 raw-back row raw d p (asFloat k v) e =
@@ -40,7 +40,7 @@ module _ (code : ℕ) (registers : List ℕ) (four : length registers ≡ 4) (al
       pattern-of code registers row four (decodable-up-to code row e) (row-of-decodable code row e) (patternIn row registers)
       (join-bound (take (row .most) registers) (first-registers (row .most) registers all))
 
-  -- The claim: where the registers hold a value, what is written for the answer is the registers that were read.
+  -- The claim: if the registers hold a value, encoding the result gives the registers that were read.
   pub round-trip : (row : TypeRow) → decodable code ≡ some row → classOf row (patternIn row registers) ≡ Class.value
       → encoded row (decoded code registers) ≡ some (take (row .most) registers)
   unfolding encoded
@@ -56,6 +56,6 @@ module _ (code : ℕ) (registers : List ℕ) (four : length registers ≡ 4) (al
       go {d} (byRow other is a) =
           let s : other ≡ row = cc in
           let r = raw-back row (patternIn row registers) d (holds-pattern row e)
-          (subst (λ (r : TypeRow). Answered r (patternIn r registers) d) s a) v in
+          (subst (λ (r : TypeRow). ResultOf r (patternIn r registers) d) s a) v in
           simp (encoded, r) (ap some back)
       go (noRow is) = cc

@@ -1,5 +1,5 @@
--- A decoded signed number is the two's complement of its pattern: the one integer from -2 ^ (width - 1) up to, not including,
--- 2 ^ (width - 1) that is the pattern, or 2 ^ width less.
+-- A decoded signed number is the two's complement of its pattern: the only integer from -2 ^ (width - 1) to 2 ^ (width - 1) - 1 that
+-- equals the pattern or the pattern less 2 ^ width.
 use mathlib.Core.Path.{_≡_, refl, sym, ap, subst, _∙_}
 use mathlib.Core.Logic.{_⊎_, inl, inr}
 use mathlib.Core.List.{List}
@@ -22,7 +22,7 @@ use Rattle.values.proofs.MachineIntegers.{halves}
 use Rattle.values.proofs.DecodedCases.{asSigned, Cases, byRow, cases}
 use Rattle.values.proofs.RoundTrip.{holds-pattern}
 
--- An integer is the two's complement of a raw number of so many bits.
+-- z is the two's complement of a raw value of `width` bits.
 pub record TwosComplementOf (width raw : ℕ) (z : ℤ) : Type 0 where
   pub low : negℤ (pos (2 ^ (width - 1))) ≤ℤ z
   pub high : z <ℤ pos (2 ^ (width - 1))
@@ -48,7 +48,7 @@ module _ (width raw : ℕ) (wide : 1 ≤ width) (fits : raw < 2 ^ width) where
             same = inr (ap (λ (y : ℤ). y +ℤ pos (2 ^ width)) (sym (less raw (2 ^ width) fits)) ∙ -ℤ-+ℤ-cancel (pos raw) (pos (2 ^ width)));
           }
 
--- No other integer is: the pattern and 2 ^ width less cannot both lie in the range.
+-- There is only one: the pattern and the pattern less 2 ^ width do not both lie in the range.
 module _ (width raw : ℕ) (wide : 1 ≤ width) where
   not-both : (z y : ℤ) → TwosComplementOf width raw z → TwosComplementOf width raw y → z ≡ pos raw
       → y +ℤ pos (2 ^ width) ≡ pos raw → ⊥

@@ -1,4 +1,4 @@
--- Two's complement by halves: the lower half of the patterns stands for itself, the upper half for what is missing to 2 ^ bits, negated.
+-- Two's complement by halves: a pattern of the lower half is its own number; one of the upper half is the pattern less 2 ^ bits.
 use mathlib.Core.Path.{_≡_, refl}
 use mathlib.Core.Bool.{true, _&&_}
 use Prim.Native.Nat.{ℕ, zero, suc, _-_, _^_, _≤_, _<_}
@@ -10,7 +10,7 @@ use lib.IntN.{ℤ, pos, negsuc, negℤ, _-ℤ_}
 use Rattle.values.specs.Classes.{twosComplement, isBetween, isScaleFactor}
 use Rattle.values.specs.Encoding.{twosPattern}
 
--- A difference below 0.
+-- x - m, if it is below 0.
 pub less : (x m : ℕ) → x < m → pos x -ℤ pos m ≡ negsuc (m - suc x)
 less x zero h = absurd (omega arith)
 less x (suc n) h = simp (lt-ltb _ _ h)
@@ -24,7 +24,7 @@ module _ (bits raw : ℕ) where
   unfolding twosComplement
   upper-half h k = simp (twosComplement, le-ltb _ _ h) (less raw (2 ^ bits) k)
 
-  -- What holds of the number in either half of the patterns holds of it.
+  -- P holds of the number if it does so in each half.
   pub by-half : (P : ℤ → Type 0) → raw < 2 ^ bits → (raw < 2 ^ (bits - 1) → P (pos raw))
       → (2 ^ (bits - 1) ≤ raw → P (negsuc (2 ^ bits - suc raw))) → P (twosComplement bits raw)
   by-half P k lower upper =
@@ -33,11 +33,11 @@ module _ (bits raw : ℕ) where
         | no u ↦ let l : raw < 2 ^ (bits - 1) = omega arith in rw (lower-half l) (lower l)
       ]
 
-  -- The pattern of the number is the pattern it came from.
+  -- The pattern of a pattern's number is that pattern.
   pub pattern-back : raw < 2 ^ bits → twosPattern bits (twosComplement bits raw) ≡ raw
   pattern-back k = by-half (λ z. twosPattern bits z ≡ raw) k (λ l. refl) (λ u. omega arith)
 
--- From 11 on a register is a number from -10 to 10 exactly from FFF6 on.
+-- A register above 10 is a scale factor from -10 to 10 if and only if it is FFF6 or more.
 pub scale-factor-tail : (raw : ℕ) → 10 < raw → raw < 65536 → leb 0xFFF6 raw ≡ isScaleFactor (twosComplement 16 raw)
 scale-factor-tail raw h k = by-half 16 raw (λ z. leb 0xFFF6 raw ≡ isBetween (negℤ (pos 10)) (pos 10) z) k down (λ u. up (decLe 0xFFF6 raw))
   where

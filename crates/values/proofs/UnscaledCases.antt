@@ -1,4 +1,4 @@
--- The ways to the integer that a scale factor multiplies, or to why there is none.
+-- The cases of `unscaled`: the integer that a scale factor multiplies, or why there is none.
 use mathlib.Core.Path.{_≡_, refl, sym, ap, _∙_}
 use mathlib.Core.Bool.{Bool, true, false, not}
 use mathlib.Core.Option.{some}
@@ -19,7 +19,7 @@ use Rattle.values.proofs.ClassCases.{too-wide}
 use Rattle.values.proofs.TwosComplement.{lower-half, upper-half}
 use Rattle.values.proofs.MachineIntegers.{halves}
 
--- A raw number that is a value of its type is not too wide for it.
+-- A raw value that is a value of its type is not too wide for it.
 pub value-fits : (code raw : ℕ) (row : TypeRow) → rowOf code ≡ some row → isValue (classified code raw) ≡ true → raw < 2 ^ width row
 unfolding tooWide
 value-fits code raw row e v = go (tooWide (row .most) raw) refl
@@ -40,7 +40,7 @@ module _ (bits raw ones : ℕ) (wide : 1 ≤ bits) (is : ones ≡ 2 ^ bits - 1) 
       let m : ones - raw + 1 ≡ suc (2 ^ bits - suc raw) = omega arith in
       ap (UnscaledValue.Of true) m ∙ ap toCodeInteger (sym (upper-half bits raw (omega (arith, halves bits wide)) k))
 
--- What an answer of `unscaled_value` tells of the definition.
+-- From the result of `unscaled_value` back to the definition.
 pub was-not-scalable : (u : Unscaled) → toCodeUnscaled u ≡ UnscaledValue.NotScalable → u ≡ notScalable
 was-not-scalable (number z) e = cc
 was-not-scalable noValue e = cc
@@ -51,7 +51,7 @@ was-no-value (number z) e = cc
 was-no-value noValue e = refl
 was-no-value notScalable e = cc
 
--- An integer with this sign and magnitude.
+-- `u` is an integer with this sign and magnitude.
 pub record NumberOf (u : Unscaled) (negative : Bool) (magnitude : ℕ) : Type 0 where
   pub value : ℤ
   pub is : u ≡ number value

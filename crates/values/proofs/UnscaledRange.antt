@@ -1,4 +1,4 @@
--- Every integer that a scale factor may multiply lies from -2 ^ 63 up to, not including, 2 ^ 64.
+-- Every integer that a scale factor may multiply is from -2 ^ 63 to 2 ^ 64 - 1.
 use mathlib.Core.Path.{_≡_, refl, subst}
 use mathlib.Core.Bool.{Bool, true, false}
 use mathlib.Core.Option.{Option, none, some}
@@ -14,7 +14,7 @@ use Rattle.values.proofs.UnscaledCases.{value-fits}
 use Rattle.values.proofs.TwosComplement.{by-half}
 use Rattle.values.proofs.MachineIntegers.{halves}
 
--- The integer is one of 64 bits, with a sign or without.
+-- The integer fits 64 bits, signed or unsigned.
 abbrev pub Within64 : ℤ → Type 0
 Within64 (pos n) = n < 2 ^ 64
 Within64 (negsuc n) = n < 2 ^ 63
@@ -40,7 +40,7 @@ module _ (row : TypeRow) (l : Listed row) (four : row .most ≤ 4) (raw : ℕ) (
       go unsigned e = within
       go float e = within
 
--- What holds of an integer holds of what is unscaled, if that is one.
+-- P holds of the unscaled integer, if there is one.
 abbrev Holds : (ℤ → Type 0) → Unscaled → Type 0
 Holds P (number z) = P z
 Holds P noValue = Unit {0}

@@ -1,4 +1,4 @@
--- What a raw number is under its type (document 01, "The value rows"): a value, unimplemented or out of range.
+-- The class of a raw value under its type (document 01, "The value rows"): a value, unimplemented or out of range.
 use mathlib.Core.Bool.{Bool, true, false, not, _&&_}
 use mathlib.Core.Option.{none, some}
 use Prim.Native.Nat.{ℕ, _-_, _*_, _^_, _<_}
@@ -9,26 +9,26 @@ use lib.Ieee.{binary32, nanBits}
 use Rattle.registers.specs.Registers as registers
 use Rattle.point_types.specs.Rows.{TypeRow, rowOf, Listed, signed, unsigned, float, Unimplemented, never, pattern, whole, between, notNaN}
 
--- The number that a pattern of so many bits stands for in two's complement (document 000, 6.4).
+-- The number of a pattern of `bits` bits in two's complement (document 000, 6.4).
 unfoldable pub twosComplement : ℕ → ℕ → ℤ
 twosComplement bits raw =
     elim (ltb raw (2 ^ (bits - 1))) [ true ↦ pos raw | false ↦ pos raw -ℤ pos (2 ^ bits) ]
 
--- The bits of a type at its widest: 16 a register.
+-- The number of bits of a type, of a string at its longest: 16 a register.
 abbrev pub width : TypeRow → ℕ
 width row = 16 * row .most
 
--- The integer that a pattern stands for by its type's sign. It is not asked of a float: no float has a range of integers.
+-- The integer of a pattern by its type's kind. (For a float the value here does not matter: its range is not one of integers.)
 unfoldable pub integer : TypeRow → ℕ → ℤ
 integer row raw =
     elim (row .kind) [ signed ↦ twosComplement (width row) raw | unsigned ↦ pos raw | float ↦ pos raw ]
 
--- Is the raw number the type's unimplemented pattern (document 01: "not given")?
+-- Is the raw value the type's unimplemented pattern (document 01: "not given")?
 abbrev pub isUnimplemented : Unimplemented → ℕ → Bool
 isUnimplemented never raw = false
 isUnimplemented (pattern p) raw = eqb raw p
 
--- Is an integer from the first to the second?
+-- Is z from low to high?
 abbrev pub isBetween : ℤ → ℤ → ℤ → Bool
 isBetween low high z = leZ low z && leZ z high
 
@@ -36,7 +36,7 @@ isBetween low high z = leZ low z && leZ z high
 abbrev pub isScaleFactor : ℤ → Bool
 isScaleFactor z = isBetween (negℤ (pos 10)) (pos 10) z
 
--- Is the raw number in its type's range? float32: every pattern but a NaN's, so infinities and negative zero too.
+-- Is the raw value in its type's range? For float32: every pattern but a NaN's, so infinities and negative zero too.
 unfoldable pub inRange : TypeRow → ℕ → Bool
 inRange row raw =
     elim (row .range) [
@@ -49,7 +49,7 @@ inRange row raw =
 pub data Class : Type 0 where
   value unimplemented outOfRange : Class
 
--- The class of a raw number under a type: unimplemented wins over out of range.
+-- The class of a raw value under a type: unimplemented wins over out of range.
 unfoldable pub classOf : TypeRow → ℕ → Class
 classOf row raw =
     elim (isUnimplemented (row .unimplemented) raw) [
@@ -57,13 +57,13 @@ classOf row raw =
       | false ↦ elim (inRange row raw) [ true ↦ value | false ↦ outOfRange ]
     ]
 
--- A raw number that is a pattern of a type of the table.
+-- The raw value is a pattern of the width of a type of the table.
 pub record PatternOf (row : TypeRow) (raw : ℕ) : Type 0 where
   pub listed : Listed row
   pub fits : raw < 2 ^ width row
 
--- What `classify` answers of a raw number: its class; or that it is too wide to be a pattern of the type (document 01, "Events":
--- 2 ^ (16 × registers) or more), a string at its longest; or that the type is unknown.
+-- The results of `classify`: the class of the raw value; or it is too wide to be a pattern of the type (document 01, "Events":
+-- 2 ^ (16 × registers) or more; a string at its longest); or the type is unknown.
 pub data Classified : Type 0 where
   ofClass : Class → Classified
   tooWide : Classified
@@ -76,7 +76,7 @@ classified code raw =
       | some row ↦ elim (registers.tooWide (row .most) raw) [ true ↦ tooWide | false ↦ ofClass (classOf row raw) ]
     ]
 
--- Is a raw number a value of its type? Not where it is unimplemented, out of range or too wide, or the type is unknown.
+-- Is a raw value a value of its type? It is not if it is unimplemented, out of range or too wide, or if the type is unknown.
 abbrev pub isValue : Classified → Bool
 isValue (ofClass value) = true
 isValue (ofClass unimplemented) = false
@@ -84,8 +84,8 @@ isValue (ofClass outOfRange) = false
 isValue tooWide = false
 isValue unknownType = false
 
--- Is a raw number unimplemented (document 01, "Writing", 34)? Not where it is a value, out of range or too wide, or the type is
--- unknown.
+-- Is a raw value classified as unimplemented (document 01, "Writing", 34)? It is not if it is a value, out of range or too wide, or if
+-- the type is unknown.
 abbrev pub isUnimplementedClass : Classified → Bool
 isUnimplementedClass (ofClass unimplemented) = true
 isUnimplementedClass (ofClass value) = false

@@ -1,4 +1,4 @@
--- What the code's types stand for: the answers of the public calls in document 01's terms.
+-- What the code's types stand for: the results of the public calls in document 01's terms.
 use mathlib.Core.Bool.{not}
 use lib.IntN.{ℤ, natAbs}
 use lib.Signed.{nonNeg}
@@ -10,22 +10,22 @@ use Rattle.values.specs.declared.Class.{Class}
 use Rattle.values.specs.declared.Classified.{Classified}
 use Rattle.values.specs.declared.UnscaledValue.{UnscaledValue}
 
--- The answer of `decode`: a code that is not 1–18 is refusal 40.
+-- The result of `decode`. `NotDecodable` is refusal 40 at place 0: the code is not 1–18.
 abbrev pub toSpecValue : Value → Decoding.Decoded
 toSpecValue (Value.Signed z) = Decoding.signed z
 toSpecValue (Value.Unsigned n) = Decoding.unsigned n
 toSpecValue (Value.Float x) = Decoding.float x
 toSpecValue Value.Unimplemented = Decoding.unimplemented
 toSpecValue Value.OutOfRange = Decoding.outOfRange
-toSpecValue Value.NotDecodable = Decoding.refused 40
+toSpecValue Value.NotDecodable = Decoding.refused 40 0
 
--- The class in an answer of `classify`.
+-- The class in a result of `classify`.
 abbrev pub toSpecClass : Class → Classes.Class
 toSpecClass Class.Value = Classes.value
 toSpecClass Class.Unimplemented = Classes.unimplemented
 toSpecClass Class.OutOfRange = Classes.outOfRange
 
--- The answer of `classify`.
+-- The result of `classify`.
 abbrev pub toSpecClassified : Classified → Classes.Classified
 toSpecClassified (Classified.Of c) = Classes.ofClass (toSpecClass c)
 toSpecClassified Classified.TooWide = Classes.tooWide
@@ -35,7 +35,7 @@ toSpecClassified Classified.UnknownType = Classes.unknownType
 abbrev pub toCodeInteger : ℤ → UnscaledValue
 toCodeInteger z = UnscaledValue.Of (not (nonNeg z)) (natAbs z)
 
--- What `unscaled_value` answers: with no value a call refuses with 44, for a type without a scale factor with 43.
+-- The result of `unscaled_value`. Calls refuse with 44 if there is no value, and with 43 if the type may carry no scale factor.
 abbrev pub toCodeUnscaled : Unscaled.Unscaled → UnscaledValue
 toCodeUnscaled (Unscaled.number z) = toCodeInteger z
 toCodeUnscaled Unscaled.noValue = UnscaledValue.NoValue

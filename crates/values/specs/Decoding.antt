@@ -1,4 +1,4 @@
--- Document 01, "One value": a type code and four registers give one answer with data, or refusal 40.
+-- Document 01, "One value": a type code and four registers give one result with data, or refusal 40.
 use mathlib.Core.Bool.{true, false, _&&_}
 use mathlib.Core.List.{List}
 use mathlib.Core.Option.{Option, none, some}
@@ -11,16 +11,16 @@ use Rattle.registers.specs.Registers.{join}
 use Rattle.point_types.specs.Rows.{TypeRow, Kind, rowOf}
 use Rattle.values.specs.Classes.{Class, width, twosComplement, classOf}
 
--- The answers, with their data; a refusal by its number.
+-- The results with their data; a refusal by its number and place (document 01: place 0 where none is named).
 pub data Decoded : Type 0 where
   signed : ℤ → Decoded
   unsigned : ℕ → Decoded
   float : Float → Decoded
   unimplemented : Decoded
   outOfRange : Decoded
-  refused : ℕ → Decoded
+  refused : (number place : ℕ) → Decoded
 
--- The number of a pattern that is a value, as its type reads it.
+-- The number of a pattern that is a value, read by the type's kind.
 unfoldable pub numberOf : TypeRow → ℕ → Decoded
 numberOf row raw =
     elim (row .kind) [
@@ -29,7 +29,7 @@ numberOf row raw =
       | Kind.float ↦ float (ofBits binary32 raw)
     ]
 
--- The answer for a raw number under a type.
+-- The result for a raw value under a type.
 unfoldable pub valueOf : TypeRow → ℕ → Decoded
 valueOf row raw =
     elim (classOf row raw) [
@@ -38,15 +38,15 @@ valueOf row raw =
       | Class.outOfRange ↦ outOfRange
     ]
 
--- The pattern in the first registers, as many as the type takes.
+-- The pattern in the first `row .most` registers.
 abbrev pub patternIn : TypeRow → List ℕ → ℕ
 patternIn row registers = join (take (row .most) registers)
 
--- The rows that one value is decoded by: those of the codes 1–18.
+-- The row that decodes a code: the codes 1–18 have one.
 unfoldable pub decodable : ℕ → Option TypeRow
 decodable code = elim (leb 1 code && leb code 18) [ true ↦ rowOf code | false ↦ none ]
 
--- One value of four registers, the first ones used. 40: the code is not 1–18.
+-- One value from four registers, the first ones used. 40 at place 0: the code is not 1–18.
 unfoldable pub decoded : ℕ → List ℕ → Decoded
 decoded code registers =
-    elim (decodable code) [ none ↦ refused 40 | some row ↦ valueOf row (patternIn row registers) ]
+    elim (decodable code) [ none ↦ refused 40 0 | some row ↦ valueOf row (patternIn row registers) ]

@@ -4,3 +4,4 @@ pub mod Unscaled
 pub mod Encoding
 pub mod CodeTypes
 pub mod Printed
+pub mod ThreeClasses

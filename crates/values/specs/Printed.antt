@@ -1,11 +1,17 @@
--- The ranges that document 000 prints for its types (6.4.1 to 6.4.3 and 6.4.8). None is printed for raw16 and ipaddr, and float32's
--- is that of IEEE 754. Misprints are set right: uint64's upper end is printed one higher, which is its unimplemented pattern,
--- and a digit is missing from bitfield32's.
+-- The integers that document 000 prints as the values of its types (6.4.1 to 6.4.3 and 6.4.8): the range of the type, less the
+-- value printed as not implemented or not accumulated. The range includes that value for acc16, acc32 and acc64 (0) and for uint64
+-- (its upper end; document 01: "not given wins"). One misprint is corrected: a digit is missing from bitfield32's upper end.
+-- raw16 and ipaddr are not in the table: no range is printed for them. Nor is float32: its range is that of IEEE 754.
+use mathlib.Core.Path.{_≡_}
+use mathlib.Core.Logic.{_↔_}
 use mathlib.Core.List.{List, [], _∷_}
+use mathlib.Core.Option.{Option, none, some}
 use Prim.Native.Nat.{ℕ}
 use lib.IntN.{ℤ, pos, negℤ}
+use lib.ListN.{length}
 use lib.Signed.{_≤ℤ_}
-use Rattle.values.specs.Decoding.{Decoded, signed, unsigned, float, unimplemented, outOfRange, refused}
+use Rattle.registers.specs.Registers.{AreRegisters}
+use Rattle.values.specs.Decoding.{Decoded, signed, unsigned, float, unimplemented, outOfRange, refused, decoded}
 
 -- A type's code, and the least and the greatest of its values.
 pub record PrintedRange : Type 0 where
@@ -13,8 +19,8 @@ pub record PrintedRange : Type 0 where
   pub least : ℤ
   pub greatest : ℤ
 
-abbrev zeroTo : ℕ → ℕ → PrintedRange
-zeroTo c n = record { code = c; least = pos 0; greatest = pos n }
+abbrev fromTo : ℕ → ℕ → ℕ → PrintedRange
+fromTo c m n = record { code = c; least = pos m; greatest = pos n }
 
 abbrev around : ℕ → ℕ → PrintedRange
 around c n = record { code = c; least = negℤ (pos n); greatest = pos n }
@@ -22,27 +28,51 @@ around c n = record { code = c; least = negℤ (pos n); greatest = pos n }
 unfoldable pub printed : List PrintedRange
 printed =
     around 1 32767
-    ∷ zeroTo 2 65534
-    ∷ zeroTo 3 65535
-    ∷ zeroTo 4 65534
-    ∷ zeroTo 5 0x7FFF
-    ∷ record { code = 6; least = pos 0x8000; greatest = pos 0x8000 }
+    ∷ fromTo 2 0 65534
+    ∷ fromTo 3 1 65535  -- printed: 0 ... 65535, and 0 as not accumulated
+    ∷ fromTo 4 0 65534
+    ∷ fromTo 5 0 0x7FFF
+    ∷ fromTo 6 0x8000 0x8000
     ∷ around 8 10
     ∷ around 9 2147483647
-    ∷ zeroTo 10 4294967294
-    ∷ zeroTo 11 4294967295
-    ∷ zeroTo 12 4294967294
-    ∷ zeroTo 13 0x7FFFFFFF  -- printed: 0x7FFFFFF
+    ∷ fromTo 10 0 4294967294
+    ∷ fromTo 11 1 4294967295  -- printed: 0 ... 4294967295, and 0 as not accumulated
+    ∷ fromTo 12 0 4294967294
+    ∷ fromTo 13 0 0x7FFFFFFF  -- printed: 0x7FFFFFF
     ∷ around 16 9223372036854775807
-    ∷ zeroTo 17 18446744073709551614  -- printed: 18,446,744,073,709,551,615
-    ∷ zeroTo 18 9223372036854775807
+    ∷ fromTo 17 0 18446744073709551614  -- printed: 18,446,744,073,709,551,615, the not-implemented value
+    ∷ fromTo 18 1 9223372036854775807  -- printed: 0 ... 9223372036854775807, and 0 as not accumulated
     ∷ []
+
+-- An integer from the least to the greatest.
+abbrev pub InPrinted : PrintedRange → ℤ → Type 0
+InPrinted r z = (r .least ≤ℤ z) × (z ≤ℤ r .greatest)
 
 -- What was decoded is an integer in the range, or there is no value. None of these types is a float or refused.
 abbrev pub Within : PrintedRange → Decoded → Type 0
-Within r (signed z) = (r .least ≤ℤ z) × (z ≤ℤ r .greatest)
-Within r (unsigned n) = (r .least ≤ℤ pos n) × (pos n ≤ℤ r .greatest)
+Within r (signed z) = InPrinted r z
+Within r (unsigned n) = InPrinted r (pos n)
 Within r (float x) = ⊥
 Within r unimplemented = Unit {0}
 Within r outOfRange = Unit {0}
-Within r (refused n) = ⊥
+Within r (refused n place) = ⊥
+
+-- The integer that was decoded, if it is one.
+abbrev pub decodedInteger : Decoded → Option ℤ
+decodedInteger (signed z) = some z
+decodedInteger (unsigned n) = some (pos n)
+decodedInteger (float x) = none
+decodedInteger unimplemented = none
+decodedInteger outOfRange = none
+decodedInteger (refused n place) = none
+
+-- Four registers that are decoded as the integer z under a type code.
+pub record DecodedFrom (code : ℕ) (z : ℤ) : Type 0 where
+  pub registers : List ℕ
+  pub four : length registers ≡ 4
+  pub all : AreRegisters registers
+  pub is : decodedInteger (decoded code registers) ≡ some z
+
+-- The values of a type are the printed integers: z is decoded from some registers if and only if it is in the range.
+abbrev pub DecodedAsPrinted : PrintedRange → Type 0
+DecodedAsPrinted r = (z : ℤ) → DecodedFrom (r .code) z ↔ InPrinted r z

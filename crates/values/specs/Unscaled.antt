@@ -6,12 +6,12 @@ use lib.IntN.{ℤ}
 use Rattle.point_types.specs.Rows.{rowOf}
 use Rattle.values.specs.Classes.{integer, isValue, classified}
 
--- An integer; or no value: unimplemented, out of range or too wide; or not scalable: a type without s, or an unknown one.
+-- An integer; or `noValue`: unimplemented, out of range or too wide; or `notScalable`: a type without s, or an unknown one.
 pub data Unscaled : Type 0 where
   number : ℤ → Unscaled
   noValue notScalable : Unscaled
 
--- The type is tried before the value.
+-- The type is tested before the value.
 unfoldable pub unscaled : ℕ → ℕ → Unscaled
 unscaled code raw =
     elim (rowOf code) [

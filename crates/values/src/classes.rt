@@ -1,4 +1,4 @@
-// What a raw number is under its type.
+// The class of a raw value under its type.
 ghost use mathlib.Core.Path.{_≡_};
 ghost use mathlib.Core.Bool.{not};
 ghost use lib.Ieee.{binary32, nanBits};
@@ -15,7 +15,7 @@ use point_types::Unimplemented;
 use point_types::row_of;
 use registers::too_wide;
 
-// The class of a raw number under a type code.
+// The class of a raw value under a type code.
 pub fn classify(type_code: u16, raw: u64) -> Classified
     ensures { λ r. ⌜ toSpecClassified r ≡ classified «type_code» raw ⌝ }
 {
@@ -26,7 +26,7 @@ pub fn classify(type_code: u16, raw: u64) -> Classified
     }
 }
 
-// The class of a raw number under the row's type.
+// The class of a raw value under the row's type.
 pub(crate) fn classified_in(row: TypeRow, raw: u64) -> Classified
     requires { ⌜ Listed (toSpecRow row) ⌝ }
     ensures { λ r. ⌜ toSpecClassified r ≡ classified (row .code) raw ⌝ }
@@ -37,14 +37,14 @@ pub(crate) fn classified_in(row: TypeRow, raw: u64) -> Classified
     Classified::Of(class_in(row, raw))
 }
 
-// Is a raw number a value of its type?
+// Is a raw value a value of its type?
 pub fn is_value(type_code: u16, raw: u64) -> bool
     ensures { λ r. ⌜ r ≡ isValue (classified «type_code» raw) ⌝ }
 {
     is_value_in(classify(type_code, raw))
 }
 
-// Was a raw number found to be a value?
+// Is it classified as a value?
 pub(crate) fn is_value_in(classified: Classified) -> bool
     ensures { λ r. ⌜ r ≡ isValue (toSpecClassified classified) ⌝ }
 {
@@ -106,7 +106,7 @@ fn in_range(row: TypeRow, raw: u64) -> bool
     }
 }
 
-// Is a scale factor, two's complement of one register, from -10 to 10?
+// Is a scale factor, in two's complement of one register, from -10 to 10?
 pub fn scale_factor_in_range(scale: u16) -> bool
     ensures { λ r. ⌜ r ≡ isScaleFactor (twosComplement 16 scale) ⌝ }
 {

@@ -1,5 +1,5 @@
-// Values of SunSpec points: what a raw number is under its type, `decode`, and the integer that a scale factor
-// multiplies.
+// Values of SunSpec points: the class of a raw value under its type, `decode`, and the integer that a scale
+// factor multiplies.
 // Every public call takes any arguments and carries an equation with the definitions of specs/.
 mod classes;
 mod unscaled;
@@ -29,16 +29,16 @@ pub enum Class {
     OutOfRange,
 }
 
-// What `classify` answers of a raw number: its class, or why it has none. A string's width is that of
-// the longest: for a point of another size, ask `too_wide` as well.
+// The result of `classify`: the class of a raw value, or why it has none. A string's width is that of the
+// longest string: for a point of another size, call `too_wide` as well.
 pub enum Classified {
     Of(Class),
     TooWide,
     UnknownType,
 }
 
-// What `decode` answers: a number, or why there is none. NotDecodable is refusal 40: the code is not 1–18.
-// string and ipv6addr are types, but may take more than the four registers.
+// The result of `decode`: a number, or why there is none. NotDecodable is refusal 40 at place 0: the code is
+// not 1–18. (string and ipv6addr are types, but may take more than four registers.)
 pub enum Value {
     Signed(i64),
     Unsigned(u64),
@@ -49,14 +49,14 @@ pub enum Value {
 }
 
 // The integer that a scale factor multiplies, by its sign and magnitude; negative is below 0. Or why there
-// is none: the raw number is no value of its type, or the type may carry no scale factor.
+// is none: the raw value is no value of its type, or the type may carry no scale factor.
 pub enum UnscaledValue {
     Of { negative: bool, magnitude: u64 },
     NoValue,
     NotScalable,
 }
 
-// The value in the first registers, as many as the type takes.
+// The value in the first registers; the type decides how many are read.
 pub fn decode(type_code: u16, registers: [u16; 4]) -> Value
     ensures { λ r. ⌜ toSpecValue r ≡ decoded «type_code» registers ⌝ }
 {
@@ -74,7 +74,7 @@ pub fn decode(type_code: u16, registers: [u16; 4]) -> Value
     }
 }
 
-// The answer for a pattern of the row's type.
+// The result for a pattern of the row's type.
 fn value_of(row: TypeRow, raw: u64) -> Value
     requires { ⌜ PatternOf (toSpecRow row) raw ⌝ }
     ensures { λ r. ⌜ toSpecValue r ≡ valueOf (toSpecRow row) raw ⌝ }

@@ -1,4 +1,4 @@
-// The integer of a raw number before it is scaled.
+// The integer of a raw value, not scaled.
 ghost use mathlib.Core.Path.{_≡_};
 ghost use Prim.Native.Nat.{_*_, _^_, _≤_, _<_};
 ghost use Rattle.point_types.specs.CodeTypes.{toSpecRow};
@@ -14,7 +14,7 @@ use point_types::TypeRow;
 use point_types::row_of;
 use registers::all_ones;
 
-// The integer that a scale factor multiplies, of a raw number under a type code.
+// The integer that a scale factor multiplies, for a type code and a raw value.
 pub fn unscaled_value(type_code: u16, raw: u64) -> UnscaledValue
     ensures { λ r. ⌜ r ≡ toCodeUnscaled (unscaled «type_code» raw) ⌝ }
 {
@@ -33,7 +33,7 @@ pub fn unscaled_value(type_code: u16, raw: u64) -> UnscaledValue
     }
 }
 
-// A pattern as an integer: only a signed type has negative ones.
+// The integer of a pattern. Only signed types have negative ones.
 fn integer_by_sign(row: TypeRow, raw: u64) -> UnscaledValue
     requires { ⌜ PatternOf (toSpecRow row) raw ⌝ }
     ensures { λ r. ⌜ r ≡ toCodeInteger (integer (toSpecRow row) raw) ⌝ }

@@ -1,4 +1,4 @@
--- `event_bits` tries the type, then the value; the machine's two counts are those of the set positions.
+-- `event_bits` tests the type, then the value; the machine's two counts are those of the set positions.
 use mathlib.Core.Path.{sym, ap, _∙_}
 use Prim.Native.Nat.{ℕ}
 use native.Mathlib.Omega.{arith}

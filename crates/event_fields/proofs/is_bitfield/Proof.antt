@@ -1,4 +1,4 @@
--- `is_bitfield` tries both codes.
+-- `is_bitfield` tests both codes.
 use borrow.Author.Tests.{eq-eqb, ne-eqb}
 use Rattle.event_fields.proofs.is_bitfield.Statement.{statement}
 use Rattle.event_fields.proofs.is_bitfield.Tie as tie

@@ -1,4 +1,4 @@
--- `number_sets::is_in` meets its contract: the bit of the number is read.
+-- `is_in` reads the bit of the number.
 use mathlib.Core.Path.{refl}
 use Rattle.number_sets.specs.NumberSets.{inSet}
 use borrow.Author.Needs.{needs}

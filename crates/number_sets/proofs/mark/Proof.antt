@@ -1,4 +1,4 @@
--- `number_sets::mark` meets its contract.
+-- `mark` puts the number in or takes it out, by the laws of SetLaws.
 use mathlib.Core.Path.{refl}
 use native.Mathlib.Omega.{arith}
 use Rattle.number_sets.proofs.SetLaws as laws

@@ -1,4 +1,4 @@
--- `number_sets::put_in` meets its contract: the bit of the number is set.
+-- `put_in` sets the bit of the number.
 use Prim.Native.Nat.{_%_, _^_, _<_}
 use native.Mathlib.Nat.{one-mul, mod-eq-of-lt}
 use native.Mathlib.Omega.{arith}

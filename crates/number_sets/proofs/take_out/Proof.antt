@@ -1,4 +1,4 @@
--- `number_sets::take_out` meets its contract: the bit of the number is cleared.
+-- `take_out` clears the bit of the number.
 use Prim.Native.Nat.{_%_, _^_, _<_}
 use native.Mathlib.Nat.{one-mul, mod-eq-of-lt}
 use native.Mathlib.Omega.{arith}

@@ -1,4 +1,4 @@
--- `register_count` answers from the row that is found.
+-- `register_count` reads the row that it finds.
 use mathlib.Core.Path.{sym, ap, _∙_}
 use borrow.Author.Needs.{needs}
 use Rattle.point_types.specs.Rows.{registersOf}

@@ -1,4 +1,4 @@
--- `row_of` returns the table's row of every code: each arm is the row of its code, computed, and no other code has one.
+-- `row_of` returns the table's row for every code: each arm is computed to be the row of its code, and no other code has one.
 use mathlib.Core.Path.{sym, ap, _∙_}
 use Prim.Native.Nat.{_≤_}
 use native.Mathlib.Omega.{arith}

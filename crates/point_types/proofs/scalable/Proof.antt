@@ -1,4 +1,4 @@
--- `scalable` answers from the row that is found.
+-- `scalable` reads the row that it finds.
 use mathlib.Core.Path.{sym, ap, _∙_}
 use borrow.Author.Needs.{needs}
 use Rattle.point_types.specs.Rows.{mayScale}

@@ -1,4 +1,4 @@
--- `all_ones`: each arm is the power computed, and from four registers on 64 bits hold no more.
+-- `all_ones`: each arm is the computed power less 1; from four registers on it is the largest 64-bit number.
 use Prim.Native.Nat.{_*_}
 use native.Mathlib.Omega.{arith}
 use lib.Pow.{pow-mono}

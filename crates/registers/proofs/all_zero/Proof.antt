@@ -1,4 +1,4 @@
--- `all_zero`: what is left of the registers decides.
+-- `all_zero`: the registers so far are 0, so those left decide.
 use mathlib.Core.Path.{_≡_, sym, _∙_}
 use Prim.Native.Nat.{_-_}
 use native.Mathlib.Omega.{arith}

@@ -1,4 +1,4 @@
--- `part`: what is left behind the start decides.
+-- `part` compares the number of registers left after `start` with `count`.
 use mathlib.Core.Path.{ap}
 use native.Mathlib.Nat.{add-sub-cancel-left}
 use native.Mathlib.Omega.{arith}

@@ -1,5 +1,5 @@
--- `raw_value` joins up to four registers. The invariant: what is joined, moved up past the registers left, and what these hold
--- make the whole; and the registers joined so far leave room in 64 bits for the next.
+-- `raw_value` joins up to four registers. The invariant: the value joined so far, shifted past the registers left, plus their value
+-- is the whole value; and 64 bits have capacity for the next register.
 use mathlib.Core.Path.{_≡_, sym, _∙_}
 use Prim.Native.Nat.{suc, _+_, _-_, _*_, _^_, _≤_, _<_}
 use native.Mathlib.Omega.{arith}

@@ -1,4 +1,4 @@
--- `too_wide`: a raw number above the largest pattern is too wide.
+-- `too_wide`: a raw value above the largest pattern is too wide.
 use mathlib.Core.Path.{ap, _∙_}
 use Prim.Native.Nat.{ℕ}
 use native.Mathlib.Omega.{arith}

@@ -1,4 +1,4 @@
--- `has_string` is the definition's test of the size and the address.
+-- `has_string` tests the size and the address as the definition does.
 use mathlib.Core.Bool.{and-false}
 use Prim.Native.Nat.{_+_}
 use native.Mathlib.Omega.{arith}

@@ -1,4 +1,4 @@
--- `text` hands out the fallback or the first registers of the string.
+-- `text` returns the fallback or the first registers of the string.
 use mathlib.Core.Path.{sym, ap, _∙_}
 use Prim.Native.Nat.{ℕ}
 use borrow.Author.Needs.{needs}

@@ -1,4 +1,4 @@
--- `text_length`: the registers passed and the text of what is left make the text.
+-- `text_length`: the text is the registers read so far, then the text of those left.
 use mathlib.Core.Path.{_≡_}
 use Prim.Native.Nat.{_+_, _-_, _≤_}
 use native.Mathlib.Omega.{arith}

@@ -1,5 +1,4 @@
--- `decode` answers what the definition says: a code above 18 and one without a row are refused, and a row that is found
--- takes its registers from the four.
+-- `decode` refuses a code above 18 and one without a row; for a row that it finds, it reads the type's registers among the four.
 use mathlib.Core.Path.{_≡_, sym, ap, _∙_}
 use mathlib.Core.Option.{some}
 use native.Mathlib.Omega.{arith}
@@ -11,7 +10,7 @@ use Rattle.values.proofs.FoundRow as row
 use Rattle.values.proofs.decode.Statement.{statement}
 use Rattle.values.proofs.decode.Tie as tie
 
--- The row that was found is the table's.
+-- The row found is the table's.
 at : (c : tie.After-found) → rowOf (c .before .before .before .before .args .type-code) ≡ some (toSpecRow (c .found .given .0 .0))
 at c = sym (c .before .before .row-of .ensures) ∙ ap toSpecFound (c .found .given .1)
 
@@ -39,7 +38,7 @@ returns-2 c =
     let f = c .before .before .before .before .before in
     let e = f .before .before .before in
     c .value-of .ensures
-    ∙ row.answer-of (e .before .args .type-code) (e .before .args .t2) (toSpecRow (f .found .given .0 .0)) (search needs) (e .if1 .left) (at f)
+    ∙ row.result-of (e .before .args .type-code) (e .before .args .t2) (toSpecRow (f .found .given .0 .0)) (search needs) (e .if1 .left) (at f)
     (c .before .raw-value .result) (c .before .raw-value .ensures .0)
 
 returns-3 : tie.Need-returns-3

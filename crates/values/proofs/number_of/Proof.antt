@@ -1,5 +1,5 @@
--- `number_of` reads the pattern by the type's kind; the table says that a signed type takes at most four registers and a float
--- two, and a value of a float type is no NaN.
+-- `number_of` reads the pattern by the type's kind. By the table, a signed type takes at most four registers and a float two, and a
+-- value of a float type is no NaN.
 use mathlib.Core.Path.{ap, _∙_}
 use Prim.Native.Nat.{ℕ, _*_, _^_}
 use mir.Facts.{toZ-ofZ}

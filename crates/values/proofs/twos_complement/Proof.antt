@@ -1,4 +1,4 @@
--- `twos_complement` is two's complement at one to four registers: the laws of MachineIntegers at 16 bits for each.
+-- `twos_complement` computes two's complement of one to four registers, by the laws of MachineIntegers for 16 bits a register.
 use mathlib.Core.Path.{_≡_, _∙_}
 use Prim.Native.Nat.{_-_, _*_, _^_}
 use native.Mathlib.Omega.{arith}
@@ -8,7 +8,7 @@ use Rattle.values.proofs.MachineIntegers.{lower-pattern, upper-fits, up
 use Rattle.values.proofs.twos_complement.Statement.{statement}
 use Rattle.values.proofs.twos_complement.Tie as tie
 
--- What `all_ones` gave is the largest pattern.
+-- The result of `all_ones` is the largest pattern.
 ones : (c : tie.After-all-ones) → c .all-ones .result ≡ 2 ^ (16 * c .before .args .count) - 1
 ones c = c .all-ones .ensures ∙ four-ones (c .before .args .count) (c .before .pre .0 .1)
 

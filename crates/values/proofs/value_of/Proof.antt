@@ -1,4 +1,4 @@
--- `value_of` answers by the pattern's class.
+-- `value_of` returns the result for the pattern's class.
 use mathlib.Core.Path.{sym, ap, _∙_}
 use borrow.Author.Needs.{needs}
 use Rattle.values.specs.CodeTypes.{toSpecClass}

@@ -1,4 +1,4 @@
--- `equal_quantities` tries the first quantity, then the second, then compares the amounts.
+-- `equal_quantities` tests the first quantity, then the second, then compares the amounts.
 use mathlib.Core.Path.{sym, ap, _∙_}
 use borrow.Author.Needs.{needs}
 use Rattle.display.specs.CodeTypes.{scaleFactor, quantityAmount}
@@ -25,7 +25,8 @@ unfolding equality
 returns c =
     let f = c .before in
     let a = f .before .before .before in
-    rw (was-refused (quantityAmount (a .before .args .a)) (f .first .given .0 .0) (sym (f .first .given .1) ∙ a .accept .ensures))
+    let p = a .before .args .a in
+    rw (was-refused (p .«type_code») (p .raw) (scaleFactor (p .scale)) (f .first .given .0 .0) (sym (f .first .given .1) ∙ a .accept .ensures))
 
 returns-2 : tie.Need-returns-2
 unfolding equality
@@ -35,9 +36,11 @@ returns-2 c =
     let b = x .before .before in
     let a = b .before in
     let p = quantityAmount (a .before .args .a) in
-    let q = quantityAmount (a .before .args .b) in
+    let q = a .before .args .b in
     let w = was-amount p (x .first2 .given .0 .0) (sym (x .first2 .given .1) ∙ a .accept .ensures) in
-    rw (w .is, was-refused q (y .second .given .0 .0) (sym (y .second .given .1) ∙ b .accept2 .ensures))
+    let r =
+    was-refused (q .«type_code») (q .raw) (scaleFactor (q .scale)) (y .second .given .0 .0) (sym (y .second .given .1) ∙ b .accept2 .ensures) in
+    rw (w .is, r)
 
 returns-3 : tie.Need-returns-3
 returns-3 c =

@@ -1,4 +1,4 @@
--- `is_shifted`: by the laws of multiples of a power of ten.
+-- `is_shifted` decides by division whether m is a multiple of a power of ten, by the laws of Multiples.
 use Prim.Native.Nat.{_<_}
 use native.Mathlib.Omega.{arith}
 use borrow.Author.Needs.{needs}

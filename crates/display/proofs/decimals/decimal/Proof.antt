@@ -1,4 +1,4 @@
--- `decimal` tries the amount, then the buffer, then stores the text.
+-- `decimal` tests the quantity, then the buffer, and then stores the text.
 use mathlib.Core.Path.{sym, ap, _∙_}
 use native.Mathlib.Omega.{arith}
 use borrow.Author.Needs.{needs}
@@ -13,7 +13,7 @@ use Rattle.display.proofs.StoredTexts.{put-start, put-length}
 use Rattle.display.proofs.decimals.decimal.Statement.{statement}
 use Rattle.display.proofs.decimals.decimal.Tie as tie
 
--- The amount that was accepted.
+-- The accepted amount.
 accepted : (c : tie.After-accepted2)
     → WasAmount
     (amountOf
@@ -48,7 +48,7 @@ returns-2 c =
     let o = c .before in
     let a = o .before .before .before .before .args in
     let r =
-    was-refused (amountOf (a .type-code) (a .raw) (scaleFactor (a .scale))) (o .accepted .given .0 .0)
+    was-refused (a .type-code) (a .raw) (scaleFactor (a .scale)) (o .accepted .given .0 .0)
     (sym (o .accepted .given .1) ∙ o .before .before .accept .ensures) in
     (simp (decimalOf, r), (simp (decimalOf, r), tt))
 

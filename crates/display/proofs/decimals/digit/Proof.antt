@@ -1,4 +1,4 @@
--- `digit` divides by the position's power of ten.
+-- `digit` divides by the power of ten of the position.
 use borrow.Author.Needs.{needs}
 use Rattle.display.proofs.PowersOfTen.{positive}
 use Rattle.display.proofs.decimals.digit.Statement.{statement}

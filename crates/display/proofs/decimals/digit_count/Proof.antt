@@ -1,4 +1,4 @@
--- `digit_count` finds the first power of ten that is more than the number.
+-- `digit_count` finds the first power of ten above the number.
 use mathlib.Core.Path.{_≡_}
 use Prim.Native.Nat.{_+_, _-_, _^_, _≤_, _<_}
 use native.Mathlib.Omega.{arith}

@@ -1,4 +1,4 @@
--- `digits_of` stores the digits at the start of twenty zeros.
+-- `digits_of` stores the digits at the start of twenty zero bytes.
 use mathlib.Core.Path.{_≡_, ap, _∙_}
 use mathlib.Core.List.{_++_}
 use Prim.Native.Nat.{_-_}

@@ -1,4 +1,4 @@
--- `put_digits`: the digits left, stored from here on, make the buffer that all of them make.
+-- `put_digits`: storing the digits left from here on gives the buffer with all digits stored.
 use mathlib.Core.Path.{_≡_, sym, ap, _∙_}
 use Prim.Native.Nat.{ℕ, _+_, _≤_}
 use native.Mathlib.Omega.{arith}

@@ -1,4 +1,4 @@
--- `put_number` stores as many digits as the number has.
+-- `put_number` stores all digits of the number.
 use mathlib.Core.Path.{ap}
 use Prim.Native.Nat.{ℕ}
 use native.Mathlib.Omega.{arith}

@@ -1,4 +1,4 @@
--- `put_whole` stores one 0 for zero, else the digits and the zeros behind them.
+-- `put_whole` stores one 0 for zero, else the digits and then the zeros.
 use mathlib.Core.Path.{sym, _∙_}
 use Prim.Native.Nat.{_*_, _^_}
 use native.Mathlib.Omega.{arith}

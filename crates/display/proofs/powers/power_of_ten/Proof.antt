@@ -1,4 +1,4 @@
--- `power_of_ten`: the table grows tenfold from 1 on, computed.
+-- `power_of_ten`: the table is computed to begin with 1 and to grow tenfold.
 use borrow.Author.Needs.{needs}
 use Rattle.display.proofs.PowersOfTen.{tenfold, power-at}
 use Rattle.display.proofs.powers.power_of_ten.Statement.{statement}

@@ -1,4 +1,4 @@
--- `accept` tries the type, the value and the scale factor in turn.
+-- `accept` tests the type, the value and the scale factor in turn.
 use mathlib.Core.Path.{sym, ap, _∙_}
 use borrow.Author.Needs.{needs}
 use borrow.Author.Tests.{not-true, not-false}
@@ -11,7 +11,7 @@ use Rattle.display.proofs.AmountCases.{same-parts}
 use Rattle.display.proofs.quantities.accept.Statement.{statement}
 use Rattle.display.proofs.quantities.accept.Tie as tie
 
--- The number that was found.
+-- The number that `unscaled_value` returned.
 found : (c : tie.After-unscaled)
     → NumberOf
     (unscaled (c .before .before .before .before .args .quantity .«type_code») (c .before .before .before .before .args .quantity .raw))

@@ -1,4 +1,4 @@
--- `scaled` splits the scale factor by its register.
+-- `scaled` reads the scale factor's register as zeros or places.
 use mathlib.Core.Path.{_≡_, refl, sym, ap, _∙_}
 use Prim.Native.Nat.{suc, _-_}
 use native.Mathlib.Omega.{arith}

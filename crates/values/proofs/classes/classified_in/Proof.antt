@@ -1,4 +1,4 @@
--- `classified_in` refuses what is too wide for the row, and else gives the class.
+-- `classified_in` reports a raw value that is too wide for the row, and else returns the class.
 use mathlib.Core.Path.{sym, ap, _∙_}
 use borrow.Author.Needs.{needs}
 use borrow.Author.Tests.{leb-false}

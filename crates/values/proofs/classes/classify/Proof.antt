@@ -10,7 +10,7 @@ use Rattle.values.specs.Classes.{classified}
 use Rattle.values.proofs.classes.classify.Statement.{statement}
 use Rattle.values.proofs.classes.classify.Tie as tie
 
--- The row that was found is the table's.
+-- The row found is the table's.
 at : (c : tie.After-found) → rowOf (c .before .before .before .args .type-code) ≡ some (toSpecRow (c .found .given .0 .0))
 at c = sym (c .before .before .row-of .ensures) ∙ ap toSpecFound (c .found .given .1)
 

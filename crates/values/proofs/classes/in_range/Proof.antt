@@ -1,4 +1,4 @@
--- `in_range`: each kind of range by its law of Ranges.
+-- `in_range` tests each kind of range, by the laws of Ranges.
 use mathlib.Core.Path.{sym, ap, _∙_}
 use borrow.Author.Needs.{needs}
 use Rattle.point_types.specs.CodeTypes.{toSpecRow, toSpecRange}

@@ -1,4 +1,4 @@
--- `is_unimplemented`: the pattern is compared where the type has one.
+-- `is_unimplemented` compares with the pattern, if the type has one.
 use borrow.Author.Needs.{needs}
 use Rattle.values.proofs.classes.is_unimplemented.Statement.{statement}
 use Rattle.values.proofs.classes.is_unimplemented.Tie as tie

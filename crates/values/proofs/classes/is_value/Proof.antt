@@ -1,4 +1,4 @@
--- `is_value` asks for the class.
+-- `is_value` tests the class.
 use mathlib.Core.Path.{ap, _∙_}
 use borrow.Author.Needs.{needs}
 use Rattle.values.specs.Classes.{isValue}

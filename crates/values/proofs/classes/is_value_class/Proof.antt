@@ -1,4 +1,4 @@
--- `is_value_class` meets its contract, class by class.
+-- `is_value_class` tests the class, case by case.
 use mathlib.Core.Path.{sym, ap}
 use mathlib.Core.Bool.{Bool}
 use borrow.Author.Needs.{needs}
@@ -8,7 +8,7 @@ use Rattle.values.specs.declared.Class.{Class}
 use Rattle.values.proofs.classes.is_value_class.Statement.{statement}
 use Rattle.values.proofs.classes.is_value_class.Tie as tie
 
--- The contract's right side, of a class of the code.
+-- The right side of the contract, for a class of the code.
 abbrev means : Class → Bool
 means class = isValue (ofClass (toSpecClass class))
 

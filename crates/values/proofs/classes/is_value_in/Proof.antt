@@ -1,4 +1,4 @@
--- `is_value_in` meets its contract: only a raw value that has a class can be a value.
+-- `is_value_in`: only a raw value that has a class can be a value.
 use mathlib.Core.Path.{sym, ap}
 use borrow.Author.Needs.{needs}
 use Rattle.values.specs.Classes.{isValue}

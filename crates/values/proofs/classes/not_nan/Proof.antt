@@ -1,4 +1,4 @@
--- `not_nan` tests exponent and fraction as the logic's account of IEEE 754 does.
+-- `not_nan` tests exponent and fraction as the library's definition of IEEE 754 does.
 use mathlib.Core.Path.{sym}
 use mathlib.Core.Bool.{Bool·not-not}
 use borrow.Author.Tests.{eq-eqb, ne-eqb}

@@ -1,4 +1,4 @@
--- `scale_factor_in_range`: 0 to 10 in the lower half of the patterns, -10 to -1 from FFF6 on.
+-- `scale_factor_in_range`: 0 to 10 are the patterns 0 to A, and -10 to -1 are those from FFF6 on.
 use native.Mathlib.Omega.{arith}
 use borrow.Author.Tests.{le-leb}
 use Rattle.values.proofs.TwosComplement.{lower-half, scale-factor-tail}

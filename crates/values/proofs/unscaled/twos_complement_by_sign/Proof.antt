@@ -1,4 +1,4 @@
--- `twos_complement_by_sign`: each half of the patterns by its law.
+-- `twos_complement_by_sign` computes two's complement for each half of the patterns.
 use mathlib.Core.Path.{_≡_, _∙_}
 use Prim.Native.Nat.{_-_, _*_, _^_}
 use native.Mathlib.Omega.{arith}
@@ -8,7 +8,7 @@ use Rattle.values.proofs.UnscaledCases.{from-zero, below-zero}
 use Rattle.values.proofs.unscaled.twos_complement_by_sign.Statement.{statement}
 use Rattle.values.proofs.unscaled.twos_complement_by_sign.Tie as tie
 
--- What `all_ones` gave is the largest pattern.
+-- The result of `all_ones` is the largest pattern.
 ones : (c : tie.After-all-ones) → c .all-ones .result ≡ 2 ^ (16 * c .before .args .count) - 1
 ones c = c .all-ones .ensures ∙ four-ones (c .before .args .count) (c .before .pre .0 .1)
 

@@ -1,4 +1,5 @@
--- `unscaled_value` finds the type's row, refuses a type without a scale factor and what is no value, and else gives the integer.
+-- `unscaled_value` finds the type's row, tests that it may carry a scale factor and that the raw value is a value, and returns the
+-- integer.
 use mathlib.Core.Path.{_≡_, sym, ap, _∙_}
 use mathlib.Core.Option.{some}
 use Prim.Native.Nat.{ℕ}
@@ -13,7 +14,7 @@ use Rattle.values.proofs.UnscaledCases.{value-fits}
 use Rattle.values.proofs.unscaled.unscaled_value.Statement.{statement}
 use Rattle.values.proofs.unscaled.unscaled_value.Tie as tie
 
--- The row that was found is the table's.
+-- The row found is the table's.
 at : (c : tie.After-found) → rowOf (c .before .before .before .args .type-code) ≡ some (toSpecRow (c .found .given .0 .0))
 at c = sym (c .before .before .row-of .ensures) ∙ ap toSpecFound (c .found .given .1)
 
@@ -22,7 +23,7 @@ classified-in-requires c κs =
     let f = c .before .before .before in
     listed (f .before .before .before .args .type-code) (toSpecRow (f .found .given .0 .0)) (at f)
 
--- Whether it is a value.
+-- The result of `is_value_in` is whether the raw value is a value.
 value : (c : tie.After-is-value-in)
     → isValue
     (classified
