@@ -18,7 +18,7 @@ put-listing-requires c κs =
     let found = listing (a .catalog .now) (a .map .now) listCapacity in
     let g = c .before .before .before .before .listing2 .given in
     let reports = ap toSpecListing (sym (g .1)) ∙ (rw capacity at (c .before .before .before .before .before .before .list .ensures .0)) in
-    let stores = rw capacity at (c .before .before .before .before .before .before .list .ensures .1) in
+    let stores = rw capacity at (c .before .before .before .before .before .before .list .ensures .1 .0) in
     let r = result-listed found (g .0 .0) (g .0 .1 .0) reports in
     let h = records-fit (a .catalog .now) (a .map .now) listCapacity (r .records) (g .0 .1 .0) (r .is) in
     (omega (arith, h, r .count), search needs)
@@ -30,7 +30,7 @@ returns c =
     let found = listing (a .catalog .now) (a .map .now) listCapacity in
     let g = c .before .before .before .listing .given in
     let reports = ap toSpecListing (sym (g .1)) ∙ (rw capacity at (c .before .before .before .before .before .list .ensures .0)) in
-    let stores = rw capacity at (c .before .before .before .before .before .list .ensures .1) in
+    let stores = rw capacity at (c .before .before .before .before .before .list .ensures .1 .0) in
     let made = refusal-made found (g .0 .0) (g .0 .1 .0) (g .0 .1 .1 .0) (result-refused found (g .0 .0) (g .0 .1 .0) (g .0 .1 .1 .0) reports) (c .put-refusal .ensures .0) (c .put-refusal .ensures .1) in
     (made .reports, (made .fits, (made .holds, (stores, made .keeps))))
 
@@ -41,7 +41,7 @@ returns-2 c =
     let found = listing (a .catalog .now) (a .map .now) listCapacity in
     let g = c .before .before .before .before .before .listing2 .given in
     let reports = ap toSpecListing (sym (g .1)) ∙ (rw capacity at (c .before .before .before .before .before .before .before .list .ensures .0)) in
-    let stores = rw capacity at (c .before .before .before .before .before .before .before .list .ensures .1) in
+    let stores = rw capacity at (c .before .before .before .before .before .before .before .list .ensures .1 .0) in
     let r = result-listed found (g .0 .0) (g .0 .1 .0) reports in
     let made = listing-made found (g .0 .0) (g .0 .1 .0) r (a .list .now) stores (c .put-listing .ensures .0) (c .put-listing .ensures .1) in
     (made .reports, (made .fits, (made .holds, (stores, made .keeps))))
