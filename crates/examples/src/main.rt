@@ -50,8 +50,8 @@ fn write_argument(i: usize) {
     write(&name[..length]);
 }
 
-// Reads the file that argument `i` names into `out`, until the file ends or `out` is full. Returns the number of bytes
-// read: 0 if the file cannot be opened.
+// Reads the file that argument `i` names into `out`, until the file ends, `out` is full or a read fails. Returns the
+// number of bytes read: 0 if the file cannot be opened.
 fn read_argument(i: usize, out: &mut [u8]) -> usize
     ensures { λ r. ⌜ Counts r (now (out .exit)) ⌝ }
 {
@@ -64,7 +64,7 @@ fn read_argument(i: usize, out: &mut [u8]) -> usize
 }
 
 // Is `expected` the text that `read_plant` makes of `input`, after `refused ` if it is a refusal? This does not run
-// `readplant`: that its `main` prints these bytes is proved there.
+// `readplant`; the crate `readplant` proves that its `main` hands these bytes to its one write.
 fn gives(input: &[u8], expected: &[u8]) -> bool {
     let mut catalog = [0u16; CATALOG_WORDS];
     let mut map = [0u16; MAP_REGISTERS];

@@ -1,4 +1,4 @@
--- `survey_catalog` reads one more line of the catalog: how `FramesFound` goes on.
+-- `FramesFound` after one more line of the catalog: the steps of `survey_catalog`.
 use mathlib.Core.Path.{_≡_, sym, ap, _∙_}
 use mathlib.Core.Bool.{true, false}
 use mathlib.Core.List.{List, _∷_, _++_}

@@ -52,7 +52,3 @@ catalog-cut (following n m l e c) number frames registers h =
 pub cut-off : (text : List ℕ) (frames registers n : ℕ) → 33 * frames + 5 * registers + 66 ≤ n
     → parsed (take n text) frames registers ≡ parsed text frames registers
 cut-off text frames registers n h = catalog-cut (cut-lines n text) 1 frames registers h
-
--- For 1,024 frames and 8,192 registers, 74,818 bytes are enough.
-pub cut-off-largest : (text : List ℕ) → parsed (take 74818 text) 1024 8192 ≡ parsed text 1024 8192
-cut-off-largest text = cut-off text 1024 8192 74818 (omega arith)

@@ -1,4 +1,4 @@
--- `survey_map` reads one more line of the map: how `RegistersFound` goes on.
+-- `RegistersFound` after one more line of the map: the steps of `survey_map`.
 use mathlib.Core.Path.{_≡_, sym, ap, _∙_}
 use mathlib.Core.Bool.{true, false}
 use mathlib.Core.List.{List, [], _∷_, _++_}

@@ -31,7 +31,7 @@ abbrev pub withRegisters : List ℕ → Input → Input
 withRegisters registers (refused number place) = refused number place
 withRegisters registers (words catalog map) = words catalog (registers ++ map)
 
--- The map's lines, numbered from `place`, with a capacity of registers. 50: a bad line; 52: too many registers.
+-- The map's lines, numbered from `place`; `capacity` is the most registers. 50: a bad line; 52: too many registers.
 unfoldable pub mapFrom : ℕ → ℕ → List (List ℕ) → Input
 mapFrom place capacity [] = words [] []
 mapFrom place capacity (l ∷ ls) =

@@ -1,4 +1,4 @@
--- What answers the bytes that were read answers the whole input, if the buffer holds 74,818 bytes.
+-- The output for the bytes that were read is the output for the whole input, if the buffer holds 74,818 bytes.
 use mathlib.Core.Path.{_≡_, sym, ap, _∙_}
 use mathlib.Core.List.{List, [], _++_, append-nil}
 use Prim.Native.Nat.{ℕ, _≤_}

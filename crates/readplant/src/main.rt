@@ -36,8 +36,8 @@ fn main() {
     print(&input, count, &output[..length]);
 }
 
-// Writes `bytes`, which must be the output for the input. That this one call hands exactly these bytes to the system is
-// read, not proved. A write that fails is ignored: there is nowhere to report it.
+// Writes `bytes`, which must be the output for the input whose first `count` bytes are in `input`. This write and the read
+// in `main` are left to trust. A write that fails is ignored: there is nowhere to report it.
 fn print(input: &[u8], count: usize, bytes: &[u8])
     requires { ⌜ Prints (now input) count (now bytes) ⌝ }
 {

@@ -1,4 +1,4 @@
--- What is cut out of the lists for an input, and what is written of the text.
+-- The catalog and the map that `read_plant` takes from its lists, and what the program writes of the text.
 use mathlib.Core.Path.{_≡_, sym, ap, _∙_}
 use mathlib.Core.List.{List, _++_}
 use Prim.Native.Nat.{ℕ, _*_}
@@ -13,7 +13,7 @@ use Rattle.report.specs.Program.{parsedInput, found, foundIn, printed, t
 use Rattle.report.specs.CodeTypes.{toCodeReport, writtenBy}
 use Rattle.report.specs.declared.Report.{Report}
 
--- ---- What is cut out of the lists
+-- ---- The catalog and the map
 
 module _ (input : List ℕ) (frames registers : ℕ) (w : Words (parsedInput input) frames registers) where
   pub catalog-cut : (old list : List ℕ) → list ≡ Parsing.storedCatalog (parsedInput input) old
@@ -45,7 +45,7 @@ found-refused input number place e = ap foundIn e
 
 -- ---- What is written
 
--- The bytes that the program writes of a text that was made of an answer are what is printed for it.
+-- If the buffer holds the text of an answer, the bytes that the program writes are what is printed for the answer.
 pub written : (a : Answer) (old out : List ℕ) (report : Report) → report ≡ toCodeReport a → out ≡ storedText a old
     → writtenBy report out ≡ printed a
 written a old out report e s = ap (λ (r : Report). writtenBy r out) e ∙ ap (writtenBy (toCodeReport a)) s ∙ go a

@@ -2,7 +2,7 @@
 pub mod EnoughInput
 pub mod TruncatedInput
 pub mod WorkedExamples
--- Laws of the definitions, and what the proofs of the functions cite
+-- Laws of the definitions, cited by the proofs of the functions
 pub mod NumberTexts
 pub mod RecordTexts
 pub mod ReportCases

@@ -1,7 +1,7 @@
--- The text of numbers: of two lists, ten numbers later, and with one number more.
+-- The text of consecutive numbers: of two lists, one record later, and with one number more.
 use mathlib.Core.Path.{_≡_, refl}
 use mathlib.Core.List.{List, [], _∷_, _++_, append-assoc}
-use Prim.Native.Nat.{ℕ, suc, _+_, _%_, _<_}
+use Prim.Native.Nat.{ℕ, suc, _+_, _-_, _%_, _<_}
 use Prim.Native.Char.{code}
 use native.Mathlib.Nat.{add-zero}
 use native.Mathlib.Numerals.{add-one}
@@ -14,7 +14,7 @@ use Rattle.listing.specs.Listing.{recordWidth}
 use Rattle.input.specs.Lines.{lineFeed}
 use Rattle.report.specs.InternalContracts.{separatorAfter, numbersText}
 
--- The text of two lists of numbers is the text of the first, and that of the second from its index on.
+-- The text of ms ++ ns is the text of ms, and the text of ns from the next index on.
 pub texts-append : (index : ℕ) (ms ns : List ℕ)
     → numbersText index (ms ++ ns) ≡ numbersText index ms ++ numbersText (index + length ms) ns
 unfolding numbersText
@@ -24,7 +24,7 @@ texts-append index (m ∷ ms) ns =
     let first = separatorAfter index ∷ numbersText (index + 1) ms in
     rw (e, texts-append (index + 1) ms ns, append-assoc (digitsOf m) first (numbersText (index + 1 + length ms) ns))
 
--- What stands behind a number comes again every ten numbers.
+-- The separators repeat with every record.
 separator-again : (index : ℕ) → separatorAfter (index + recordWidth) ≡ separatorAfter index
 unfolding separatorAfter
 separator-again index =
@@ -38,12 +38,12 @@ texts-again index (n ∷ ns) =
     let next : index + recordWidth + 1 ≡ index + 1 + recordWidth = omega arith in
     rw (separator-again index, next, texts-again (index + 1) ns)
 
--- What stands behind a number: behind the last of a record, and behind another.
-pub separator-last : (index : ℕ) → index % recordWidth ≡ 9 → separatorAfter index ≡ lineFeed
+-- The separator after the last number of a record, and after any other number.
+pub separator-last : (index : ℕ) → index % recordWidth ≡ recordWidth - 1 → separatorAfter index ≡ lineFeed
 unfolding separatorAfter
 separator-last index h = simp (separatorAfter, eq-eqb _ _ h)
 
-pub separator-other : (index : ℕ) → (index % recordWidth ≡ 9 → ⊥) → separatorAfter index ≡ code " "
+pub separator-other : (index : ℕ) → (index % recordWidth ≡ recordWidth - 1 → ⊥) → separatorAfter index ≡ code " "
 unfolding separatorAfter
 separator-other index h = simp (separatorAfter, ne-eqb _ _ h)
 

@@ -1,4 +1,4 @@
--- The lines of records are the text of their numbers, one behind the other: so the code's text is that of the listing.
+-- The lines of records are the text of their consecutive numbers: so the code's text is the text of the listing.
 use mathlib.Core.Path.{_≡_, refl, ap, _∙_}
 use mathlib.Core.List.{List, [], _∷_, _++_}
 use Prim.Native.Nat.{ℕ, _*_}
@@ -11,7 +11,7 @@ use Rattle.report.specs.Text.{numbersLine, recordLines, listingText}
 use Rattle.report.specs.InternalContracts.{separatorAfter, numbersText, listText}
 use Rattle.report.proofs.NumberTexts.{texts-append, texts-again}
 
--- The numbers of a record are its line, and those behind them begin a line.
+-- The numbers of a record are its line, and the numbers after them begin a new line.
 record-line : (r : Record) (rest : List ℕ) → numbersText 0 (recordNumbers r ++ rest) ≡ numbersLine (recordNumbers r) ++ numbersText 0 rest
 unfolding recordNumbers numbersLine numbersText separatorAfter
 record-line r rest =
@@ -22,7 +22,7 @@ unfolding recordLines numbersText entries
 record-lines [] = refl
 record-lines (r ∷ rs) = rw (record-line r (entries rs), record-lines rs)
 
--- The text that the code makes of the records' numbers, whatever stands behind them in the list.
+-- The text that the code makes of the records' numbers, whatever follows them in the list.
 pub listing-text : (rs : List Record) (rest : List ℕ) (headers : ℕ)
     → listText (length rs) headers (entries rs ++ rest) ≡ listingText rs headers
 unfolding listingText

@@ -1,4 +1,4 @@
--- The text that is made of an answer.
+-- The text of an answer in the buffer: of a refusal, and of a listing.
 use mathlib.Core.Path.{_≡_, ap, _∙_}
 use mathlib.Core.List.{List, _++_}
 use Prim.Native.Nat.{ℕ, _*_, _≤_}
@@ -15,7 +15,7 @@ use Rattle.report.specs.CodeTypes.{toCodeReport, lengthOf}
 use Rattle.report.specs.declared.Report.{Report}
 use Rattle.report.proofs.RecordTexts.{listing-text}
 
--- A text was made of an answer: the report has its length, and the buffer holds it.
+-- The text of answer a was put into the buffer: the report has its length, and the buffer holds it.
 pub record Made (a : Answer) (before after : List ℕ) (report : Report) : Type 0 where
   pub reports : report ≡ toCodeReport a
   pub holds : after ≡ storedText a before

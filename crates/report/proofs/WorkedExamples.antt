@@ -1,4 +1,4 @@
--- Document 01's example of the program, and the edges of its input, computed by the definitions: what is printed.
+-- Document 01's example of the program, and edge cases of its input: the output that the definitions give, computed.
 use mathlib.Core.Path.{_≡_, refl}
 use mathlib.Core.List.{List, [], _∷_, map}
 use Prim.Native.Nat.{ℕ}
@@ -34,13 +34,13 @@ exampleOutput =
     ascii
     "points 5 headers 3\n1 900 1 0 0 0 7 0 230 65535\n1 900 2 0 0 0 8 0 2 0\n1 900 3 0 0 0 9 0 65535 0\n1 900 5 0 0 0 10 0 5 0\n1 900 5 1 0 0 12 1 4294967295 0\n"
 
--- An input, and what is printed.
+-- An input and its output.
 abbrev pub Case : Type 0
 Case = List ℕ × List ℕ
 
 unfoldable pub cases : List Case
 cases =
-    -- The input's own refusals: nothing at all, one LF (an empty catalog and map), an empty line in the map.
+    -- An empty input, one LF (an empty catalog and an empty map), an empty line in the map.
     (ascii "", ascii "refused 51 at 1\n")
     ∷ (ascii "\n", ascii "refused 21 at 0\n")
     ∷ (ascii "\n\n", ascii "refused 50 at 2\n")
@@ -52,7 +52,7 @@ cases =
     ∷ (exampleInput, exampleOutput)
     ∷ []
 
--- Every input prints what its case says.
+-- Every input gives the output of its case.
 pub printed-so : map (λ (c : Case). output (c .0)) cases ≡ map (λ (c : Case). c .1) cases
 unfolding cases checkFrom checked framesFrom frameOf isSizeOf rows rowAmong mayScale registersOf twosComplement join shownRaw tooWide integer inRange classOf classified Definitions.parsed opening scanFrom scan pointAt within measured fillMeasured countUnimplemented fits fillOf pointsAt instances groupsBy entered contentAt endsWithPad allButLast readFull readBy topOf reading recordNumbers walk recordsBy allRecords withCapacity listing lastDigits digitCountWithin lines digitValue isDigit digitOr0 wordsOf mapFrom catalogFrom numbersLine recordLines listingText refusalText found
 printed-so = refl

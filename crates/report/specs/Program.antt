@@ -5,7 +5,7 @@ use Rattle.listing.specs.Listing.{Answer, refused, listed, listing, recordWidth
 use Rattle.input.specs.Parsing as Parsing
 use Rattle.report.specs.Text.{listingText, refusedWord, refusalText}
 
--- The program holds so many frames of a catalog, registers of a map, and records.
+-- The program holds 1,024 frames of a catalog, 8,192 registers of a map and 400 records.
 abbrev pub frameCapacity : ℕ
 frameCapacity = 1024
 
@@ -15,7 +15,7 @@ registerCapacity = 8192
 abbrev pub recordCapacity : ℕ
 recordCapacity = 400
 
--- The entries of its output list.
+-- The number of entries of its output list.
 abbrev pub listCapacity : ℕ
 listCapacity = recordWidth * recordCapacity
 
@@ -23,7 +23,7 @@ listCapacity = recordWidth * recordCapacity
 abbrev pub parsedInput : List ℕ → Parsing.Input
 parsedInput input = Parsing.parsed input frameCapacity registerCapacity
 
--- The answer: what listing finds in them, or the input's refusal (its 0 headers are never printed).
+-- The answer: the listing of the map by the catalog, or the input's refusal (its 0 headers are never printed).
 abbrev pub foundIn : Parsing.Input → Answer
 foundIn (Parsing.refused number place) = refused number place 0
 foundIn (Parsing.words catalog map) = listing catalog map listCapacity
@@ -32,17 +32,17 @@ foundIn (Parsing.words catalog map) = listing catalog map listCapacity
 unfoldable pub found : List ℕ → Answer
 found input = foundIn (parsedInput input)
 
--- What a line of a refusal opens with; nothing stands in front of a listing.
+-- What the output opens with: the word `refused ` for a refusal, nothing for a listing.
 abbrev pub head : Answer → List ℕ
 head (refused number place headers) = refusedWord
 head (listed rs headers) = []
 
--- The text of an answer behind that.
+-- The text of an answer, after that word.
 abbrev pub textOf : Answer → List ℕ
 textOf (refused number place headers) = refusalText number place
 textOf (listed rs headers) = listingText rs headers
 
--- What is printed: the listing, or the refusal alone on its line.
+-- What is printed for an answer: the listing, or the refusal alone on its line.
 abbrev pub printed : Answer → List ℕ
 printed a = head a ++ textOf a
 
@@ -50,13 +50,13 @@ printed a = head a ++ textOf a
 abbrev pub output : List ℕ → List ℕ
 output input = printed (found input)
 
--- ---- What is left in the buffers
+-- ---- The buffers after `read_plant`
 
--- The text's buffer afterwards: the text at its start, and the later bytes as they were.
+-- The buffer of the text: the text at its start, and the later bytes unchanged.
 abbrev pub storedText : Answer → List ℕ → List ℕ
 storedText a old = Parsing.stored (textOf a) old
 
--- The output list afterwards: what listing stores. Where the input is refused there is no listing, and it is as it was.
+-- The output list: what listing stores. If the input is refused there is no listing, and the list is unchanged.
 abbrev pub storedList : Parsing.Input → List ℕ → List ℕ
 storedList (Parsing.refused number place) old = old
 storedList (Parsing.words catalog map) old = stored (listing catalog map listCapacity) old

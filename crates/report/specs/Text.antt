@@ -8,7 +8,7 @@ use Rattle.display.specs.Decimals.{digitsOf}
 use Rattle.listing.specs.Listing.{Record, recordNumbers}
 use Rattle.input.specs.Lines.{lineFeed}
 
--- Numbers as a line: one space between them, and LF behind the last.
+-- Numbers as a line: one space between them, and LF after the last.
 unfoldable pub numbersLine : List ℕ → List ℕ
 numbersLine [] = lineFeed ∷ []
 numbersLine (n ∷ []) = digitsOf n ++ lineFeed ∷ []
@@ -24,10 +24,10 @@ unfoldable pub listingText : List Record → ℕ → List ℕ
 listingText rs headers =
     ascii "points " ++ digitsOf (length rs) ++ ascii " headers " ++ digitsOf headers ++ lineFeed ∷ recordLines rs
 
--- What a refusal's line opens with.
+-- The word that opens a refusal's line, with its space.
 abbrev pub refusedWord : List ℕ
 refusedWord = ascii "refused "
 
--- What follows it: the refusal's number and its place.
+-- The rest of the line: `N at P` and LF, for the refusal's number and its place.
 unfoldable pub refusalText : ℕ → ℕ → List ℕ
 refusalText number place = digitsOf number ++ ascii " at " ++ digitsOf place ++ lineFeed ∷ []

@@ -1,5 +1,5 @@
-// What `readplant` does between reading its input and writing its output: a text with a catalog and a map in, the text
-// of the listing out.
+// What `readplant` does between reading its input and writing its output: it makes the text of a listing, or of a
+// refusal, from the text of a catalog and a map.
 mod text;
 
 use input::FRAME_WORDS;
@@ -75,7 +75,7 @@ pub fn read_plant(
     }
 }
 
-// Lists a map by a catalog, and makes the text of it.
+// Lists a map by a catalog, and puts the text of the listing or of the refusal into `out`.
 fn report_listing(
     catalog: &[u16],
     map: &[u16],

@@ -10,7 +10,7 @@ ghost use Rattle.listing.specs.Listing.{recordWidth};
 ghost use Rattle.report.specs.Text.{refusalText};
 ghost use Rattle.report.specs.InternalContracts.{numbersText, separatorAfter, listText};
 
-// `N at P` and LF. Like each of the following it gives the position behind what it stored.
+// Puts `N at P` and LF. This and each function below returns the position after what it stored.
 pub(crate) fn put_refusal(out: &mut [u8], number: u16, place: usize) -> usize
     requires { ⌜ 64 ≤ length (now out) ⌝ }
     ensures { λ r. ⌜ Put (now (out .entry)) (now (out .exit)) 0 (refusalText number place) r ⌝ }
@@ -22,7 +22,7 @@ pub(crate) fn put_refusal(out: &mut [u8], number: u16, place: usize) -> usize
     put_bytes(out, after_place, b"\n")
 }
 
-// The first line of a listing and the records of so many points.
+// Puts the first line of a listing, and the lines of `points` records.
 pub(crate) fn put_listing(out: &mut [u8], points: usize, headers: usize, list: &[u64]) -> usize
     requires { ⌜ points * recordWidth ≤ length (now list) ⌝ }
     requires { ⌜ 64 + length (now list) * 21 ≤ length (now out) ⌝ }
@@ -37,7 +37,7 @@ pub(crate) fn put_listing(out: &mut [u8], points: usize, headers: usize, list: &
     put_numbers(out, records, list, points * WIDTH)
 }
 
-// The first `count` numbers of a list, ten a line.
+// Puts the first `count` numbers of `list`, `WIDTH` a line.
 fn put_numbers(out: &mut [u8], start: usize, list: &[u64], count: usize) -> usize
     requires { ⌜ count ≤ length (now list) ⌝ }
     requires { ⌜ start + count * 21 ≤ length (now out) ⌝ }
@@ -53,7 +53,7 @@ fn put_numbers(out: &mut [u8], start: usize, list: &[u64], count: usize) -> usiz
     at
 }
 
-// A number of a record, and what stands behind it.
+// Puts number `index` of the list, and the LF or space after it.
 fn put_entry(out: &mut [u8], at: usize, n: u64, index: usize) -> usize
     requires { ⌜ at + 21 ≤ length (now out) ⌝ }
     ensures { λ r. ⌜ Put (now (out .entry)) (now (out .exit)) at (digitsOf n ++ separatorAfter index ∷ []) r ⌝ }
@@ -66,7 +66,7 @@ fn put_entry(out: &mut [u8], at: usize, n: u64, index: usize) -> usize
     put_bytes(out, end, b" ")
 }
 
-// A number's digits.
+// Puts the digits of `n`.
 fn put_number(out: &mut [u8], at: usize, n: u64) -> usize
     requires { ⌜ at + 20 ≤ length (now out) ⌝ }
     ensures { λ r. ⌜ Put (now (out .entry)) (now (out .exit)) at (digitsOf n) r ⌝ }
@@ -78,7 +78,7 @@ fn put_number(out: &mut [u8], at: usize, n: u64) -> usize
     put_bytes(out, at, &bytes[..count])
 }
 
-// Bytes as they are.
+// Puts `bytes`.
 fn put_bytes(out: &mut [u8], at: usize, bytes: &[u8]) -> usize
     requires { ⌜ at + length (now bytes) ≤ length (now out) ⌝ }
     ensures { λ r. ⌜ Put (now (out .entry)) (now (out .exit)) at (now (bytes .entry)) r ⌝ }

@@ -1,4 +1,4 @@
--- `main`: the bytes handed to `print` are the output for the whole input, and the text lies in its buffer.
+-- `main`: the bytes handed to `print` are the output for the whole input.
 use mathlib.Core.Path.{_≡_, sym, _∙_}
 use native.Mathlib.Omega.{arith}
 use borrow.Author.Needs.{needs}

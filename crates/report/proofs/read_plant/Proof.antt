@@ -1,5 +1,6 @@
--- `read_plant`: the text is made of what `parse` and `list` find, and what the program writes of it is what is to be printed.
+-- `read_plant`: the text is that of the answer that `parse` and `list` give, and what the program writes of it is the output.
 use mathlib.Core.Path.{_≡_, sym, ap, _∙_}
+use Prim.Native.Nat.{_*_}
 use native.Mathlib.Omega.{arith}
 use borrow.Author.Needs.{needs}
 use lib.ListN.{length}
@@ -7,7 +8,7 @@ use Rattle.listing.specs.Listing.{Answer, listing, stored}
 use Rattle.input.specs.Parsing as Parsing
 use Rattle.input.specs.CodeTypes.{toSpecParsed}
 use Rattle.input.proofs.ParsedResults.{result-refused, result-words}
-use Rattle.report.specs.Program.{parsedInput, found, listCapacity, storedText, storedList}
+use Rattle.report.specs.Program.{frameCapacity, registerCapacity, parsedInput, found, listCapacity, storedText, storedList}
 use Rattle.report.specs.CodeTypes.{toCodeReport}
 use Rattle.report.proofs.ReportCases.{refusal-made}
 use Rattle.report.proofs.InputCases.{catalog-cut, map-cut, found-words, list-stored, found-refused, written}
@@ -22,8 +23,8 @@ mul-part c =
 returns : tie.Need-returns
 returns c =
     let a = c .before .before .before .before .before .before .before .before .before .args in
-    let words : length (a .catalog .now) ≡ 8192 = search needs in
-    let registers : length (a .map .now) ≡ 8192 = search needs in
+    let words : length (a .catalog .now) ≡ frameCapacity * 8 = search needs in
+    let registers : length (a .map .now) ≡ registerCapacity = search needs in
     let x = parsedInput (a .input .now) in
     let g = c .before .before .before .parsed .given in
     let says = rw (words, registers) at (c .before .before .before .before .before .parse .ensures) in
@@ -49,8 +50,8 @@ returns c =
 returns-2 : tie.Need-returns-2
 returns-2 c =
     let a = c .before .before .before .before .before .before .before .before .before .before .before .before .before .before .before .before .args in
-    let words : length (a .catalog .now) ≡ 8192 = search needs in
-    let registers : length (a .map .now) ≡ 8192 = search needs in
+    let words : length (a .catalog .now) ≡ frameCapacity * 8 = search needs in
+    let registers : length (a .map .now) ≡ registerCapacity = search needs in
     let x = parsedInput (a .input .now) in
     let g = c .before .before .before .before .before .before .before .before .before .before .parsed2 .given in
     let says = rw (words, registers) at (c .before .before .before .before .before .before .before .before .before .before .before .before .parse .ensures) in

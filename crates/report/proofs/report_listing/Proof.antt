@@ -1,4 +1,4 @@
--- `report_listing`: the text is made of what `list` finds.
+-- `report_listing`: the text is that of the answer that `list` returns.
 use mathlib.Core.Path.{_≡_, sym, ap, _∙_}
 use native.Mathlib.Omega.{arith}
 use borrow.Author.Needs.{needs}

@@ -1,4 +1,4 @@
--- `put_bytes`: storing the bytes that are left gives what storing all of them gives.
+-- `put_bytes`: storing the bytes that are left gives the buffer that storing all of them gives.
 use mathlib.Core.Path.{_≡_, refl, _∙_}
 use Prim.Native.Nat.{_+_, _-_, _≤_}
 use native.Mathlib.Nat.{add-zero}

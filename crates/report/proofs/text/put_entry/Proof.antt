@@ -1,4 +1,4 @@
--- `put_entry` stores the number, and LF or a space behind it.
+-- `put_entry` stores the number, and LF or a space after it.
 use native.Mathlib.Omega.{arith}
 use borrow.Author.Needs.{needs}
 use Rattle.display.proofs.StoredTexts.{put-both}

@@ -1,4 +1,4 @@
--- `put_number` stores the digits that `digits_of` gives.
+-- `put_number` stores the digits that `digits_of` returns.
 use mathlib.Core.Path.{_≡_, sym}
 use native.Mathlib.Omega.{arith}
 use borrow.Author.Needs.{needs}

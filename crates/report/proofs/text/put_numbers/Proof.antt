@@ -1,4 +1,4 @@
--- `put_numbers`: the text of the numbers passed is stored.
+-- `put_numbers`: the text of the first i numbers is stored.
 use mathlib.Core.Path.{_≡_, refl, ap}
 use Prim.Native.Nat.{ℕ, _+_, _-_, _*_, _≤_}
 use native.Mathlib.Omega.{arith}
