@@ -9,7 +9,7 @@ use Rattle.listing.specs.declared.Listing as Code
 use Rattle.listing.specs.CodeTypes.{toSpecListing}
 
 -- A call of `list` whose output list was `before`, which returned `returned` and left the list `after`: the two equations of its
--- contract for the result and the list.
+-- contract for the result and the list. The contract cites this.
 pub record ListCall (catalog map before : List ℕ) (returned : Code.Listing) (after : List ℕ) : Type 0 where
   pub result : toSpecListing returned ≡ Listing.result (listing catalog map (length before))
   pub list : after ≡ stored (listing catalog map (length before)) before

@@ -20,6 +20,7 @@ ghost use Rattle.catalog_frames.specs.CodeTypes.{toSpecPoint};
 ghost use Rattle.listing.specs.CodeTypes.{toSpecTarget};
 ghost use Rattle.writing.specs.Writing as Writings;
 ghost use Rattle.writing.specs.CodeTypes.{toSpecWritten};
+ghost use Rattle.writing.specs.Calls.{WriteCall};
 ghost use Rattle.writing.specs.InternalContracts.{toSpecVerdict};
 
 // What `write` returns: the point is written, or a refusal with its number and place.
@@ -47,6 +48,7 @@ pub fn write(
 ) -> Written
     ensures { λ r. ⌜ toSpecWritten r ≡ Writings.result (Writings.writing (now (catalog .entry)) (now (map .entry)) model point (path .instances) raw) ⌝ }
     ensures { λ _. ⌜ now (map .exit) ≡ Writings.mapAfter (Writings.writing (now (catalog .entry)) (now (map .entry)) model point (path .instances) raw) (now (map .entry)) ⌝ }
+    ensures { λ r. ⌜ WriteCall (now (catalog .entry)) (now (map .entry)) model point (path .instances) raw r (now (map .exit)) ⌝ }
 {
     let finding = find(catalog, map, model, point, path);
     match finding {
