@@ -1,4 +1,4 @@
--- The claim on refusal 31 (document 01, "Writing": "31: no such point"; "31 for a point that listing shows … breaks demand 2").
+-- The claim on refusal 31 (document 01, "Writing"): no point that listing shows gets it, and what gets it is no point of the map.
 -- Proof: `proofs/NoSuchPoint.antt`.
 use mathlib.Core.Path.{_≡_}
 use mathlib.Core.Bool.{false}

@@ -1,4 +1,4 @@
--- The claim that an accepted write reads back (document 01, "Writing": "Only that point's registers change").
+-- The claim that an accepted write reads back, and that no other register changes (document 01, "Writing").
 -- Proof: `proofs/ReadBack.antt`.
 use mathlib.Core.Path.{_≡_}
 use mathlib.Core.List.{List}

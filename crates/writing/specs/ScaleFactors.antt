@@ -1,5 +1,5 @@
--- The claim on the scale points of listed records (document 01, "Status of a point": "A scale point in a lower group is that of the
--- same instance"). Proof: `proofs/ScaleFactors.antt`.
+-- The claim on the scale points of listed records: each is that of the same instance or of one around it (document 01, "Status of a
+-- point"). Proof: `proofs/ScaleFactors.antt`.
 use mathlib.Core.Path.{_≡_}
 use mathlib.Core.Bool.{true}
 use mathlib.Core.List.{List}
