@@ -6,8 +6,8 @@ use lib.IntN.{ℤ, natAbs}
 use lib.Signed.{nonNeg}
 use Rattle.lists.proofs.TestOutcomes.{impossible}
 use Rattle.values.specs.Classes.{isScaleFactor}
-use Rattle.values.specs.Unscaled.{Unscaled, number, noValue, notScalable, unscaled}
-use Rattle.values.proofs.UnscaledRange.{Within64, unscaled-range}
+use Rattle.values.specs.Unscaled.{Unscaled, number, noValue, notScalable, unscaled, Within64}
+use Rattle.values.proofs.UnscaledRange.{unscaled-range}
 use Rattle.display.specs.Amounts.{Amount, amount, refused, amountOf, zeros, places}
 use Rattle.display.specs.InternalParts.{toCodeParts, toCodeAccepted, TenAtMost}
 use Rattle.display.specs.declared.quantities.ScaledNumber.{ScaledNumber}

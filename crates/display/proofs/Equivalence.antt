@@ -5,23 +5,14 @@ use mathlib.Core.Bool.{Bool, true, false}
 use Prim.Native.Nat.{_<_}
 use lib.IntN.{ℤ, pos, negsuc, _*ℤ_}
 use Rattle.display.specs.Amounts.{Amount, amount, refused, places, Fraction, fractionOf}
-use Rattle.display.specs.Equality.{isSameInteger, isSameFraction, equalIf, equal, equality}
+use Rattle.display.specs.Equality.{isSameInteger, isSameFraction, equalIf, equal, equality, Accepted, SameNumber}
 use Rattle.display.proofs.PowersOfTen.{positive}
 use Rattle.display.proofs.Multiples.{same-test}
 use Rattle.display.proofs.ScaledIntegers.{swap, cancel, same-integer, integer-same}
 
--- The amount is no refusal.
-abbrev pub Accepted : Amount → Type 0
-Accepted (amount value scale) = Unit {0}
-Accepted (refused n place) = ⊥
-
 is-equal : (b : Bool) → equalIf b ≡ equal → b ≡ true
 is-equal true e = refl
 is-equal false e = cc
-
--- Two fractions are the same number: their cross-multiplied integers are equal.
-abbrev pub SameNumber : Fraction → Fraction → Type 0
-SameNumber p q = p .numerator *ℤ pos (q .denominator) ≡ q .numerator *ℤ pos (p .denominator)
 
 module _ (v s w t : ℤ) where
   pub equal-means : equality (amount v s) (amount w t) ≡ equal → SameNumber (fractionOf v s) (fractionOf w t)

@@ -11,24 +11,16 @@ use lib.IntN.{ℤ, pos, negsuc, negℤ}
 use lib.ListN.{length, length-append}
 use lib.Pow.{pow-add}
 use Rattle.lists.proofs.TestOutcomes.{impossible}
-use Rattle.values.specs.Unscaled.{number, unscaled}
-use Rattle.values.proofs.UnscaledRange.{Within64}
+use Rattle.values.specs.Unscaled.{Within64}
 use Rattle.display.specs.Amounts.{Amount, amount, amountOf, fractionOf, zeros, places}
 use Rattle.display.specs.Decimals.{digitCount, digitsOf, decimalPlaces, unsignedText, decimalText, Decimal, text, decimalOf}
 use Rattle.display.specs.InternalParts.{TenAtMost}
-use Rattle.display.specs.Reading.{signed, readDecimal}
+use Rattle.display.specs.Reading.{signed, readDecimal, Exact}
 use Rattle.display.proofs.PowersOfTen.{positive}
 use Rattle.display.proofs.DigitCount.{at-most}
 use Rattle.display.proofs.DigitTexts.{digits-length, number-length}
 use Rattle.display.proofs.AmountCases.{amount-of, value-within, scale-within}
 use Rattle.display.proofs.ReadingBack.{read-unsigned, no-minus}
-
--- The claim for a text that `decimal` writes for a type code, a raw value and a scale factor.
-pub record Exact (code raw : ℕ) (scale : ℤ) (t : List ℕ) : Type 0 where
-  pub value : ℤ
-  pub is : unscaled code raw ≡ number value
-  pub reads-back : readDecimal t ≡ some (fractionOf value scale)
-  pub thirty : length t ≤ 30
 
 -- The text of any value and scale factor reads back as value × 10 ^ scale.
 pub read-back : (value scale : ℤ) → readDecimal (decimalText value scale) ≡ some (fractionOf value scale)

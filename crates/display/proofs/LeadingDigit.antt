@@ -1,17 +1,12 @@
 -- The digits of a number other than zero do not begin with 0; zero is the one digit 0.
 use mathlib.Core.Path.{_≡_, refl}
-use mathlib.Core.List.{List, [], _∷_}
+use mathlib.Core.List.{[], _∷_}
 use Prim.Native.Nat.{ℕ, zero, suc, _-_, _*_, _/_, _^_, _≤_, _<_}
 use native.Mathlib.Nat.{pow-suc, one-mul, le-div-iff-mul-le, div-lt-iff-lt-mul, mod-eq-of-lt}
 use native.Mathlib.Omega.{arith}
-use Rattle.display.specs.Decimals.{digitZero, digitAt, lastDigits, digitCountWithin, digitCount, digitsOf}
+use Rattle.display.specs.Decimals.{digitZero, digitAt, lastDigits, digitCountWithin, digitCount, digitsOf, NotZeroFirst}
 use Rattle.display.proofs.PowersOfTen.{positive}
 use Rattle.display.proofs.DigitCount.{CountOf, first-power, count}
-
--- The list has a first digit, and it is not 0.
-abbrev pub NotZeroFirst : List ℕ → Type 0
-NotZeroFirst [] = ⊥
-NotZeroFirst (d ∷ ds) = digitZero < d
 
 first-digit : (n c : ℕ) → 1 ≤ n → CountOf n (suc c) → digitZero < digitAt n c
 first-digit n c h o =

@@ -1,7 +1,7 @@
 -- Document 01, "Decimal": an amount as text, exact. Text is a list of ASCII codes.
 use mathlib.Core.Bool.{Bool, true, false, not}
 use mathlib.Core.List.{List, [], _∷_, _++_}
-use Prim.Native.Nat.{ℕ, zero, suc, _+_, _*_, _/_, _%_, _^_}
+use Prim.Native.Nat.{ℕ, zero, suc, _+_, _*_, _/_, _%_, _^_, _<_}
 use lib.Dec.{ltb}
 use lib.IntN.{ℤ, natAbs}
 use lib.ListN.{length, drop}
@@ -40,6 +40,11 @@ digitCount n = digitCountWithin n n
 -- The digits of n: no leading zero, but one digit for zero.
 abbrev pub digitsOf : ℕ → List ℕ
 digitsOf n = lastDigits (digitCount n) n
+
+-- The list has a first digit, and it is not 0.
+abbrev pub NotZeroFirst : List ℕ → Type 0
+NotZeroFirst [] = ⊥
+NotZeroFirst (d ∷ ds) = digitZero < d
 
 -- A minus below 0, and no plus.
 abbrev pub sign : Bool → List ℕ

@@ -1,4 +1,5 @@
 -- Document 01, "Worth": whether two quantities are the same amount.
+use mathlib.Core.Path.{_≡_}
 use mathlib.Core.Bool.{Bool, true, false}
 use Prim.Native.Nat.{ℕ}
 use lib.Dec.{eqb}
@@ -31,3 +32,12 @@ unfoldable pub equality : Amount → Amount → Equality
 equality (Amount.refused n place) b = Equality.refused n place
 equality (amount value scale) (Amount.refused n place) = Equality.refused n place
 equality (amount v s) (amount w t) = equalIf (isSameFraction (fractionOf v s) (fractionOf w t))
+
+-- The amount is no refusal.
+abbrev pub Accepted : Amount → Type 0
+Accepted (amount value scale) = Unit {0}
+Accepted (Amount.refused n place) = ⊥
+
+-- Two fractions are the same number: their cross-multiplied integers are equal.
+abbrev pub SameNumber : Fraction → Fraction → Type 0
+SameNumber p q = p .numerator *ℤ pos (q .denominator) ≡ q .numerator *ℤ pos (p .denominator)

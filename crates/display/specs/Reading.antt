@@ -1,11 +1,14 @@
 -- Reading a decimal text back as a number: the claim of exactness is stated with this.
+use mathlib.Core.Path.{_≡_}
 use mathlib.Core.Bool.{Bool, true, false, _&&_}
 use mathlib.Core.List.{List, [], _∷_}
 use mathlib.Core.Option.{Option, none, some}
-use Prim.Native.Nat.{ℕ, _+_, _-_, _*_}
+use Prim.Native.Nat.{ℕ, _+_, _-_, _*_, _≤_}
 use lib.Dec.{eqb, leb}
 use lib.IntN.{ℤ, pos, negℤ}
-use Rattle.display.specs.Amounts.{Fraction}
+use lib.ListN.{length}
+use Rattle.values.specs.Unscaled.{number, unscaled}
+use Rattle.display.specs.Amounts.{Fraction, fractionOf}
 use Rattle.display.specs.Decimals.{minusSign, decimalPoint, digitZero}
 
 -- Is a byte one of the digits 0 to 9?
@@ -46,3 +49,10 @@ unfoldable pub readDecimal : List ℕ → Option Fraction
 readDecimal [] = none
 readDecimal (b ∷ bs) =
     elim (eqb b minusSign) [ true ↦ signed (λ n. negℤ (pos n)) (readUnsigned bs) | false ↦ signed pos (readUnsigned (b ∷ bs)) ]
+
+-- The claim for a text that `decimal` writes: it reads back as value × 10 ^ scale, and has at most 30 bytes.
+pub record Exact (code raw : ℕ) (scale : ℤ) (t : List ℕ) : Type 0 where
+  pub value : ℤ
+  pub is : unscaled code raw ≡ number value
+  pub reads-back : readDecimal t ≡ some (fractionOf value scale)
+  pub thirty : length t ≤ 30

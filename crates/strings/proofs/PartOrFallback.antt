@@ -3,20 +3,13 @@ use mathlib.Core.Path.{_≡_, refl, _∙_}
 use mathlib.Core.Bool.{Bool, true, false}
 use mathlib.Core.Logic.{_⊎_, inl, inr}
 use mathlib.Core.List.{List}
-use Prim.Native.Nat.{ℕ, _+_, _≤_}
+use Prim.Native.Nat.{ℕ, _≤_}
 use native.Mathlib.Omega.{arith}
 use lib.ListN.{length, take, drop, length-take}
 use lib.Seq.{take-take}
 use Rattle.registers.specs.Registers.{allZero}
-use Rattle.strings.specs.Text.{untilZeroByte, hasString, stringAt, textAt}
+use Rattle.strings.specs.Text.{untilZeroByte, hasString, stringAt, textAt, PartOf}
 use Rattle.strings.proofs.TextPart.{text-prefix, text-shorter, no-string, string-of-zeros, string-shown, string-lies}
-
--- A part of the map: `count` registers from the address on, no more than the string has.
-pub record PartOf (map : List ℕ) (address size : ℕ) (part : List ℕ) : Type 0 where
-  pub count : ℕ
-  pub within : count ≤ size
-  pub inside : address + count ≤ length map
-  pub is : part ≡ take count (drop address map)
 
 module _ (map : List ℕ) (address size : ℕ) (fallback : List ℕ) where
   -- The claim.

@@ -1,7 +1,8 @@
 -- Document 01, "Text": what is shown of the registers of a string.
+use mathlib.Core.Path.{_≡_}
 use mathlib.Core.Bool.{Bool, true, false, _&&_}
 use mathlib.Core.List.{List, [], _∷_}
-use Prim.Native.Nat.{ℕ, _+_, _/_, _%_}
+use Prim.Native.Nat.{ℕ, _+_, _/_, _%_, _≤_}
 use lib.Dec.{eqb, leb}
 use lib.ListN.{length, take, drop}
 use Rattle.registers.specs.Registers.{allZero}
@@ -33,3 +34,10 @@ textAt map address size fallback =
         | false ↦ untilZeroByte (stringAt map address size)
       ]
     ]
+
+-- A part of the map: `count` registers from the address on, no more than the string has.
+pub record PartOf (map : List ℕ) (address size : ℕ) (part : List ℕ) : Type 0 where
+  pub count : ℕ
+  pub within : count ≤ size
+  pub inside : address + count ≤ length map
+  pub is : part ≡ take count (drop address map)

@@ -7,26 +7,20 @@ use mathlib.Core.Option.{some}
 use Prim.Native.Nat.{ℕ, suc, _-_, _^_, _≤_, _<_}
 use native.Mathlib.Omega.{arith}
 use lib.Dec.{lt→ltb, ltb→lt}
-use lib.IntN.{ℤ, pos, negsuc, negℤ, _+ℤ_, _-ℤ_, -ℤ-+ℤ-cancel, +ℤ-negℤ-cancel}
+use lib.IntN.{ℤ, pos, negsuc, _+ℤ_, _-ℤ_, -ℤ-+ℤ-cancel, +ℤ-negℤ-cancel}
 use lib.ListN.{length}
-use lib.Signed.{_≤ℤ_, _<ℤ_}
 use Rattle.registers.specs.Registers.{AreRegisters}
 use Rattle.point_types.specs.Rows.{TypeRow, Kind}
 use Rattle.point_types.proofs.Table.{listed, signed-width}
 use Rattle.values.specs.Classes.{width, twosComplement}
 use Rattle.values.specs.Decoding.{patternIn, signed, decodable, decoded}
+use Rattle.values.specs.SignedNumbers.{TwosComplementOf}
 use Rattle.values.proofs.IntegerOrder.{negative-le, negative-le-negative, negative-below}
 use Rattle.values.proofs.ClassCases.{row-of-decodable}
 use Rattle.values.proofs.TwosComplement.{by-half, less}
 use Rattle.values.proofs.MachineIntegers.{halves}
 use Rattle.values.proofs.DecodedCases.{asSigned, Cases, byRow, cases}
 use Rattle.values.proofs.RoundTrip.{holds-pattern}
-
--- z is the two's complement of a raw value of `width` bits.
-pub record TwosComplementOf (width raw : ℕ) (z : ℤ) : Type 0 where
-  pub low : negℤ (pos (2 ^ (width - 1))) ≤ℤ z
-  pub high : z <ℤ pos (2 ^ (width - 1))
-  pub same : (z ≡ pos raw) ⊎ (z +ℤ pos (2 ^ width) ≡ pos raw)
 
 module _ (width raw : ℕ) (wide : 1 ≤ width) (fits : raw < 2 ^ width) where
   pub twos-complement : TwosComplementOf width raw (twosComplement width raw)

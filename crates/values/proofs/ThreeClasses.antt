@@ -1,6 +1,6 @@
 -- Under the code of a row of document 01's table, a pattern of the type's width has exactly one class; a wider number has none.
 -- This says how the tests of a row decide. What each row's tests are is the table itself, computed at its limits in ClassVectors.
-use mathlib.Core.Path.{_≡_, refl, sym, _∙_}
+use mathlib.Core.Path.{_≡_, refl, sym}
 use mathlib.Core.Logic.{_↔_}
 use mathlib.Core.Bool.{Bool, true, false}
 use mathlib.Core.Option.{some}

@@ -4,20 +4,15 @@ use mathlib.Core.Bool.{Bool, true, false}
 use mathlib.Core.Option.{Option, none, some}
 use Prim.Native.Nat.{ℕ, _-_, _^_, _≤_, _<_}
 use native.Mathlib.Omega.{arith}
-use lib.IntN.{ℤ, pos, negsuc}
+use lib.IntN.{ℤ, pos}
 use lib.Pow.{pow-mono}
 use Rattle.point_types.specs.Rows.{TypeRow, Kind, signed, unsigned, float, rowOf, Listed}
 use Rattle.point_types.proofs.Table.{scalable-width, signed-width, listed}
 use Rattle.values.specs.Classes.{width, twosComplement, integer, isValue, classified}
-use Rattle.values.specs.Unscaled.{Unscaled, number, noValue, notScalable, unscaled}
+use Rattle.values.specs.Unscaled.{Unscaled, number, noValue, notScalable, unscaled, Within64}
 use Rattle.values.proofs.UnscaledCases.{value-fits}
 use Rattle.values.proofs.TwosComplement.{by-half}
 use Rattle.values.proofs.MachineIntegers.{halves}
-
--- The integer fits 64 bits, signed or unsigned.
-abbrev pub Within64 : ℤ → Type 0
-Within64 (pos n) = n < 2 ^ 64
-Within64 (negsuc n) = n < 2 ^ 63
 
 module _ (row : TypeRow) (l : Listed row) (four : row .most ≤ 4) (raw : ℕ) (fits : raw < 2 ^ width row) where
   within : raw < 2 ^ 64

@@ -5,3 +5,4 @@ pub mod Encoding
 pub mod CodeTypes
 pub mod Printed
 pub mod ThreeClasses
+pub mod SignedNumbers

@@ -1,8 +1,8 @@
 -- The number that a scale factor multiplies (document 01, "Decimal" and "Worth"), from a type code and a raw value.
 use mathlib.Core.Bool.{true, false}
 use mathlib.Core.Option.{none, some}
-use Prim.Native.Nat.{ℕ}
-use lib.IntN.{ℤ}
+use Prim.Native.Nat.{ℕ, _^_, _<_}
+use lib.IntN.{ℤ, pos, negsuc}
 use Rattle.point_types.specs.Rows.{rowOf}
 use Rattle.values.specs.Classes.{integer, isValue, classified}
 
@@ -21,3 +21,8 @@ unscaled code raw =
         | true ↦ elim (isValue (classified code raw)) [ true ↦ number (integer row raw) | false ↦ noValue ]
       ]
     ]
+
+-- The integer fits 64 bits, signed or unsigned: from -2 ^ 63 to 2 ^ 64 - 1.
+abbrev pub Within64 : ℤ → Type 0
+Within64 (pos n) = n < 2 ^ 64
+Within64 (negsuc n) = n < 2 ^ 63
