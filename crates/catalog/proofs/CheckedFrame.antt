@@ -15,7 +15,7 @@ use Rattle.catalog_frames.specs.Frames.{frameAt, word}
 use Rattle.catalog.specs.State as check
 use Rattle.catalog.specs.Rules.{run, noModel, rules, fault}
 use Rattle.catalog.specs.Checking.{accepted, refused, checkFrom, framesChecked}
-use Rattle.catalog.specs.CodeTypes.{IdFits}
+use Rattle.catalog.specs.InternalTracking.{IdFits}
 use Rattle.catalog.specs.InternalScans.{framesOnward, hasNumber}
 use Rattle.catalog.specs.InternalTracking.{Tracks, DepthAllows, codeRules, stateOf}
 use Rattle.catalog.specs.InternalMarks.{AfterModelFrame, BlankAtModel, Indexed, ScalesAfter}

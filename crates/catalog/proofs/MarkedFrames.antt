@@ -21,7 +21,7 @@ use Rattle.catalog_frames.specs.Frames.{Point, Head, Frame, modelFrame, groupFr
 use Rattle.catalog.specs.State as check
 use Rattle.catalog.specs.State.{OpenGroup}
 use Rattle.catalog.specs.Rules.{run, hasScaleFactor, isScaleFactorPoint, pointsOf, countFaults}
-use Rattle.catalog.specs.CodeTypes.{IdFits}
+use Rattle.catalog.specs.InternalTracking.{IdFits}
 use Rattle.catalog.specs.InternalScans.{framesOnward, hasNumber, isModel, numbersBefore, runsOf}
 use Rattle.catalog.specs.InternalTracking.{Tracks, Opens, modelRules, groupRules, pointRules, endRules, codeRules, runIn}
 use Rattle.catalog.specs.InternalTracking.{codeStart, numbersSoFar}

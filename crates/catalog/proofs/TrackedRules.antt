@@ -17,7 +17,7 @@ use Rattle.catalog.specs.State.{OpenGroup}
 use Rattle.frame_rules.specs.FrameTests.{hasBadType}
 use Rattle.catalog.specs.Rules.{run, pointsInScope, noModel, hasBadPlace, hasBadNumber, hasBadScale, scaleFaults}
 use Rattle.catalog.specs.Rules.{fault}
-use Rattle.catalog.specs.CodeTypes.{IdFits}
+use Rattle.catalog.specs.InternalTracking.{IdFits}
 use Rattle.catalog.specs.InternalScans.{framesOnward, runsOf}
 use Rattle.catalog.specs.InternalTracking.{Tracks, Opens, upcomingRunAt, codeRules, numbersSoFar}
 use Rattle.catalog.specs.declared.state.State.{State}

@@ -131,3 +131,11 @@ pub record Tracks (ws used : List ℕ) (i : ℕ) (c : State) (s : check.State) :
   pub numbers : 1 ≤ c .depth → s .numbers ≡ numbersSoFar ws i c
   pub hasFill : c .«has_fill» ≡ s .hasFill
   pub openGroups : Opens ws (c .firsts) (c .«has_group») (upcomingRunAt ws i (c .«has_group»)) (s .openGroups)
+
+-- The ids and numbers of a frame that the code looks up in its sets fit in 16 bits.
+abbrev pub IdFits : Frame → Type 0
+IdFits (modelFrame id) = id < 65536
+IdFits (groupFrame h) = (h .number < 65536) × (h .count < 65536)
+IdFits (pointFrame p) = (p .number < 65536) × (p .scale < 65536)
+IdFits endFrame = Unit {0}
+IdFits malformed = Unit {0}

@@ -15,7 +15,7 @@ ghost use Prim.Native.Nat.{_/_, _<_};
 ghost use lib.ListN.{length};
 ghost use Rattle.lists.specs.Tests.{firstBroken};
 ghost use Rattle.catalog_frames.specs.Frames.{frameAt};
-ghost use Rattle.catalog.specs.CodeTypes.{IdFits};
+ghost use Rattle.catalog.specs.InternalTracking.{IdFits};
 ghost use Rattle.frame_rules.specs.FrameTests.{toSpecFault};
 ghost use Rattle.catalog.specs.InternalTracking.{Within, codeRules};
 ghost use Rattle.catalog.specs.InternalMarks.{Indexed};

@@ -7,8 +7,8 @@ use borrow.Author.Tests.{eqb-true, eqb-false, not-true, not-false}
 use lib.Dec.{eqb}
 use Rattle.lists.proofs.TestOutcomes.{by-test, clash}
 use Rattle.catalog_frames.specs.Frames.{Frame, modelFrame, groupFrame, pointFrame, endFrame, malformed, word, frameOf, frameAt}
-use Rattle.catalog_frames.specs.CodeTypes.{IsHead, IsPoint, toSpecHead, toSpecPoint}
-use Rattle.catalog_frames.specs.InternalWords.{zeroWords, namedWords, headWords, pointWords}
+use Rattle.catalog_frames.specs.CodeTypes.{toSpecHead, toSpecPoint}
+use Rattle.catalog_frames.specs.InternalWords.{zeroWords, namedWords, headWords, pointWords, IsHead, IsPoint}
 use Rattle.catalog_frames.specs.declared.Head.{Head}
 use Rattle.catalog_frames.specs.declared.Point.{Point}
 

@@ -3,8 +3,8 @@ ghost use mathlib.Core.Path.{_≡_};
 ghost use Prim.Native.Nat.{_/_, _-_, _<_, _≤_};
 ghost use lib.ListN.{length};
 ghost use Rattle.catalog_frames.specs.Frames.{word, frameAt, frameIn};
-ghost use Rattle.catalog_frames.specs.CodeTypes.{IsHead, IsPoint, toSpecFrame};
-ghost use Rattle.catalog_frames.specs.InternalWords.{headWords, namedWords, pointWords, zeroWords};
+ghost use Rattle.catalog_frames.specs.CodeTypes.{toSpecFrame};
+ghost use Rattle.catalog_frames.specs.InternalWords.{headWords, namedWords, pointWords, zeroWords, IsHead, IsPoint};
 
 // The number of words in a frame.
 pub const WORDS: usize = 8;
