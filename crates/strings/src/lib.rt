@@ -20,8 +20,8 @@ pub fn text<'a>(map: &'a [u16], address: usize, size: usize, fallback: &'a [u16]
     part(string, 0, text_length(string))
 }
 
-// Does a map of `registers` registers have a string of `size` registers, 1 to 64, at `address`? The code subtracts
-// the size from the map's length, since address + size could be more than a usize holds.
+// Does a map of `registers` registers have a string of `size` registers, 1 to 64, at `address`? The code
+// subtracts the size from the map's length, since address + size could be more than a usize holds.
 fn has_string(registers: usize, address: usize, size: usize) -> bool
     ensures { λ r. ⌜ r ≡ hasString registers address size ⌝ }
 {

@@ -19,12 +19,14 @@ pub record PrintedRange : Type 0 where
   pub least : ℤ
   pub greatest : ℤ
 
+-- From m to n, and from -n to n.
 abbrev fromTo : ℕ → ℕ → ℕ → PrintedRange
 fromTo c m n = record { code = c; least = pos m; greatest = pos n }
 
 abbrev around : ℕ → ℕ → PrintedRange
 around c n = record { code = c; least = negℤ (pos n); greatest = pos n }
 
+-- The types by code, with their printed values.
 unfoldable pub printed : List PrintedRange
 printed =
     around 1 32767
