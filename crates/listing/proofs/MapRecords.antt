@@ -8,6 +8,7 @@ use native.Mathlib.Omega.{arith}
 use lib.Dec.{eqb}
 use lib.ListN.{length, drop, length-append, length-map}
 use lib.Seq.{sets, sets-eq}
+use Rattle.lists.proofs.StoreLaws.{sets-append}
 use Rattle.register_map.specs.Headers.{model, endMarker, refused, headerAt}
 use Rattle.register_map.specs.Scan.{Model}
 use Rattle.register_map.proofs.HeaderCases.{model-ends}
@@ -18,7 +19,7 @@ use Rattle.listing.specs.Listing as Listing
 use Rattle.listing.specs.Listing.{Record, recordWidth, recordOf, Answer, listed, walked, entries, stored}
 use Rattle.listing.specs.InternalContracts.{written, WalkFits}
 use Rattle.listing.specs.declared.records.Visit.{Visit}
-use Rattle.listing.proofs.WrittenRecords.{sets-append, entries-length, entries-append, written-none, written-length}
+use Rattle.listing.proofs.WrittenRecords.{entries-length, entries-append, written-none, written-length}
 use Rattle.listing.proofs.WalkSteps.{not-listed, prepended-listed}
 use Rattle.listing.proofs.MapSteps.{walkAt, modelAt, walk-starts, walk-at-end, walk-at-refused, walk-at-late, walk-at-unknown, walk-at-faulty, walk-at-points}
 

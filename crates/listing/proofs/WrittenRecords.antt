@@ -7,19 +7,13 @@ use native.Mathlib.Numerals.{add-one}
 use native.Mathlib.Omega.{arith}
 use lib.ListN.{length, getD, drop, set, length-append, length-map}
 use lib.Seq.{sets, drop-cons, length-sets}
+use Rattle.lists.proofs.StoreLaws.{sets-append}
 use Rattle.layout.specs.Points.{ModelPoint}
 use Rattle.listing.specs.Listing.{Record, recordNumbers, recordWidth, entries}
 use Rattle.listing.specs.InternalContracts.{recordAt, written}
 use Rattle.listing.specs.declared.records.Visit.{Visit}
 
 -- ---- Runs of stores
-
--- Storing a ++ b is storing a, and then b after it.
-pub sets-append : (l : List ℕ) (i : ℕ) (a b : List ℕ) → sets l i (a ++ b) ≡ sets (sets l i a) (i + length a) b
-sets-append l i [] b = rw add-zero
-sets-append l i (x ∷ a) b =
-    let e : suc i + length a ≡ i + suc (length a) = omega arith in
-    rw (← e) (sets-append (set l i x) (suc i) a b)
 
 -- One store of a run.
 pub sets-more : (l : List ℕ) (i k : ℕ) (vs : List ℕ) → k < length vs
