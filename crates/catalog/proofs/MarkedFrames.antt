@@ -22,7 +22,7 @@ use Rattle.catalog.specs.State as check
 use Rattle.catalog.specs.State.{OpenGroup}
 use Rattle.catalog.specs.Rules.{run, hasScaleFactor, isScaleFactorPoint, pointsOf, countFaults}
 use Rattle.catalog.specs.InternalTracking.{IdFits}
-use Rattle.catalog.specs.InternalScans.{framesOnward, hasNumber, isModel, numbersBefore, runsOf}
+use Rattle.catalog.specs.InternalScans.{framesOnward, hasNumber, isModel, numbersIn, runsOf}
 use Rattle.catalog.specs.InternalTracking.{Tracks, Opens, modelRules, groupRules, pointRules, endRules, codeRules, runIn}
 use Rattle.catalog.specs.InternalTracking.{codeStart, numbersSoFar}
 use Rattle.catalog.specs.InternalMarks.{AfterModelFrame, BlankAtModel, Counted, CountsAfter, Indexed, ScalesAfter, inRun, stops}
@@ -39,7 +39,7 @@ use Rattle.catalog.proofs.WordScans.{has-either, number-here, scope-mor
 pub indexed-start : (ws : List ℕ)
     → Indexed ws (replicate 1024 0) (replicate 1024 0) 0 0
     codeStart
-unfolding numbersBefore runsOf
+unfolding numbersIn runsOf
 indexed-start ws =
     record {
       numberWords = length-replicate {A = ℕ} 1024 0;
@@ -122,7 +122,7 @@ module _ (ws used numbers scales : List ℕ) (u i : ℕ) (c : State) (s : check.
 
     after-model : (id : ℕ) → frameAt ws i ≡ modelFrame id → firstBroken (modelRules used c id) ≡ none
         → Indexed ws numbers'' scales'' u' (i + 1) (stateBy c i (modelFrame id))
-    unfolding numbersBefore
+    unfolding numbersIn
     after-model id e n =
         let four = t .within .four in
         let closed = none-open id n in
@@ -132,7 +132,7 @@ module _ (ws used numbers scales : List ℕ) (u i : ℕ) (c : State) (s : check.
         let none-yet : i + 1 - (i + 1) ≡ 0 = omega arith in
         let first : inner ≡ getD (c .firsts) 0 0 = top ∙ ap (λ d. getD (c .firsts) (d - 1) 0) closed in
         let freed =
-        subst (λ f. Marks numbers numbers' (λ n. among n (numbersBefore ws f (i - f))) false) first (rw kind at (b .freed)) in
+        subst (λ f. Marks numbers numbers' (λ n. among n (numbersIn ws f (i - f))) false) first (rw kind at (b .freed)) in
         let added : Marks numbers' numbers'' (λ n. false) true = rw kind at m in
         record {
           numberWords = number-words;

@@ -20,7 +20,7 @@ use Rattle.catalog_frames.specs.Frames.{wordsOf, fill}
 use Rattle.catalog.specs.State as check
 use Rattle.catalog.specs.State.{OpenGroup, start, next}
 use Rattle.catalog.specs.Rules.{run, noModel, inTop, afterGroup, isMalformed, rules, fault}
-use Rattle.catalog.specs.InternalScans.{framesOnward, isModel, isNumbered, numbersBefore}
+use Rattle.catalog.specs.InternalScans.{framesOnward, isModel, isNumbered, numbersIn}
 use Rattle.catalog.specs.InternalTracking.{codeStart, Within, Tracks, Opens, DepthAllows, upcomingRunAt}
 use Rattle.catalog.specs.InternalTracking.{numbersSoFar, withOpened, withEnded, stateOf}
 use Rattle.catalog.specs.declared.state.State.{State}
@@ -40,7 +40,7 @@ first-alone n b h (suc (suc (suc (suc k)))) = omega arith
 pub tracks-start : (ws : List ℕ)
     → Tracks ws (replicate 1024 0) 0
     codeStart start
-unfolding numbersBefore
+unfolding numbersIn
 tracks-start ws =
     record {
       within = record { few = omega arith; deep = omega arith; four = refl; passed = first-alone 0 0 (omega arith) };
@@ -57,14 +57,14 @@ tracks-start ws =
 
 module _ (ws : List ℕ) (first n i : ℕ) (e : first + n ≡ i) where
   number-added : isNumbered ws i ≡ true
-      → numbersBefore ws first (suc n) ≡ word ws i 1 ∷ numbersBefore ws first n
-  unfolding numbersBefore
-  number-added h = let g = rw (← e) at h in rw (← e, numbersBefore, g)
+      → numbersIn ws first (suc n) ≡ word ws i 1 ∷ numbersIn ws first n
+  unfolding numbersIn
+  number-added h = let g = rw (← e) at h in rw (← e, numbersIn, g)
 
   nothing-added : isNumbered ws i ≡ false
-      → numbersBefore ws first (suc n) ≡ numbersBefore ws first n
-  unfolding numbersBefore
-  nothing-added h = let g = rw (← e) at h in simp (numbersBefore, g)
+      → numbersIn ws first (suc n) ≡ numbersIn ws first n
+  unfolding numbersIn
+  nothing-added h = let g = rw (← e) at h in simp (numbersIn, g)
 
 -- The eight words of frame i. Unless the frame is malformed, `wordsOf` gives them back.
 abbrev pub eightWords : List ℕ → ℕ → List ℕ
@@ -156,7 +156,7 @@ module _ (ws used : List ℕ) (i : ℕ) (c : State) (s : check.State) (t : Track
 
   after-model : (id : ℕ) → frameAt ws i ≡ modelFrame id → noModel (s .openGroups) ≡ true
       → Tracks ws used' (i + 1) (stateBy c i (modelFrame id)) (next s (modelFrame id))
-  unfolding numbersBefore
+  unfolding numbersIn
   after-model id e n =
       let few = t .within .few in
       let four = t .within .four in

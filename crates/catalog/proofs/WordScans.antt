@@ -11,7 +11,7 @@ use Rattle.lists.specs.Members.{among}
 use Rattle.catalog_frames.specs.Frames.{Point, Frame, modelFrame, groupFrame, endFrame, word, frameAt, framesFrom}
 use Rattle.catalog.specs.Rules.{run, hasPoint, hasScaleFactor, isScaleFactorPoint}
 use Rattle.catalog_frames.specs.InternalWords.{zeroWords, headWords, pointWords}
-use Rattle.catalog.specs.InternalScans.{isNumbered, hasNumber, numbersBefore, framesOnward, runsOf}
+use Rattle.catalog.specs.InternalScans.{isNumbered, hasNumber, numbersIn, framesOnward, runsOf}
 use Rattle.catalog_frames.proofs.FrameKinds as kinds
 
 -- ---- Numbers of frames
@@ -19,10 +19,10 @@ use Rattle.catalog_frames.proofs.FrameKinds as kinds
 module _ (ws : List ℕ) (first number : ℕ) where
   -- The numbers of m + 1 frames are that of the last frame, if it has one, and those of the first m.
   number-more : (m : ℕ)
-      → among number (numbersBefore ws first (suc m))
-      ≡ hasNumber ws number (first + m) || among number (numbersBefore ws first m)
-  unfolding numbersBefore
-  number-more m = go (word ws (first + m) 1) (numbersBefore ws first m) (isNumbered ws (first + m))
+      → among number (numbersIn ws first (suc m))
+      ≡ hasNumber ws number (first + m) || among number (numbersIn ws first m)
+  unfolding numbersIn
+  number-more m = go (word ws (first + m) 1) (numbersIn ws first m) (isNumbered ws (first + m))
     where
       go : (w : ℕ) (ns : List ℕ) (b : Bool)
           → among number (elim b [ true ↦ w ∷ ns | false ↦ ns ]) ≡ (b && eqb number w) || among number ns
@@ -30,13 +30,13 @@ module _ (ws : List ℕ) (first number : ℕ) where
       go w ns false = refl
 
   pub number-here : (m j : ℕ) → j ≡ first + m
-      → hasNumber ws number j || among number (numbersBefore ws first m) ≡ among number (numbersBefore ws first (suc m))
+      → hasNumber ws number j || among number (numbersIn ws first m) ≡ among number (numbersIn ws first (suc m))
   number-here m j q = rw (number-more m, ← q)
 
   pub number-next : (n m j : ℕ) → n ≡ m + 1 → j ≡ first + m
-      → among number (numbersBefore ws first n) ≡ among number (numbersBefore ws first m) || hasNumber ws number j
+      → among number (numbersIn ws first n) ≡ among number (numbersIn ws first m) || hasNumber ws number j
   number-next n m j e q =
-      rw (e, add-one m, number-more m, ← q) (exchanged (hasNumber ws number j) (among number (numbersBefore ws first m)))
+      rw (e, add-one m, number-more m, ← q) (exchanged (hasNumber ws number j) (among number (numbersIn ws first m)))
     where
       exchanged : (a b : Bool) → a || b ≡ b || a
       exchanged true true = refl
@@ -44,8 +44,8 @@ module _ (ws : List ℕ) (first number : ℕ) where
       exchanged false true = refl
       exchanged false false = refl
 
-  pub number-nowhere : (n : ℕ) → n ≤ 0 → among number (numbersBefore ws first n) ≡ false
-  unfolding numbersBefore
+  pub number-nowhere : (n : ℕ) → n ≤ 0 → among number (numbersIn ws first n) ≡ false
+  unfolding numbersIn
   number-nowhere n h = let e : n ≡ 0 = omega arith in rw e
 
 -- ---- Runs of points

@@ -11,7 +11,7 @@ use Rattle.lists.specs.Members.{among}
 use Rattle.number_sets.specs.NumberSets.{inSet, Marks, Blank}
 use Rattle.catalog_frames.specs.Frames.{word, countByPoint}
 use Rattle.catalog.specs.Rules.{run, hasPoint}
-use Rattle.catalog.specs.InternalScans.{framesOnward, isModel, isTarget, numbersBefore, runsOf}
+use Rattle.catalog.specs.InternalScans.{framesOnward, isModel, isTarget, numbersIn, runsOf}
 use Rattle.catalog.specs.InternalTracking.{numbersSoFar}
 use Rattle.catalog.specs.declared.scans.Target.{Target}
 use Rattle.catalog.specs.declared.state.State.{State}
@@ -52,7 +52,7 @@ CountsAfter false ws i u u' = u' ≡ u
 -- If frame i is a model frame, its id is added, and the numbers of the frames from `first` up to i are removed.
 pub record AfterModelFrame (ws : List ℕ) (i first u u' : ℕ) (ids ids' numbers numbers' scales scales' : List ℕ) : Type 0 where
   pub used : Marks ids ids' (λ n. isModel ws i && eqb n (word ws i 1)) true
-  pub freed : Marks numbers numbers' (λ n. isModel ws i && among n (numbersBefore ws first (i - first))) false
+  pub freed : Marks numbers numbers' (λ n. isModel ws i && among n (numbersIn ws first (i - first))) false
   pub kept : unchanged scales scales'
   pub counts : CountsAfter (isModel ws i) ws i u u'
 

@@ -25,12 +25,12 @@ abbrev pub hasNumber : List ℕ → ℕ → ℕ → Bool
 hasNumber ws number j = isNumbered ws j && eqb number (word ws j 1)
 
 -- The numbers of the groups and points in the n frames from frame `first` on, the last one first.
-unfoldable pub numbersBefore : List ℕ → ℕ → ℕ → List ℕ
-numbersBefore ws first zero = []
-numbersBefore ws first (suc n) =
+unfoldable pub numbersIn : List ℕ → ℕ → ℕ → List ℕ
+numbersIn ws first zero = []
+numbersIn ws first (suc n) =
     elim (isNumbered ws (first + n)) [
-      | true ↦ word ws (first + n) 1 ∷ numbersBefore ws first n
-      | false ↦ numbersBefore ws first n
+      | true ↦ word ws (first + n) 1 ∷ numbersIn ws first n
+      | false ↦ numbersIn ws first n
     ]
 
 -- Is `p` of the kind of point that the reference names?

@@ -14,7 +14,7 @@ use Rattle.frame_rules.specs.FrameTests.{modelTests, groupTests, pointTests, en
 use Rattle.catalog.specs.State as check
 use Rattle.catalog.specs.State.{OpenGroup}
 use Rattle.catalog.specs.Rules.{run, noPoint, scaleFaults, countFaults}
-use Rattle.catalog.specs.InternalScans.{framesOnward, numbersBefore, runsOf}
+use Rattle.catalog.specs.InternalScans.{framesOnward, numbersIn, runsOf}
 use Rattle.catalog.specs.declared.state.State.{State}
 
 -- ---- The tests of `frame_rules` before frame i, with facts found by a search of the catalog
@@ -25,7 +25,7 @@ runIn ws c k = run (framesOnward ws (getD (c .firsts) k 0))
 
 -- The numbers of the groups and points of the open model, before frame i.
 abbrev pub numbersSoFar : List ℕ → ℕ → State → List ℕ
-numbersSoFar ws i c = numbersBefore ws (getD (c .firsts) 0 0) (i - getD (c .firsts) 0 0)
+numbersSoFar ws i c = numbersIn ws (getD (c .firsts) 0 0) (i - getD (c .firsts) 0 0)
 
 -- The tests of a model, a group, a point and an end frame. `used` is the set of the model ids so far.
 abbrev pub modelRules : List ℕ → State → ℕ → List (Bool × ℕ)

@@ -19,7 +19,7 @@ ghost use lib.ListN.{length};
 ghost use Rattle.lists.specs.Members.{among};
 ghost use Rattle.number_sets.specs.NumberSets.{Marks, Blank};
 ghost use Rattle.catalog_frames.specs.InternalWords.{pointWords};
-ghost use Rattle.catalog.specs.InternalScans.{hasNumber, isOfKind, isTarget, numbersBefore};
+ghost use Rattle.catalog.specs.InternalScans.{hasNumber, isOfKind, isTarget, numbersIn};
 ghost use Rattle.catalog.specs.InternalMarks.{AfterModelFrame, BlankAtModel, Counted, ScalesAfter, firstStop, inRun, stops, unchanged};
 
 // The kind of point that a reference names.
@@ -48,7 +48,7 @@ pub(crate) fn mark_number(catalog: &[u16], numbers: &mut [u64; SET_WORDS], j: us
 // Takes the numbers of the groups and points of the frames from `first` up to, not including, `end` out of the set.
 fn take_numbers_out(catalog: &[u16], numbers: &mut [u64; SET_WORDS], first: usize, end: usize)
     requires { ⌜ (first ≤ end) × (end ≤ length (now catalog) / 8) ⌝ }
-    ensures { λ _. ⌜ Marks (now (numbers .entry)) (now (numbers .exit)) (λ n. among n (numbersBefore (now (catalog .entry)) first (end - first))) false ⌝ }
+    ensures { λ _. ⌜ Marks (now (numbers .entry)) (now (numbers .exit)) (λ n. among n (numbersIn (now (catalog .entry)) first (end - first))) false ⌝ }
 {
     let mut j = first;
     while j < end {

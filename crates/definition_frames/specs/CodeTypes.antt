@@ -53,6 +53,6 @@ isNone none = true
 isNone (some h) = false
 
 -- Is the last pad of a model left out? `run` is its top points, `next` the group after them, and `len` the model's length.
--- Document 01 allows it in model 1 without groups whose last point is a pad, where the length is one short of the top size.
+-- Document 01 allows it for id 1 if there is no group, the last point is a pad and the length is one register short.
 abbrev pub lacksPad : ℕ → PointRun → Option Frames.Head → ℕ → Bool
 lacksPad id run next len = eqb id 1 && (run .pad && (eqb (len + 1) (run .size) && isNone next))

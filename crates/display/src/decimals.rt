@@ -16,7 +16,7 @@ use crate::quantities::ScaledNumber;
 use crate::quantities::accept;
 
 // The least length of a buffer, whatever the text.
-const CAPACITY: usize = 32;
+const LEAST_BUFFER: usize = 32;
 
 // Writes value × 10 ^ scale, exact, at the start of `out`, and returns the length of the text. On a refusal it
 // writes nothing.
@@ -33,7 +33,7 @@ pub fn decimal(type_code: u16, raw: u64, scale: u16, out: &mut [u8]) -> DecimalT
     match accepted {
         Accepted::Refused { number } => DecimalText::Refused { number },
         Accepted::Of(amount) => {
-            if out.len() < CAPACITY {
+            if out.len() < LEAST_BUFFER {
                 return DecimalText::Refused { number: 46 };
             }
             DecimalText::Length(put_amount(out, amount))

@@ -64,7 +64,7 @@ fn read_argument(i: usize, out: &mut [u8]) -> usize
 }
 
 // Is `expected` the text that `read_plant` makes of `input`, after `refused ` if it is a refusal? This does not run
-// `readplant`; the crate `readplant` proves that its `main` hands these bytes to its one write.
+// `readplant`; the crate `readplant` proves that its `main` hands these bytes to `print`, its one write.
 fn gives(input: &[u8], expected: &[u8]) -> bool {
     let mut catalog = [0u16; CATALOG_WORDS];
     let mut map = [0u16; MAP_REGISTERS];

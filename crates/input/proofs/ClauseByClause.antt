@@ -26,7 +26,7 @@ Case = List ℕ × Input
 
 unfoldable pub cases : List Case
 cases =
-    -- The lines: one ends at LF or at the end of the text, and a last LF opens no further line.
+    -- The lines: LF and the end of the text end one, and none follows an LF at the very end.
     (ascii "", refused 51 1)
     ∷ (ascii "\n", words [] [])
     ∷ (ascii "\n\n", refused 50 2)

@@ -14,7 +14,7 @@ abbrev pub withByte : ℕ → List (List ℕ) → List (List ℕ)
 withByte b [] = (b ∷ []) ∷ []
 withByte b (l ∷ ls) = (b ∷ l) ∷ ls
 
--- The lines of a text: a line ends at LF or at the end of the text; a last LF opens no further line.
+-- The lines of a text: LF ends a line, and so does the end of the text. After an LF at the very end there is no line.
 unfoldable pub lines : List ℕ → List (List ℕ)
 lines [] = []
 lines (b ∷ bs) = elim (eqb b lineFeed) [ true ↦ [] ∷ lines bs | false ↦ withByte b (lines bs) ]

@@ -47,16 +47,16 @@ countOf top filling h =
 -- it.
 unfoldable pub measured : (List Point → ℕ) → (Head → ℕ) → Groups → ℕ
 measured weight count noGroup = 0
-measured weight count (group h ps inside next) =
-    count h * (weight ps + measured weight count inside) + measured weight count next
+measured weight count (group h ps inside following) =
+    count h * (weight ps + measured weight count inside) + measured weight count following
 
 -- The weight of one instance of the fill group, if one of these groups is a fill group.
 unfoldable pub fillMeasured : (List Point → ℕ) → (Head → ℕ) → Groups → Option ℕ
 fillMeasured weight count noGroup = none
-fillMeasured weight count (group h ps inside next) =
+fillMeasured weight count (group h ps inside following) =
     elim (eqb (h .countKind) fill) [
       | true ↦ some (weight ps + measured weight count inside)
-      | false ↦ fillMeasured weight count next
+      | false ↦ fillMeasured weight count following
     ]
 
 -- The registers of sibling groups: for each group, count × size, where the size is its points plus the groups in it.
@@ -121,11 +121,11 @@ Entering = ℕ → ℕ → ℕ → List Point → Instance → Instance
 -- first. The offsets do not depend on `enter`.
 unfoldable pub groupsBy : Entering → List ℕ → (Head → ℕ) → ℕ → Instance → ℕ → Groups → List ModelPoint
 groupsBy enter body count level i offset noGroup = []
-groupsBy enter body count level i offset (group h ps inside next) =
+groupsBy enter body count level i offset (group h ps inside following) =
     instances (count h) 0 offset (pointsSize ps + groupsSize count inside) (λ j at.
     pointsAt body (enter level j at ps i) at ps
     ++ groupsBy enter body count (suc level) (enter level j at ps i) (at + pointsSize ps) inside)
-    ++ groupsBy enter body count level i (offset + count h * (pointsSize ps + groupsSize count inside)) next
+    ++ groupsBy enter body count level i (offset + count h * (pointsSize ps + groupsSize count inside)) following
 
 -- Inside an instance its own points are in scope, and j is the instance number at its level (place 0, 1 or 2 of the path for
 -- level 2, 3 or 4).

@@ -44,8 +44,8 @@ abbrev pub hasNoGroup : Groups → Bool
 hasNoGroup noGroup = true
 hasNoGroup (group h ps inside following) = false
 
--- Is the last pad left out? Document 01 allows it in model 1 without groups whose last point is a pad, where the length is one
--- short of the top size.
+-- Is the last pad left out? Document 01 allows it for id 1 if the definition has no group and ends with a pad, and the length is one
+-- register short.
 abbrev pub padLeftOut : ℕ → Content → ℕ → Bool
 padLeftOut id c len =
     eqb id 1 && (hasNoGroup (c .groups) && (endsWithPad (c .points) && eqb (len + 1) (pointsSize (c .points))))

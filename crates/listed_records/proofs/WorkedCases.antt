@@ -16,7 +16,7 @@ use Rattle.layout.specs.Points.{pointAt}
 use Rattle.layout.specs.Layout.{within, measured, fillMeasured, countUnimplemented, fits, fillOf, pointsAt, instances, groupsBy, entered, contentAt}
 use Rattle.layout.specs.Reading.{endsWithPad, allButLast, readFull, readBy, topOf, reading}
 use Rattle.listing.specs.Listing as Listing
-use Rattle.listing.specs.Listing.{Result, listedResult, result, recordNumbers, walk, recordsBy, allRecords, withCapacity, listing, entries, stored}
+use Rattle.listing.specs.Listing.{Result, listedResult, result, recordNumbers, walk, recordsBy, allRecords, withCapacity, listing, stored, consecutive}
 
 -- ---- The example, word by word
 
@@ -54,7 +54,7 @@ pub example : exampleAnswer
           ∷ 1 ∷ 900 ∷ 5 ∷ 1 ∷ 0 ∷ 0 ∷ 12 ∷ 1 ∷ 4294967295 ∷ 0
           ∷ 9 ∷ 9 ∷ [],
     )
-unfolding checkFrom checked framesFrom frameOf isSizeOf rows rowAmong mayScale registersOf twosComplement join shownRaw tooWide integer inRange classOf classified parsed opening scanFrom scan pointAt within measured fillMeasured countUnimplemented fits fillOf pointsAt instances groupsBy entered contentAt endsWithPad allButLast readFull readBy topOf reading recordNumbers walk recordsBy allRecords withCapacity listing entries stored
+unfolding checkFrom checked framesFrom frameOf isSizeOf rows rowAmong mayScale registersOf twosComplement join shownRaw tooWide integer inRange classOf classified parsed opening scanFrom scan pointAt within measured fillMeasured countUnimplemented fits fillOf pointsAt instances groupsBy entered contentAt endsWithPad allButLast readFull readBy topOf reading recordNumbers walk recordsBy allRecords withCapacity listing stored consecutive
 example = refl
 
 -- ---- Catalogs and maps by hand

@@ -16,7 +16,7 @@ use Rattle.layout.specs.Points.{ModelPoint}
 use Rattle.layout.specs.Reading.{Reading, unknown, faulty, points}
 use Rattle.layout.specs.InternalWalks.{pointsOf}
 use Rattle.listing.specs.Listing as Listing
-use Rattle.listing.specs.Listing.{Record, recordWidth, recordOf, Answer, listed, walked, entries, stored}
+use Rattle.listing.specs.Listing.{Record, recordWidth, recordOf, Answer, listed, walked, entries, stored, consecutive}
 use Rattle.listing.specs.InternalContracts.{written, WalkFits}
 use Rattle.listing.specs.declared.records.Visit.{Visit}
 use Rattle.listing.proofs.WrittenRecords.{entries-length, entries-append, written-none, written-length}
@@ -75,7 +75,7 @@ module _ {read : Model → Reading} {map before out : List ℕ} {at index record
     (here : WalkingMap read map before out at index records) where
   -- At the end marker all records are written.
   pub walking-ends : at < length map → headerAt (eqb at 2) (drop at map) ≡ endMarker → out ≡ stored (walked read map) before
-  unfolding entries
+  unfolding consecutive
   walking-ends inside h =
       let e : listed [] (index + 1) ≡ listed (here .left) (here .headers) =
       sym (walk-at-end read map index at inside h) ∙ here .rest in

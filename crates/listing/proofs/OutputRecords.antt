@@ -1,22 +1,16 @@
 -- The records decoded from an output list are those that the call wrote.
-use mathlib.Core.Path.{_≡_, refl, sym, ap, _∙_}
+use mathlib.Core.Path.{_≡_, refl, ap}
 use mathlib.Core.List.{List, [], _∷_, _++_, map}
 use Prim.Native.Nat.{ℕ, _*_}
 use lib.ListN.{length, drop}
 use lib.Seq.{drop-at}
-use Rattle.listing.specs.Listing.{Record, recordNumbers, recordWidth, entries}
-use Rattle.listing.specs.Calls.{recordsIn, consecutive}
+use Rattle.listing.specs.Listing.{Record, recordNumbers, recordWidth, entries, consecutive}
+use Rattle.listing.specs.Calls.{recordsIn}
 use Rattle.listing.proofs.WrittenRecords.{entries-length}
-
--- The entries of records are their numbers, record after record.
-pub entries-consecutive : (rs : List Record) → entries rs ≡ consecutive (map recordNumbers rs)
-unfolding entries consecutive
-entries-consecutive [] = refl
-entries-consecutive (r ∷ rs) = ap (λ ns. recordNumbers r ++ ns) (entries-consecutive rs)
 
 -- Decoding the entries of records gives their numbers,
 pub records-back : (rs : List Record) (rest : List ℕ) → recordsIn (length rs) (entries rs ++ rest) ≡ map recordNumbers rs
-unfolding entries recordsIn recordNumbers
+unfolding recordsIn recordNumbers consecutive
 records-back [] rest = refl
 records-back (r ∷ rs) rest = ap (λ ns. recordNumbers r ∷ ns) (records-back rs rest)
 

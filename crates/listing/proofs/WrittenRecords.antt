@@ -2,14 +2,13 @@
 use mathlib.Core.Path.{_≡_, refl, ap, _∙_}
 use mathlib.Core.List.{List, [], _∷_, _++_, map, append-assoc, map-append}
 use Prim.Native.Nat.{ℕ, suc, _+_, _*_, _<_}
-use native.Mathlib.Nat.{add-zero}
 use native.Mathlib.Numerals.{add-one}
 use native.Mathlib.Omega.{arith}
 use lib.ListN.{length, getD, drop, set, length-append, length-map}
 use lib.Seq.{sets, drop-cons, length-sets}
 use Rattle.lists.proofs.StoreLaws.{sets-append}
 use Rattle.layout.specs.Points.{ModelPoint}
-use Rattle.listing.specs.Listing.{Record, recordNumbers, recordWidth, entries}
+use Rattle.listing.specs.Listing.{Record, recordNumbers, recordWidth, entries, consecutive}
 use Rattle.listing.specs.InternalContracts.{recordAt, written}
 use Rattle.listing.specs.declared.records.Visit.{Visit}
 
@@ -29,13 +28,13 @@ unfolding recordNumbers
 numbers-length r = refl
 
 pub entries-length : (rs : List Record) → length (entries rs) ≡ recordWidth * length rs
-unfolding entries
+unfolding consecutive
 entries-length [] = refl
 entries-length (r ∷ rs) =
     omega (arith, length-append (recordNumbers r) (entries rs), numbers-length r, entries-length rs)
 
 pub entries-append : (rs ss : List Record) → entries (rs ++ ss) ≡ entries rs ++ entries ss
-unfolding entries
+unfolding consecutive
 entries-append [] ss = refl
 entries-append (r ∷ rs) ss = rw (entries-append rs ss, append-assoc (recordNumbers r) (entries rs) (entries ss))
 
@@ -43,13 +42,13 @@ entries-append (r ∷ rs) ss = rw (entries-append rs ss, append-assoc (recordNum
 
 module _ (visit : Visit) (k : ℕ) where
   pub written-none : (out : List ℕ) → written visit k [] out ≡ out
-  unfolding entries
+  unfolding consecutive
   written-none out = refl
 
   -- Writing one point is storing the numbers of its record.
   pub written-one : (p : ModelPoint) (out : List ℕ)
       → sets out (recordWidth * k) (recordNumbers (recordAt visit p)) ≡ written visit k (p ∷ []) out
-  unfolding entries recordNumbers
+  unfolding recordNumbers consecutive
   written-one p out = refl
 
   pub written-length : (ps : List ModelPoint) (out : List ℕ) → length (written visit k ps out) ≡ length out

@@ -1,6 +1,6 @@
 -- A call of `list`: the equations of its contract, and how to read the records in its output list.
 use mathlib.Core.Path.{_≡_}
-use mathlib.Core.List.{List, [], _∷_, _++_}
+use mathlib.Core.List.{List, [], _∷_}
 use Prim.Native.Nat.{ℕ, zero, suc}
 use lib.ListN.{length, take, drop, getD}
 use Rattle.listing.specs.Listing as Listing
@@ -23,11 +23,6 @@ pointsIn (listedResult count headers) = count
 unfoldable pub recordsIn : ℕ → List ℕ → List (List ℕ)
 recordsIn zero list = []
 recordsIn (suc n) list = take recordWidth list ∷ recordsIn n (drop recordWidth list)
-
--- The numbers of consecutive records.
-unfoldable pub consecutive : List (List ℕ) → List ℕ
-consecutive [] = []
-consecutive (numbers ∷ records) = numbers ++ consecutive records
 
 -- The model's index, its id and the point's address in a record's ten numbers (document 01: the first, second and seventh).
 abbrev pub indexIn : List ℕ → ℕ

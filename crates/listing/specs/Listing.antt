@@ -43,7 +43,8 @@ recordNumbers r =
 abbrev pub recordOf : ℕ → ℕ → ℕ → ModelPoint → Record
 recordOf index at id p = record { index = index; id = id; address = at + 2 + p .offset; point = p }
 
--- The answer of listing: a refusal's number, place and number of headers before it; or the records and the number of headers.
+-- The answer of listing: a refusal's number, its place and the number of headers before the refused one (with 30: all); or the
+-- records and the number of headers.
 pub data Answer : Type 0 where
   refused : ℕ → ℕ → ℕ → Answer
   listed : List Record → ℕ → Answer
@@ -98,18 +99,22 @@ abbrev pub pointCount : Answer → ℕ
 pointCount (refused number place headers) = 0
 pointCount (listed rs headers) = length rs
 
--- The numbers of consecutive records.
-unfoldable pub entries : List Record → List ℕ
-entries [] = []
-entries (r ∷ rs) = recordNumbers r ++ entries rs
+-- Lists of numbers in one list, in order.
+unfoldable pub consecutive : List (List ℕ) → List ℕ
+consecutive [] = []
+consecutive (ns ∷ nss) = ns ++ consecutive nss
+
+-- The entries of records: the ten numbers of each.
+abbrev pub entries : List Record → List ℕ
+entries rs = consecutive (map recordNumbers rs)
 
 -- The output list after the call: the records' numbers, then the entries that were there; on a refusal the list as it was.
 unfoldable pub stored : Answer → List ℕ → List ℕ
 stored (refused number place headers) out = out
 stored (listed rs headers) out = entries rs ++ drop (recordWidth * length rs) out
 
--- What a call returns: the count of points and the number of headers; or a refusal's number, its place, the number of headers
--- before it and the count of points, which document 01 sets to 0.
+-- What a call returns: the count of points and the number of headers; or a refusal's number, its place, its number of headers and
+-- the count of points, which document 01 sets to 0.
 pub data Result : Type 0 where
   refusedResult : (number place headers count : ℕ) → Result
   listedResult : (count headers : ℕ) → Result

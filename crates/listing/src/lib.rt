@@ -41,7 +41,7 @@ ghost use Rattle.listing.specs.Calls.{ListCall};
 ghost use Rattle.listing.specs.InternalContracts.{written, bodyAt, WalkFits};
 
 // What `list` returns: the count of points and the number of headers; or a refusal's number, its place and the
-// number of headers before it.
+// number of headers before the refused one, with 30 all of them.
 pub enum Listing {
     Listed {
         points: usize,
@@ -55,7 +55,8 @@ pub enum Listing {
 }
 
 // Lists the points of a map into `out`, ten numbers a record. All refusals and the count of points are decided
-// before anything is written. In addition to checking the catalog, the time is at most proportional to the map's
+// before anything is written. The last `ensures` is the first two as one fact, which the claims on two calls assume.
+// Apart from checking the catalog, the time is at most proportional to the map's
 // registers times the catalog's frames: each model searches the catalog for its id, each instance reads the frames
 // of its group again, and no point needs a search.
 pub fn list(catalog: &[u16], map: &[u16], out: &mut [u64]) -> Listing

@@ -30,3 +30,8 @@ all-in (x ∷ xs) = (first, each-implied (λ y. In y xs) (λ y. In y (x ∷ xs))
 -- An empty list has no members.
 pub not-in-none : {A B : Type 0} (x : A) (xs : List A) → xs ≡ [] → In x xs → B
 not-in-none x (y ∷ ys) e i = impossible (cc)
+
+-- If a member of xs is one of ys, this stays so with the element y added to both lists.
+pub in-more : {A : Type 0} (x y : A) (xs ys : List A) → (In x xs → In x ys) → In x (y ∷ xs) → In x (y ∷ ys)
+in-more x y xs ys f first = first
+in-more x y xs ys f (later i) = later (f i)

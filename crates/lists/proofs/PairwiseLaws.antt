@@ -5,7 +5,7 @@ use mathlib.Core.List.{List, [], _∷_, _++_, map}
 use mathlib.Core.Option.{some}
 use native.Mathlib.Omega.{arith}
 use lib.ListN.{length}
-use Rattle.lists.specs.Each.{Pairwise}
+use Rattle.lists.specs.Each.{Pairwise, Each}
 use Rattle.lists.specs.Members.{In, first, later}
 use Rattle.lists.specs.Tests.{firstWith}
 use Rattle.lists.proofs.FirstFound.{not-none, found-here, found-later}
@@ -72,3 +72,16 @@ pairwise-map R Q f g h [] [] p = tt
 pairwise-map R Q f g h [] (y ∷ ys) p = absurd p
 pairwise-map R Q f g h (x ∷ xs) [] p = absurd p
 pairwise-map R Q f g h (x ∷ xs) (y ∷ ys) p = (h x y (p .0), pairwise-map R Q f g h xs ys (p .1))
+
+-- A fact about the first of each pair holds of each element of the first list.
+pub each-first : {A : Type 0} (P : A → Type 0) (xs ys : List A) → Pairwise (λ x y. P x) xs ys → Each P xs
+each-first P [] ys p = tt
+each-first P (x ∷ xs) [] p = absurd p
+each-first P (x ∷ xs) (y ∷ ys) p = (p .0, each-first P xs ys (p .1))
+
+-- An element of the first of two lists that are related pair by pair has a partner in the second.
+pub pairwise-in : {A : Type 0} (R : A → A → Type 0) (xs ys : List A) → Pairwise R xs ys → (x : A) → In x xs
+    → (y : A) × (In y ys) × R x y
+pairwise-in R (x ∷ xs) [] p z i = absurd p
+pairwise-in R (x ∷ xs) (y ∷ ys) p z first = (y, first, p .0)
+pairwise-in R (x ∷ xs) (y ∷ ys) p z (later i) = let r = pairwise-in R xs ys (p .1) z i in (r .0, later (r .1), r .2)

@@ -8,6 +8,8 @@ use lib.ListN.{length}
 use Rattle.lists.specs.Each.{Each}
 use Rattle.lists.specs.Tests.{selected}
 use Rattle.lists.proofs.TestOutcomes.{clash, by-test}
+use Rattle.lists.specs.Members.{In, first, later}
+use Rattle.lists.proofs.InLaws.{in-more}
 
 module _ {A : Type 0} (test : A → Bool) where
   -- The selection from two appended lists.
@@ -68,3 +70,23 @@ selected-map {A} {B} f test (x ∷ xs) = go (test (f x)) (selected-map f test xs
         (map f (elim b [ true ↦ x ∷ selected (λ y. test (f y)) xs | false ↦ selected (λ y. test (f y)) xs ]))
     go true h = ap {B = List B} (λ zs. f x ∷ zs) h
     go false h = h
+
+-- An element for which the test holds is selected.
+pub in-selected : {A : Type 0} (test : A → Bool) (x : A) (xs : List A) → In x xs → test x ≡ true → In x (selected test xs)
+unfolding selected
+in-selected test x (y ∷ ys) first e = rw (e, selected) first
+in-selected {A} test x (y ∷ ys) (later i) e = go (test y) (in-selected test x ys i e)
+  where
+    go : (b : Bool) → In x (selected test ys) → In x (elim b [ true ↦ y ∷ selected test ys | false ↦ selected test ys ])
+    go true i = later i
+    go false i = i
+
+-- What is selected is an element.
+pub selected-in : {A : Type 0} (test : A → Bool) (x : A) (xs : List A) → In x (selected test xs) → In x xs
+unfolding selected
+selected-in {A} test x (y ∷ ys) i = go (test y) i (selected-in test x ys)
+  where
+    go : (b : Bool) → In x (elim b [ true ↦ y ∷ selected test ys | false ↦ selected test ys ])
+        → (In x (selected test ys) → In x ys) → In x (y ∷ ys)
+    go true i rest = in-more x y (selected test ys) ys rest i
+    go false i rest = later (rest i)

@@ -28,3 +28,8 @@ by-same-test P false t f = f refl
 pub both : (a b : Bool) → a && b ≡ true → (a ≡ true) × (b ≡ true)
 both true b e = (refl, e)
 both false b e = clash (sym e)
+
+-- A test whose success leads to a contradiction fails.
+pub fails : (b : Bool) → (b ≡ true → true ≡ false) → b ≡ false
+fails true f = f refl
+fails false f = refl

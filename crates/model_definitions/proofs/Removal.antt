@@ -106,7 +106,7 @@ frames-joined (c ∷ cs) ds =
     ap {B = List Frame} (λ fs. definitionFrames c ++ fs) (frames-joined cs ds)
     ∙ sym (append-assoc (definitionFrames c) (catalogFrames cs) (catalogFrames ds))
 
--- Removing one model removes its frames, from its model frame to the end of its top group, and no other.
+-- Removing one model removes its frames, its model frame first and the end of its top group last, and no other.
 pub one-removed : (ws : List ℕ) (n : ℕ) (before : List Definition) (d : Definition) (after : List Definition)
     → checked ws ≡ accepted n → definitions ws ≡ before ++ (d ∷ after)
     → (frames ws ≡ catalogFrames before ++ (definitionFrames d ++ catalogFrames after))

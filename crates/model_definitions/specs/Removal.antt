@@ -1,5 +1,5 @@
--- Removing models from a catalog (document 01, "The map": striking out a model takes its frames out, from its model frame to the
--- end of its top group).
+-- Removing models from a catalog (document 01, "The map", on striking out): the frames of a model, its model frame first and the end
+-- of its top group last, are removed.
 use mathlib.Core.Bool.{Bool, true, false}
 use mathlib.Core.List.{List, [], _∷_}
 use Prim.Native.Nat.{ℕ, zero, suc}

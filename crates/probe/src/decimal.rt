@@ -8,15 +8,15 @@ use display::Quantity;
 ghost use Prim.Native.Nat.{_≤_};
 
 // The longest buffer that a line can ask for.
-const CAPACITY: usize = 64;
+const LONGEST_BUFFER: usize = 64;
 
 // Runs the command on the fields from `at` on. False, with nothing written, where they are bad.
 pub(crate) fn run(line: &[u8], at: usize) -> bool {
     let triple = quantity::triple_at(line, at);
-    let capacity = fields::decimal_field(line, triple.next, CAPACITY as u64);
-    let is_good = fields::nothing_left(line, capacity.next);
+    let length = fields::decimal_field(line, triple.next, LONGEST_BUFFER as u64);
+    let is_good = fields::nothing_left(line, length.next);
     if is_good {
-        write_in(triple, capacity.value as usize);
+        write_in(triple, length.value as usize);
     }
     is_good
 }
@@ -26,7 +26,7 @@ fn write_in(triple: Triple, length: usize)
     requires { ⌜ length ≤ 64 ⌝ }
 {
     let quantity = triple.quantity;
-    let mut buffer = [0u8; CAPACITY];
+    let mut buffer = [0u8; LONGEST_BUFFER];
     write_decimal(quantity, &mut buffer[0..length]);
 }
 

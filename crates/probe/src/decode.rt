@@ -1,6 +1,6 @@
-// The command `decode CODE WORDS`: one value from a type code and four registers.
+// The command `decode CODE WORDS`: the value of four registers under a type code.
 use crate::fields;
-use crate::fields::CAPACITY;
+use crate::fields::FIELD_WORDS;
 use crate::fields::WORD_DIGITS;
 use crate::output;
 use values::Value;
@@ -8,14 +8,14 @@ use values::Value;
 // Runs the command on the fields from `at` on. False, with nothing written, where they are bad.
 pub(crate) fn run(line: &[u8], at: usize) -> bool {
     let code = fields::u16_field(line, at);
-    let mut words = [0u16; CAPACITY];
+    let mut words = [0u16; FIELD_WORDS];
     let stored = fields::words_field(line, code.next, WORD_DIGITS, 4, &mut words);
     let is_good = stored.count == 4 && fields::nothing_left(line, stored.next);
     decode_if(is_good, code.value, &words)
 }
 
 // Writes the result if the line is good, and returns whether it is.
-fn decode_if(is_good: bool, type_code: u16, words: &[u16; CAPACITY]) -> bool {
+fn decode_if(is_good: bool, type_code: u16, words: &[u16; FIELD_WORDS]) -> bool {
     if is_good {
         write_value(type_code, [words[0], words[1], words[2], words[3]]);
     }

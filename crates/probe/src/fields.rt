@@ -41,7 +41,7 @@ pub(crate) const WORD_DIGITS: usize = 4;
 
 // The capacity for the words of a field. It is one number for all fields, so that one function can fill any of them
 // as an array: where an array is made and lent as a slice, the prover counts its elements.
-pub(crate) const CAPACITY: usize = 81920;
+pub(crate) const FIELD_WORDS: usize = 81920;
 
 // The position of the first `byte` in `s` from `start` on, or the end of `s` if there is none.
 pub(crate) fn find(s: &[u8], start: usize, byte: u8) -> usize
@@ -151,7 +151,7 @@ pub(crate) fn words_field(
     at: usize,
     digits: usize,
     limit: usize,
-    out: &mut [u16; CAPACITY],
+    out: &mut [u16; FIELD_WORDS],
 ) -> Stored
     requires { ⌜ (0 < digits) × (limit ≤ 81920) ⌝ }
 {
@@ -168,7 +168,7 @@ pub(crate) fn words_field(
 }
 
 // The first `count` words of `s`; all of `s` if it has fewer.
-pub(crate) fn first<'a>(s: &'a [u16; CAPACITY], count: usize) -> &'a [u16] {
+pub(crate) fn first<'a>(s: &'a [u16; FIELD_WORDS], count: usize) -> &'a [u16] {
     part(s, count)
 }
 
@@ -198,7 +198,7 @@ fn store(
     end: usize,
     digits: usize,
     limit: usize,
-    out: &mut [u16; CAPACITY],
+    out: &mut [u16; FIELD_WORDS],
 ) -> bool
     requires { ⌜ (0 < digits) × (limit ≤ 81920) × (end ≤ length (now line)) ⌝ }
 {

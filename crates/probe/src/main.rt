@@ -8,7 +8,7 @@ mod decode;
 mod equal;
 mod events;
 mod fields;
-mod lists;
+mod listings;
 mod output;
 mod parsing;
 mod plants;
@@ -21,11 +21,11 @@ ghost use Prim.Native.Nat.{_≤_};
 ghost use lib.ListN.{length};
 
 // The size of the input buffer: the longest line and its LF.
-const CAPACITY: usize = 524289;
+const INPUT_BYTES: usize = 524289;
 
 // The number of times the buffer is filled, so that the program ends on an endless input. A line that one round cuts
-// ends in the next, so two consecutive rounds process more than CAPACITY bytes, and all rounds more than 32 *
-// CAPACITY.
+// ends in the next, so two consecutive rounds process more than INPUT_BYTES bytes, and all rounds more than 32 *
+// INPUT_BYTES.
 const ROUNDS: usize = 64;
 
 // The words of the commands as numbers: the length, then a byte for each letter.
@@ -48,7 +48,7 @@ const WRITE: u64 = 0x05_77_72_69_74_65;
 const PARSE: u64 = 0x05_70_61_72_73_65;
 
 fn main() {
-    let mut input = [0u8; CAPACITY];
+    let mut input = [0u8; INPUT_BYTES];
     process_input(&mut input);
 }
 
@@ -90,7 +90,7 @@ fn process_lines(input: &[u8]) -> usize
     let mut at = 0;
     while at < input.len() {
         let end = fields::find(input, at, b'\n');
-        if end == CAPACITY {
+        if end == INPUT_BYTES {
             return at;
         }
         process_line(&input[at..end]);
@@ -131,7 +131,7 @@ fn run(line: &[u8]) -> bool {
         DECIMAL => decimal::run(line, at),
         EQUAL => equal::run(line, at),
         CHECK => checking::run(line, at),
-        LIST => lists::run(line, at),
+        LIST => listings::run(line, at),
         WRITE => writes::run(line, at),
         PARSE => parsing::run(line, at),
         _ => false,

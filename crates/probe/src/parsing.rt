@@ -1,6 +1,6 @@
 // The command `parse BYTES`: the catalog and the map in the bytes of an input, with the capacity of `readplant`.
 use crate::fields;
-use crate::fields::CAPACITY;
+use crate::fields::FIELD_WORDS;
 use crate::output;
 use input::FRAME_WORDS;
 use input::Parsed;
@@ -13,8 +13,8 @@ const PARSED_CAPACITY: usize = 8192;
 
 // Runs the command on the fields from `at` on. False, with nothing written, where they are bad.
 pub(crate) fn run(line: &[u8], at: usize) -> bool {
-    let mut words = [0u16; CAPACITY];
-    let stored = fields::words_field(line, at, BYTE_DIGITS, CAPACITY, &mut words);
+    let mut words = [0u16; FIELD_WORDS];
+    let stored = fields::words_field(line, at, BYTE_DIGITS, FIELD_WORDS, &mut words);
     parse_if(
         fields::nothing_left(line, stored.next),
         &words,
@@ -23,9 +23,9 @@ pub(crate) fn run(line: &[u8], at: usize) -> bool {
 }
 
 // Writes the result if the line is good, and returns whether it is.
-fn parse_if(is_good: bool, words: &[u16; CAPACITY], count: usize) -> bool {
+fn parse_if(is_good: bool, words: &[u16; FIELD_WORDS], count: usize) -> bool {
     if is_good {
-        let mut bytes = [0u8; CAPACITY];
+        let mut bytes = [0u8; FIELD_WORDS];
         copy_bytes(words, &mut bytes);
         parse_bytes(&bytes, count);
     }
@@ -33,16 +33,16 @@ fn parse_if(is_good: bool, words: &[u16; CAPACITY], count: usize) -> bool {
 }
 
 // Copies the low byte of each word.
-fn copy_bytes(words: &[u16; CAPACITY], bytes: &mut [u8; CAPACITY]) {
+fn copy_bytes(words: &[u16; FIELD_WORDS], bytes: &mut [u8; FIELD_WORDS]) {
     let mut i = 0;
-    while i < CAPACITY {
+    while i < FIELD_WORDS {
         bytes[i] = (words[i] % 256) as u8;
         i += 1;
     }
 }
 
 // Writes the result for the first `count` bytes. (Lent as an array, `bytes` needs no proof of its length.)
-fn parse_bytes(bytes: &[u8; CAPACITY], count: usize) {
+fn parse_bytes(bytes: &[u8; FIELD_WORDS], count: usize) {
     parse_part(bytes, count);
 }
 

@@ -1,6 +1,6 @@
 // Two fields of words that end a line: CATALOG MAP, or FALLBACK MAP.
 use crate::fields;
-use crate::fields::CAPACITY;
+use crate::fields::FIELD_WORDS;
 use crate::fields::WORD_DIGITS;
 ghost use Prim.Native.Nat.{_≤_};
 
@@ -22,9 +22,9 @@ pub(crate) fn plant_at(
     line: &[u8],
     at: usize,
     most: usize,
-    first: &mut [u16; CAPACITY],
+    first: &mut [u16; FIELD_WORDS],
     most_registers: usize,
-    map: &mut [u16; CAPACITY],
+    map: &mut [u16; FIELD_WORDS],
 ) -> Plant
     requires { ⌜ (most ≤ 81920) × («most_registers» ≤ 81920) ⌝ }
 {

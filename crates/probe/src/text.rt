@@ -1,6 +1,6 @@
 // The command `text ADDRESS SIZE FALLBACK MAP`: the words of a text in a register map, or of the fallback.
 use crate::fields;
-use crate::fields::CAPACITY;
+use crate::fields::FIELD_WORDS;
 use crate::output;
 use crate::plants::Plant;
 use crate::plants::plant_at;
@@ -20,8 +20,8 @@ struct Asked {
 
 // Runs the command on the fields from `at` on. False, with nothing written, where they are bad.
 pub(crate) fn run(line: &[u8], at: usize) -> bool {
-    let mut fallback = [0u16; CAPACITY];
-    let mut map = [0u16; CAPACITY];
+    let mut fallback = [0u16; FIELD_WORDS];
+    let mut map = [0u16; FIELD_WORDS];
     let asked = asked_at(line, at);
     let plant = plant_at(
         line,
@@ -48,8 +48,8 @@ fn asked_at(line: &[u8], at: usize) -> Asked {
 // Writes the result if the line is good, and returns whether it is.
 fn text_if<'a>(
     plant: Plant,
-    fallback: &'a [u16; CAPACITY],
-    map: &'a [u16; CAPACITY],
+    fallback: &'a [u16; FIELD_WORDS],
+    map: &'a [u16; FIELD_WORDS],
     asked: Asked,
 ) -> bool {
     if plant.is_whole {

@@ -1,7 +1,7 @@
 // The command `write MODEL POINT I2 I3 I4 RAW CATALOG MAP`: writes RAW to a point of a register map, by the index of
 // its model, its number and its instance numbers at levels 2, 3 and 4.
 use crate::fields;
-use crate::fields::CAPACITY;
+use crate::fields::FIELD_WORDS;
 use crate::output;
 use crate::plants::CATALOG_CAPACITY;
 use crate::plants::MAP_CAPACITY;
@@ -27,8 +27,8 @@ struct Path {
 
 // Runs the command on the fields from `at` on. False, with nothing written, where they are bad.
 pub(crate) fn run(line: &[u8], at: usize) -> bool {
-    let mut catalog = [0u16; CAPACITY];
-    let mut map = [0u16; CAPACITY];
+    let mut catalog = [0u16; FIELD_WORDS];
+    let mut map = [0u16; FIELD_WORDS];
     let asked = write_at(line, at);
     let plant = plant_at(
         line,
@@ -74,8 +74,8 @@ fn path_at(line: &[u8], at: usize) -> Path {
 // Writes the result if the line is good, and returns whether it is.
 fn write_if(
     plant: Plant,
-    catalog: &[u16; CAPACITY],
-    map: &mut [u16; CAPACITY],
+    catalog: &[u16; FIELD_WORDS],
+    map: &mut [u16; FIELD_WORDS],
     asked: Write,
 ) -> bool {
     if plant.is_whole {

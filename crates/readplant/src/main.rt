@@ -36,8 +36,9 @@ fn main() {
     print(&input, count, &output[..length]);
 }
 
-// Writes `bytes`, which must be the output for the input whose first `count` bytes are in `input`. This write and the read
-// in `main` are left to trust. A write that fails is ignored: there is nowhere to report it.
+// Writes `bytes`, which must be the output for the input whose first `count` bytes are in `input`. What is left to trust is
+// the one line of this function, and that `main` passes on `input` and `count` as it read them. A write that fails is
+// ignored: there is nowhere to report it.
 fn print(input: &[u8], count: usize, bytes: &[u8])
     requires { ⌜ Prints (now input) count (now bytes) ⌝ }
 {

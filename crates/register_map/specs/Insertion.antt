@@ -37,7 +37,7 @@ lengthened map gaps =
     ++ drop (totalSize (scan map .models)) (drop 2 map)
 
 -- The inserted models among `ps`, which begin at address `at` of the lengthened map, whose addresses are lower than `address`
--- (document 01: a model put in is before a point or a header if its addresses in the lengthened map are lower).
+-- (what document 01 means by an inserted model before a point or a header).
 unfoldable pub before : ℕ → List Placed → ℕ → List Model
 before at [] address = []
 before at (kept m ∷ ps) address = before (at + sizeOf m) ps address

@@ -54,9 +54,9 @@ join-end rs raw = rw (drop-of-length-le rs {i = length rs - 0} (omega arith)) (o
 pub one-more : (k raw r : ℕ) → raw < 65536 ^ k → r < 65536 → raw * 65536 + r < 65536 ^ suc k
 one-more k raw r h l = rw (pow-suc 65536 k) (omega (arith, mul-le-mul-right 65536 h))
 
--- After up to three registers, 64 bits have capacity for a fourth.
-pub capacity : (k raw : ℕ) → k < 4 → raw < 65536 ^ k → raw < 281474976710656
-capacity k raw h l = omega (arith, pow-le-pow-right {n = 65536} (omega arith) {i = k} {j = 3} (omega arith))
+-- After up to three registers, a fourth still fits 64 bits.
+pub fits-one-more : (k raw : ℕ) → k < 4 → raw < 65536 ^ k → raw < 281474976710656
+fits-one-more k raw h l = omega (arith, pow-le-pow-right {n = 65536} (omega arith) {i = k} {j = 3} (omega arith))
 
 -- A power of 65536 is positive, and k registers have 16 × k bits.
 pub positive : (k : ℕ) → 0 < 65536 ^ k

@@ -5,7 +5,7 @@ use Prim.Native.Nat.{ℕ, _*_}
 use native.Mathlib.Omega.{arith}
 use lib.ListN.{length}
 use lib.Seq.{take-at}
-use Rattle.listing.specs.Listing.{Record, recordNumbers, recordWidth, entries}
+use Rattle.listing.specs.Listing.{Record, recordNumbers, recordWidth, entries, consecutive}
 use Rattle.listing.proofs.WrittenRecords.{entries-length}
 use Rattle.report.specs.Text.{numbersLine, recordLines, listingText}
 use Rattle.report.specs.InternalContracts.{separatorAfter, numbersText, listText}
@@ -18,7 +18,7 @@ record-line r rest =
     texts-append 0 (recordNumbers r) rest ∙ ap (λ (text : List ℕ). numbersLine (recordNumbers r) ++ text) (texts-again 0 rest)
 
 pub record-lines : (rs : List Record) → recordLines rs ≡ numbersText 0 (entries rs)
-unfolding recordLines numbersText entries
+unfolding recordLines numbersText consecutive
 record-lines [] = refl
 record-lines (r ∷ rs) = rw (record-line r (entries rs), record-lines rs)
 

@@ -18,7 +18,7 @@ use Rattle.layout.specs.Reading.{Reading}
 use Rattle.listing.specs.Listing.{Record, recordWidth, Answer, refused, listed, walk, withCapacity}
 use Rattle.listing.proofs.RefusalNumbers.{Between}
 use Rattle.listing.proofs.WalkHeaders.{HeadersWalked, walk-headers}
-use Rattle.stability.specs.Stability.{shifted, movedAnswer, AreLower, MovedByLower}
+use Rattle.stability.specs.Stability.{shifted, isModelRefusal, movedPlace, movedHeaders, movedAnswer, AreLower, MovedByLower}
 use Rattle.stability.proofs.WalkMoved.{movedWalk}
 use Rattle.stability.proofs.RecordPlaces.{InModel, AllInModels}
 
@@ -46,7 +46,7 @@ module _ (n : ℕ) (gaps : List (List Model)) where
   unfolding movedAnswer
   moved-model number place headers b =
       let other : number ≡ 30 → ⊥ = λ e. let high = b .1 in omega arith in
-      simp (movedAnswer, ne-eqb number 30 other, le-leb 27 number (b .0), le-leb number 29 (b .1))
+      simp (movedAnswer, movedPlace, movedHeaders, isModelRefusal, ne-eqb number 30 other, le-leb 27 number (b .0), le-leb number 29 (b .1))
 
   pub moved-catalog : (number place headers : ℕ) → number ≤ 11
       → movedAnswer n gaps (refused number place headers) ≡ refused number place headers
@@ -54,7 +54,7 @@ module _ (n : ℕ) (gaps : List (List Model)) where
   moved-catalog number place headers h =
       let other : number ≡ 30 → ⊥ = λ e. omega arith in
       let below : number < 27 = omega arith in
-      simp (movedAnswer, ne-eqb number 30 other, lt-leb 27 number below)
+      simp (movedAnswer, movedPlace, movedHeaders, isModelRefusal, ne-eqb number 30 other, lt-leb 27 number below)
 
   -- The list has capacity for the moved records if and only if it has capacity for the records.
   pub moved-with-capacity : (capacity : ℕ) (a : Answer) → By27To29 a

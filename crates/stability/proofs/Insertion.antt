@@ -8,14 +8,10 @@
 -- the models whose addresses in the lengthened map are lower (`MovedByLower`). It is one claim over all inserted models.
 -- `InsertionCalls` states it of two calls of `list`.
 use mathlib.Core.Path.{_≡_, refl, ap, _∙_}
-use mathlib.Core.Bool.{_&&_}
 use mathlib.Core.List.{List, [], _∷_}
-use mathlib.Core.Option.{some}
 use Prim.Native.Nat.{ℕ, _+_, _≤_}
-use lib.Dec.{eqb, leb}
 use lib.ListN.{length, length-map}
 use Rattle.lists.specs.Each.{Each}
-use Rattle.lists.proofs.TestOutcomes.{by-test}
 use Rattle.lists.proofs.EachLaws.{each-implied}
 use Rattle.register_map.specs.Scan.{Model, totalSize, scan, WellFormed}
 use Rattle.register_map.specs.Insertion.{placed, lengthened, gapsBefore}
@@ -60,17 +56,13 @@ shifted-numbers ms r = refl
 moved-number : (n : ℕ) (gaps : List (List Model)) (a : Answer) → refusalNumber (movedAnswer n gaps a) ≡ refusalNumber a
 unfolding movedAnswer
 moved-number n gaps (listed rs headers) = refl
-moved-number n gaps (refused number place headers) =
-    let P : Answer → Type 0 = λ a. refusalNumber a ≡ some number in
-    by-test P (eqb number 30) (λ t. refl) (λ t. by-test P (leb 27 number && leb number 29) (λ u. refl) (λ u. refl))
+moved-number n gaps (refused number place headers) = refl
 
 -- The count of points stays.
 moved-count : (n : ℕ) (gaps : List (List Model)) (a : Answer) → pointCount (movedAnswer n gaps a) ≡ pointCount a
 unfolding movedAnswer
 moved-count n gaps (listed rs headers) = length-map rs (λ r. shifted (gapsBefore (r .index) gaps) r)
-moved-count n gaps (refused number place headers) =
-    let P : Answer → Type 0 = λ a. pointCount a ≡ 0 in
-    by-test P (eqb number 30) (λ t. refl) (λ t. by-test P (leb 27 number && leb number 29) (λ u. refl) (λ u. refl))
+moved-count n gaps (refused number place headers) = refl
 
 module _ (catalog map : List ℕ) (gaps : List (List Model)) (capacity : ℕ) (whole : MadeOfWholeModels map)
     (unknown : Each (Each (UnknownModel catalog)) gaps) (short : length (lengthened map gaps) ≤ 65536) where

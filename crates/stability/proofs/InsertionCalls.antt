@@ -10,13 +10,13 @@ use lib.ListN.{length, drop}
 use Rattle.lists.specs.Each.{Each}
 use Rattle.register_map.specs.Scan.{Model, scan}
 use Rattle.register_map.specs.Insertion.{placed, lengthened}
-use Rattle.listing.specs.Listing.{recordWidth, listing, stored}
+use Rattle.listing.specs.Listing.{recordWidth, listing, stored, consecutive}
 use Rattle.listing.specs.Listing as Listing
 use Rattle.listing.specs.declared.Listing as Code
 use Rattle.listing.specs.CodeTypes.{toSpecListing}
-use Rattle.listing.specs.Calls.{ListCall, pointsIn, recordsIn, consecutive, indexIn, addressIn}
+use Rattle.listing.specs.Calls.{ListCall, pointsIn, recordsIn, indexIn, addressIn}
 use Rattle.stability.specs.Stability.{MadeOfWholeModels, UnknownModel, AreLower}
-use Rattle.stability.specs.TwoCalls.{movedNumbers, movedList, movedResult, HeaderByLower, InsertionMoves}
+use Rattle.stability.specs.TwoCalls.{movedNumbers, movedList, movedResult, ResultByLower, InsertionMoves}
 use Rattle.stability.proofs.Insertion.{insertion}
 use Rattle.stability.proofs.ResultsMoved.{result-moved, list-moved, rest-stays, records-lower, header-lower}
 
@@ -45,7 +45,7 @@ insertion-calls catalog map gaps whole unknown short out out′ same first first
           ∙ ap (λ l. movedList gaps points l out′) (sym (one .list));
       recordsByLower = subst (λ l. Each Lower (recordsIn points l)) (sym (one .list))
           (subst (λ r. Each Lower (recordsIn (pointsIn r) (stored a out))) (sym (one .result)) (records-lower ps gaps a out (moved .1)));
-      headerByLower = subst (HeaderByLower ps gaps) (sym (one .result)) (header-lower ps gaps a (moved .1));
+      headerByLower = subst (ResultByLower ps gaps) (sym (one .result)) (header-lower ps gaps a (moved .1));
     }
 
 -- With lists of the same contents too, the whole second list is the first, moved.

@@ -19,10 +19,10 @@ use Rattle.register_map.specs.Insertion.{placed, lengthened, gapsBefore}
 use Rattle.layout.specs.Points.{ModelPoint, pointAt}
 use Rattle.layout.specs.Layout.{within, measured, fillMeasured, countUnimplemented, fits, fillOf, pointsAt, groupsBy, entered, contentAt}
 use Rattle.layout.specs.Reading.{endsWithPad, readFull, readBy, topOf, reading}
-use Rattle.listing.specs.Listing.{Record, recordNumbers, listed, walk, recordsBy, allRecords, withCapacity, listing, entries, stored, listedResult, refusedResult}
+use Rattle.listing.specs.Listing.{Record, recordNumbers, listed, walk, recordsBy, allRecords, withCapacity, listing, stored, listedResult, refusedResult, consecutive}
 use Rattle.listing.specs.declared.Listing as Code
 use Rattle.listing.specs.CodeTypes.{toSpecListing}
-use Rattle.listing.specs.Calls.{ListCall, recordsIn, consecutive}
+use Rattle.listing.specs.Calls.{ListCall, recordsIn}
 use Rattle.stability.specs.Stability.{MadeOfWholeModels, UnknownModel, movedAnswer, MovedByLower}
 use Rattle.stability.specs.TwoCalls.{movedResult}
 use Rattle.stability.proofs.Insertion.{insertion}
@@ -127,7 +127,7 @@ unfolding rows rowAmong registersOf join shownRaw tooWide inRange classOf classi
     frameOf framesFrom isSizeOf checkFrom checked parsed opening scanFrom scan
     pointAt within measured fillMeasured countUnimplemented fits fillOf pointsAt groupsBy entered contentAt
     endsWithPad readFull readBy topOf reading walk recordsBy allRecords withCapacity listing
-    recordNumbers entries stored
+    recordNumbers stored consecutive
 first-call = record { result = refl; list = refl }
 
 -- Every call for the lengthened map returns 2 points and 6 headers. In its output list only the index (3) and the address (14) of

@@ -13,13 +13,12 @@ use Rattle.catalog_frames.specs.Frames.{frames}
 use Rattle.model_definitions.specs.Definitions.{modelIds, definitions}
 use Rattle.model_definitions.specs.Removal.{keeping}
 use Rattle.model_definitions.proofs.ModelIds.{ids-of-model-frames}
-use Rattle.listing.specs.Listing.{Record, recordNumbers, recordWidth, listing, stored, listedResult}
+use Rattle.listing.specs.Listing.{Record, recordNumbers, recordWidth, listing, stored, listedResult, consecutive}
 use Rattle.listing.specs.Listing as Listing
 use Rattle.listing.specs.declared.Listing as Code
-use Rattle.listing.specs.CodeTypes.{toSpecListing}
-use Rattle.listing.specs.Calls.{ListCall, recordsIn, consecutive, idIn}
+use Rattle.listing.specs.Calls.{ListCall, recordsIn, idIn}
 use Rattle.listing.proofs.ResultCases.{result-listed}
-use Rattle.listing.proofs.OutputRecords.{entries-consecutive, records-back}
+use Rattle.listing.proofs.OutputRecords.{records-back}
 use Rattle.stability.specs.Removed.{remainingRecords, recordsOf}
 use Rattle.stability.specs.TwoCalls.{knownRecords, RemovalKeeps}
 use Rattle.stability.proofs.Removal.{removal}
@@ -48,13 +47,12 @@ removal-calls choice catalog map out out′ same points headers firstList one se
     ∙ records-back rs (drop (recordWidth * length rs) out) in
     let byId = remaining-by-id choice catalog map (length out) rs headers (l .is)
     ∙ ap (λ ids. recordsOf ids rs) (ids-of-model-frames remaining) in
-    let count : length kept ≡ length left = length-map left recordNumbers in
+    let known = ap (Lists.map recordNumbers) byId ∙ sym (ap (knownRecords remaining) decoded ∙ known-numbers remaining rs) in
+    let count : length left ≡ length kept = sym (length-map left recordNumbers) in
     record {
-      kept = kept;
-      are = ap (Lists.map recordNumbers) byId ∙ sym (ap (knownRecords remaining) decoded ∙ known-numbers remaining rs);
-      result = two .result ∙ ap Listing.result answer ∙ ap (λ n. listedResult n headers) (sym count);
+      result = two .result ∙ ap Listing.result answer ∙ ap (λ n. listedResult n headers) (count ∙ ap length known);
       list = two .list
           ∙ ap (λ a. stored a out′) answer
-          ∙ ap (λ ns. ns ++ drop (recordWidth * length left) out′) (entries-consecutive left)
-          ∙ ap (λ n. consecutive kept ++ drop (recordWidth * n) out′) (sym count);
+          ∙ ap (λ n. consecutive kept ++ drop (recordWidth * n) out′) count
+          ∙ ap (λ ks. consecutive ks ++ drop (recordWidth * length ks) out′) known;
     }

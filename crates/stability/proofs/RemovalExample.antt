@@ -1,8 +1,8 @@
 -- Removal on an example: a catalog of models 1 and 7, and a map with both and an unknown model between them.
 use mathlib.Core.Path.{_≡_, refl, ap, _∙_}
-use mathlib.Core.List.{List, [], _∷_, _++_}
-use Prim.Native.Nat.{ℕ, _*_}
-use lib.ListN.{length, drop, replicate}
+use mathlib.Core.List.{List, [], _∷_}
+use Prim.Native.Nat.{ℕ}
+use lib.ListN.{replicate}
 use Rattle.registers.specs.Registers.{join, shownRaw, tooWide}
 use Rattle.point_types.specs.Rows.{rows, rowAmong, registersOf}
 use Rattle.values.specs.Classes.{inRange, classOf, classified}
@@ -17,9 +17,9 @@ use Rattle.register_map.specs.Scan.{scanFrom, scan}
 use Rattle.layout.specs.Points.{ModelPoint, pointAt}
 use Rattle.layout.specs.Layout.{within, measured, fillMeasured, countUnimplemented, fits, fillOf, pointsAt, groupsBy, entered, contentAt}
 use Rattle.layout.specs.Reading.{endsWithPad, readFull, readBy, topOf, reading}
-use Rattle.listing.specs.Listing.{Record, recordNumbers, listed, walk, recordsBy, allRecords, withCapacity, listing, entries, stored}
+use Rattle.listing.specs.Listing.{Record, recordNumbers, listed, walk, recordsBy, allRecords, withCapacity, listing, stored, consecutive}
 use Rattle.listing.specs.declared.Listing as Code
-use Rattle.listing.specs.Calls.{ListCall, recordsIn, consecutive}
+use Rattle.listing.specs.Calls.{ListCall, recordsIn}
 use Rattle.stability.specs.Removed.{keepsId, remainingRecords}
 use Rattle.stability.proofs.Removal.{removal}
 use Rattle.stability.proofs.RemovalCalls.{removal-calls}
@@ -91,7 +91,7 @@ unfolding rows rowAmong registersOf join shownRaw tooWide inRange classOf classi
     frameOf framesFrom isSizeOf checkFrom checked parsed opening scanFrom scan
     pointAt within measured fillMeasured countUnimplemented fits fillOf pointsAt groupsBy entered contentAt
     endsWithPad readFull readBy topOf reading walk recordsBy allRecords withCapacity listing
-    recordNumbers entries stored
+    recordNumbers stored consecutive
 first-call = record { result = refl; list = refl }
 
 -- Every call by the catalog without model 1 leaves the record of model 7 in its output list, and the other entries as they were.
@@ -100,5 +100,4 @@ pub second-list : (second : Code.Listing) (secondList : List ℕ)
     → secondList ≡ 2 ∷ 7 ∷ 1 ∷ 0 ∷ 0 ∷ 0 ∷ 11 ∷ 0 ∷ 50 ∷ 0 ∷ replicate 11 9
 unfolding frameOf framesFrom wordsOfAll parsed keeping selected recordsIn consecutive
 second-list second secondList call =
-    let r = removal-calls (allButOne 0) catalog plant out out refl 2 4 firstList first-call second secondList call in
-    r .list ∙ ap (λ ks. consecutive ks ++ drop (10 * length ks) out) (r .are)
+    removal-calls (allButOne 0) catalog plant out out refl 2 4 firstList first-call second secondList call .list

@@ -1,21 +1,18 @@
 -- Inserted models, seen in the result and the output list of a moved answer.
 use mathlib.Core.Path.{_≡_, refl, ap}
-use mathlib.Core.Bool.{Bool, true, false, _&&_}
 use mathlib.Core.List.{List, [], _∷_, _++_, map}
 use Prim.Native.Nat.{ℕ, _+_, _*_}
-use lib.Dec.{eqb, leb}
 use lib.ListN.{length, drop, length-map}
 use Rattle.lists.specs.Each.{Each}
-use Rattle.lists.proofs.TestOutcomes.{by-test}
 use Rattle.lists.proofs.EachLaws.{each-map}
-use Rattle.register_map.specs.Scan.{Model, totalSize}
+use Rattle.register_map.specs.Scan.{Model}
 use Rattle.register_map.specs.Insertion.{Placed, gapsBefore}
-use Rattle.listing.specs.Listing.{Record, recordNumbers, recordWidth, Answer, refused, listed, entries, stored, refusedResult}
+use Rattle.listing.specs.Listing.{Record, recordNumbers, recordWidth, Answer, refused, listed, entries, stored, consecutive}
 use Rattle.listing.specs.Listing as Listing
-use Rattle.listing.specs.Calls.{pointsIn, recordsIn, consecutive, indexIn, addressIn}
+use Rattle.listing.specs.Calls.{pointsIn, recordsIn, indexIn, addressIn}
 use Rattle.listing.proofs.OutputRecords.{records-back, rest-back}
 use Rattle.stability.specs.Stability.{shifted, movedAnswer, AreLower, MovedByLower}
-use Rattle.stability.specs.TwoCalls.{movedNumbers, movedList, movedResult, HeaderByLower}
+use Rattle.stability.specs.TwoCalls.{movedNumbers, movedList, movedResult, ResultByLower}
 
 -- The result of a moved answer is the result, moved.
 pub result-moved : (n : ℕ) (gaps : List (List Model)) (a : Answer)
@@ -23,37 +20,12 @@ pub result-moved : (n : ℕ) (gaps : List (List Model)) (a : Answer)
 unfolding movedAnswer movedResult
 result-moved n gaps (listed rs headers) =
     ap (λ k. Listing.listedResult k (headers + length (gapsBefore n gaps))) (length-map rs (λ r. shifted (gapsBefore (r .index) gaps) r))
-result-moved n gaps (refused number place headers) = go (eqb number 30) (leb 27 number && leb number 29)
-  where
-    all : ℕ
-    all = headers + length (gapsBefore n gaps)
-
-    lower : List Model
-    lower = gapsBefore headers gaps
-
-    go : (short model : Bool)
-        → Listing.result (elim short [
-          | true ↦ refused number place all
-          | false ↦ elim model [
-            | true ↦ refused number (place + totalSize lower) (headers + length lower)
-            | false ↦ refused number place headers
-          ]
-        ])
-        ≡ elim short [
-          | true ↦ refusedResult number place all 0
-          | false ↦ elim model [
-            | true ↦ refusedResult number (place + totalSize lower) (headers + length lower) 0
-            | false ↦ refusedResult number place headers 0
-          ]
-        ]
-    go true model = refl
-    go false true = refl
-    go false false = refl
+result-moved n gaps (refused number place headers) = refl
 
 -- The entries of shifted records are the moved numbers of the records.
 entries-moved : (gaps : List (List Model)) (rs : List Record)
     → entries (map (λ r. shifted (gapsBefore (r .index) gaps) r) rs) ≡ consecutive (map (movedNumbers gaps) (map recordNumbers rs))
-unfolding entries consecutive recordNumbers
+unfolding consecutive recordNumbers
 entries-moved gaps [] = refl
 entries-moved gaps (r ∷ rs) = ap (λ ns. movedNumbers gaps (recordNumbers r) ++ ns) (entries-moved gaps rs)
 
@@ -67,9 +39,7 @@ list-moved n gaps (listed rs headers) out out′ =
       records-back rs (drop (recordWidth * length rs) out),
       entries-moved gaps rs,
     )
-list-moved n gaps (refused number place headers) out out′ =
-    let P : Answer → Type 0 = λ a. stored a out′ ≡ out′ in
-    by-test P (eqb number 30) (λ t. refl) (λ t. by-test P (leb 27 number && leb number 29) (λ u. refl) (λ u. refl))
+list-moved n gaps (refused number place headers) out out′ = refl
 
 -- After the records an output list stays.
 pub rest-stays : (a : Answer) (out : List ℕ)
@@ -93,7 +63,7 @@ records-lower ps gaps (listed rs headers) out m =
 records-lower ps gaps (refused number place headers) out m = tt
 
 pub header-lower : (ps : List Placed) (gaps : List (List Model)) (a : Answer) → MovedByLower ps gaps a
-    → HeaderByLower ps gaps (Listing.result a)
+    → ResultByLower ps gaps (Listing.result a)
 unfolding MovedByLower
 header-lower ps gaps (listed rs headers) m = tt
 header-lower ps gaps (refused number place headers) m = m

@@ -1,6 +1,6 @@
 -- How models inserted into a map change its listing (document 01, "The map", on models put in).
 use mathlib.Core.Path.{_≡_}
-use mathlib.Core.Bool.{true, false, _&&_}
+use mathlib.Core.Bool.{Bool, true, false, _&&_}
 use mathlib.Core.List.{List, [], map}
 use mathlib.Core.Option.{Option, none, some}
 use Prim.Native.Nat.{ℕ, _+_}
@@ -29,32 +29,46 @@ abbrev pub shifted : List Model → Record → Record
 shifted ms r =
     record { index = r .index + length ms; id = r .id; address = r .address + totalSize ms; point = r .point }
 
+-- Is it the refusal of a model: 27, 28 or 29?
+abbrev pub isModelRefusal : ℕ → Bool
+isModelRefusal number = leb 27 number && leb number 29
+
+-- The place of a refusal, moved. 27 to 29: it rises by the sum of 2 + length over the models inserted before the refused header,
+-- which has `headers` headers before it. On any other number (1 to 11 and 30) it stays.
+abbrev pub movedPlace : List (List Model) → ℕ → ℕ → ℕ → ℕ
+movedPlace gaps number place headers =
+    elim (isModelRefusal number) [ true ↦ place + totalSize (gapsBefore headers gaps) | false ↦ place ]
+
+-- The headers of a refusal, moved, for a map with n models. 30: they rise by the number inserted. 27 to 29: by the number inserted
+-- before the refused header. On any other number (1 to 11) they stay.
+abbrev pub movedHeaders : ℕ → List (List Model) → ℕ → ℕ → ℕ
+movedHeaders n gaps number headers =
+    elim (eqb number 30) [
+      | true ↦ headers + length (gapsBefore n gaps)
+      | false ↦ elim (isModelRefusal number) [ true ↦ headers + length (gapsBefore headers gaps) | false ↦ headers ]
+    ]
+
 -- The answer for the lengthened map, by the answer for the map, which has n models. Acceptance: each record is shifted by the
--- models inserted before it, and the headers rise by the number inserted. 30: the headers rise likewise, and the place stays.
--- 27 to 29: the headers rise by the number inserted before that header, the place by the sum of 2 + length over these. On any other
--- number (1 to 11) both stay.
+-- models inserted before it, and the headers rise by the number inserted. A refusal keeps its number; place and headers are moved.
 unfoldable pub movedAnswer : ℕ → List (List Model) → Answer → Answer
 movedAnswer n gaps (listed rs headers) =
     listed (map (λ r. shifted (gapsBefore (r .index) gaps) r) rs) (headers + length (gapsBefore n gaps))
 movedAnswer n gaps (refused number place headers) =
-    elim (eqb number 30) [
-      | true ↦ refused number place (headers + length (gapsBefore n gaps))
-      | false ↦ elim (leb 27 number && leb number 29) [
-        | true ↦ refused number (place + totalSize (gapsBefore headers gaps)) (headers + length (gapsBefore headers gaps))
-        | false ↦ refused number place headers
-      ]
-    ]
+    refused number (movedPlace gaps number place headers) (movedHeaders n gaps number headers)
 
 -- What was at `address` in model `index` is moved by the models in the gaps before that model. In the lengthened map these are
 -- exactly the inserted models with lower addresses (document 01's "before").
 abbrev pub AreLower : List Placed → List (List Model) → ℕ → ℕ → Type 0
 AreLower ps gaps index address = before 2 ps (address + totalSize (gapsBefore index gaps)) ≡ gapsBefore index gaps
 
--- This holds for each record of an answer, and for a header refused by 27 to 29.
+-- This holds for a header refused by 27 to 29.
+abbrev pub HeaderByLower : List Placed → List (List Model) → ℕ → ℕ → ℕ → Type 0
+HeaderByLower ps gaps number place headers = isModelRefusal number ≡ true → AreLower ps gaps headers place
+
+-- This holds for each record of an answer, and for a refused header.
 unfoldable pub MovedByLower : List Placed → List (List Model) → Answer → Type 0
 MovedByLower ps gaps (listed rs headers) = Each (λ r. AreLower ps gaps (r .index) (r .address)) rs
-MovedByLower ps gaps (refused number place headers) =
-    leb 27 number && leb number 29 ≡ true → AreLower ps gaps headers place
+MovedByLower ps gaps (refused number place headers) = HeaderByLower ps gaps number place headers
 
 -- The number of a refusal; none on acceptance.
 abbrev pub refusalNumber : Answer → Option ℕ

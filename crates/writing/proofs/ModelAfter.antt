@@ -10,7 +10,7 @@ use lib.ListN.{length}
 use lib.Seq.{sets, length-sets}
 use Rattle.lists.specs.Each.{Each, Pairwise}
 use Rattle.lists.specs.Members.{In}
-use Rattle.lists.proofs.TestOutcomes.{both}
+use Rattle.lists.proofs.TestOutcomes.{both, fails}
 use Rattle.lists.proofs.EachLaws.{each-one, each-parts}
 use Rattle.lists.proofs.InLaws.{in-append-left}
 use Rattle.registers.specs.Registers.{split}
@@ -36,7 +36,7 @@ use Rattle.layout.proofs.ReadOnlyCounts as counts
 use Rattle.writing.specs.Writing.{canHold}
 use Rattle.writing.specs.AfterWriting.{PointAfter}
 use Rattle.writing.proofs.OnePointAfter as one
-use Rattle.writing.proofs.OnePointAfter.{fails, Write}
+use Rattle.writing.proofs.OnePointAfter.{Write}
 use Rattle.writing.proofs.ScopesAfter as after
 use Rattle.writing.proofs.PairedWalk.{inScope, Enters, Deeper, Related, points-paired, content-paired}
 

@@ -9,11 +9,12 @@ use borrow.Author.Tests.{eqb-true, eq-eqb}
 use lib.Dec.{eqb}
 use lib.ListN.{length, take, drop, getD, length-take}
 use lib.Seq.{drop-cons}
-use Rattle.lists.specs.Each.{Each, Pairwise}
+use Rattle.lists.specs.Each.{Each}
 use Rattle.lists.specs.Members.{among, In}
 use Rattle.lists.proofs.TestOutcomes.{both, clash}
 use Rattle.lists.proofs.InLaws.{all-in, in-append-left, in-either}
 use Rattle.lists.proofs.EachLaws.{each-one, each-parts}
+use Rattle.lists.proofs.PairwiseLaws.{each-first}
 use Rattle.registers.specs.Registers.{join, shownRaw}
 use Rattle.registers.proofs.Joining.{shown}
 use Rattle.point_types.specs.Rows.{mayScale}
@@ -54,12 +55,6 @@ agree-both (suc n) (x ∷ xs) (y ∷ ys) (z ∷ zs) l m e f =
     let b = both (eqb y z) (agreeTo n ys zs) f in
     let same : x ≡ y = eqb-true x z (a .0) ∙ sym (eqb-true y z (b .0)) in
     rw (eq-eqb x y same) (agree-both n xs ys zs (omega arith) (omega arith) (a .1) (b .1))
-
--- A fact about the first of each pair holds of each element of the first list.
-each-first : {A : Type 0} (P : A → Type 0) (xs ys : List A) → Pairwise (λ x y. P x) xs ys → Each P xs
-each-first P [] ys p = tt
-each-first P (x ∷ xs) [] p = absurd p
-each-first P (x ∷ xs) (y ∷ ys) p = (p .0, each-first P xs ys (p .1))
 
 -- The raw value of one register is that register.
 one-register : (body : List ℕ) (a : ℕ) → a + 1 ≤ length body → shownRaw (take 1 (drop a body)) ≡ getD body a 0

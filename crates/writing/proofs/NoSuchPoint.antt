@@ -69,11 +69,11 @@ module _ (catalog map : List ℕ) where
   pub no-such-point-exact : NoSuchPointExact catalog map
   no-such-point-exact =
       record {
-        shownIsIt = λ capacity rs headers e r i.
+        shownIsFound = λ capacity rs headers e r i.
             let all = walk-records catalog map (listed-walks catalog map capacity rs headers e .0) in
             finding-found catalog map (r .index) (r .point .definition .number) (pathOf (r .point)) all
             (own-found catalog map rs headers all r i);
-        shownIsFound = λ capacity rs headers e r i raw place.
+        shownNever31 = λ capacity rs headers e r i raw place.
             let w = listed-walks catalog map capacity rs headers e .0 in
             let number = r .point .definition .number in
             let path = pathOf (r .point) in

@@ -10,7 +10,7 @@ use lib.Dec.{eqb}
 use lib.ListN.{length, take, drop, getD, length-take}
 use lib.Seq.{sets}
 use Rattle.lists.specs.Members.{In}
-use Rattle.lists.proofs.TestOutcomes.{both}
+use Rattle.lists.proofs.TestOutcomes.{both, fails}
 use Rattle.registers.specs.Registers.{join, split, shownRaw, tooWide}
 use Rattle.registers.proofs.Joining.{shown}
 use Rattle.registers.proofs.Splitting.{split-length, join-split, one-register}
@@ -30,11 +30,6 @@ use Rattle.writing.specs.Writing.{canHold}
 use Rattle.writing.specs.AfterWriting.{Holds, rescaled, PointAfter}
 use Rattle.writing.proofs.ValueStatus as status
 use Rattle.writing.proofs.PairedWalk.{inScope}
-
--- A test whose success leads to a contradiction fails.
-pub fails : (b : Bool) → (b ≡ true → true ≡ false) → b ≡ false
-fails true f = f refl
-fails false f = refl
 
 -- What is known of a write of `raw` to the point w of a body, by a definition with the points `defined`.
 pub record Write (defined : List Point) (w : ModelPoint) (raw : ℕ) (body : List ℕ) : Type 0 where

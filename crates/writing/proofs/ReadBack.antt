@@ -1,7 +1,7 @@
 -- An accepted write reads back: the point is found again with the raw value, and only its registers have changed.
 use mathlib.Core.Path.{_≡_, sym, ap, subst, _∙_}
 use mathlib.Core.Bool.{false, not}
-use mathlib.Core.List.{List, [], _∷_}
+use mathlib.Core.List.{List}
 use mathlib.Core.Logic.{_⊎_}
 use mathlib.Core.Option.{some}
 use Prim.Native.Nat.{ℕ, _+_, _≤_, _<_}
@@ -10,10 +10,10 @@ use borrow.Author.Tests.{ne-eqb}
 use lib.ListN.{length, getD}
 use lib.Seq.{length-sets}
 use Rattle.lists.specs.Each.{Pairwise}
-use Rattle.lists.specs.Members.{In, first, later}
+use Rattle.lists.specs.Members.{In}
 use Rattle.lists.proofs.TestOutcomes.{both}
 use Rattle.lists.proofs.FirstFound.{found-in}
-use Rattle.lists.proofs.PairwiseLaws.{pairwise-length, pairwise-found}
+use Rattle.lists.proofs.PairwiseLaws.{pairwise-length, pairwise-found, pairwise-in}
 use Rattle.registers.specs.Registers.{split, tooWide}
 use Rattle.registers.proofs.Splitting.{split-length}
 use Rattle.registers.proofs.StoredRegisters.{stored-outside}
@@ -54,13 +54,6 @@ module _ (w : Record) (raw : ℕ) (map : List ℕ) where
       (subst (λ n. (k < w .address) ⊎ (w .address + n ≤ k)) (sym (split-length size raw)) h)
 
 -- ---- The scale factor of the point written
-
--- An element of the first of two lists that are related pair by pair has a partner in the second.
-pairwise-in : {A : Type 0} (R : A → A → Type 0) (xs ys : List A) → Pairwise R xs ys → (x : A) → In x xs
-    → (y : A) × (In y ys) × R x y
-pairwise-in R (x ∷ xs) [] p z i = absurd p
-pairwise-in R (x ∷ xs) (y ∷ ys) p z first = (y, first, p .0)
-pairwise-in R (x ∷ xs) (y ∷ ys) p z (later i) = let r = pairwise-in R xs ys (p .1) z i in (r .0, later (r .1), r .2)
 
 module _ (catalog map new : List ℕ) (before after : List Record) (headers : ℕ)
     (allBefore : allRecords catalog map ≡ listed before headers) (allAfter : allRecords catalog new ≡ listed after headers)

@@ -1,15 +1,15 @@
 -- The scale factors of the records of a map: each record whose point takes its scale from a point has exactly one, of the same
 -- model, and its raw value gives the status and the scale.
 use mathlib.Core.Path.{_≡_, refl, sym, ap, subst, _∙_}
-use mathlib.Core.Bool.{Bool, true, false}
-use mathlib.Core.List.{List, [], _∷_, _++_, map}
+use mathlib.Core.Bool.{Bool, true}
+use mathlib.Core.List.{List, _∷_, _++_, map}
 use mathlib.Core.Option.{some}
 use Prim.Native.Nat.{ℕ, _+_}
 use native.Mathlib.Omega.{arith}
 use borrow.Author.Tests.{eq-eqb}
 use lib.Dec.{eqb}
 use Rattle.lists.specs.Members.{In, first, later}
-use Rattle.lists.specs.Tests.{selected}
+use Rattle.lists.proofs.SelectedLaws.{in-selected, selected-in}
 use Rattle.catalog_frames.specs.Frames.{scaleByPoint}
 use Rattle.model_definitions.specs.Definitions.{Content, definitions}
 use Rattle.register_map.specs.Scan.{totalSize, scan}
@@ -26,33 +26,6 @@ use Rattle.listed_records.proofs.OneRecord.{one-record}
 use Rattle.writing.specs.AfterWriting.{isScaleFactorOf}
 use Rattle.writing.specs.ScaleFactors.{IsFactor, ScaleFactors}
 use Rattle.writing.proofs.ModelFactors.{FactorOf, has-factor, same-factor, factor-of}
-
--- ---- General laws
-
--- An element for which the test holds is selected.
-in-selected : {A : Type 0} (test : A → Bool) (x : A) (xs : List A) → In x xs → test x ≡ true → In x (selected test xs)
-unfolding selected
-in-selected test x (y ∷ ys) first e = rw (e, selected) first
-in-selected {A} test x (y ∷ ys) (later i) e = go (test y) (in-selected test x ys i e)
-  where
-    go : (b : Bool) → In x (selected test ys) → In x (elim b [ true ↦ y ∷ selected test ys | false ↦ selected test ys ])
-    go true i = later i
-    go false i = i
-
--- If a member of xs is one of ys, this stays so with the element y added to both lists.
-in-more : {A : Type 0} (x y : A) (xs ys : List A) → (In x xs → In x ys) → In x (y ∷ xs) → In x (y ∷ ys)
-in-more x y xs ys f first = first
-in-more x y xs ys f (later i) = later (f i)
-
--- What is selected is an element.
-selected-in : {A : Type 0} (test : A → Bool) (x : A) (xs : List A) → In x (selected test xs) → In x xs
-unfolding selected
-selected-in {A} test x (y ∷ ys) i = go (test y) i (selected-in test x ys)
-  where
-    go : (b : Bool) → In x (elim b [ true ↦ y ∷ selected test ys | false ↦ selected test ys ])
-        → (In x (selected test ys) → In x ys) → In x (y ∷ ys)
-    go true i rest = in-more x y (selected test ys) ys rest i
-    go false i rest = later (rest i)
 
 -- The record of a member of ps is one of the records of ps,
 in-records : (index at id : ℕ) (ps : List ModelPoint) (p : ModelPoint) → In p ps

@@ -24,10 +24,10 @@ pub record Missing (catalog map : List ℕ) (index number : ℕ) (path : List �
 -- 31 is exact. A point that a listing with any capacity shows is found by its index, number and path, and no other is; so a write
 -- to it never returns 31, for any raw value. If a write returns 31, its place is 0 and there is no such point.
 pub record NoSuchPointExact (catalog map : List ℕ) : Type 0 where
-  pub shownIsIt : (capacity : ℕ) (rs : List Record) (headers : ℕ) → listing catalog map capacity ≡ listed rs headers
+  pub shownIsFound : (capacity : ℕ) (rs : List Record) (headers : ℕ) → listing catalog map capacity ≡ listed rs headers
       → (r : Record) → In r rs
       → finding catalog map (r .index) (r .point .definition .number) (pathOf (r .point)) ≡ Finding.found r
-  pub shownIsFound : (capacity : ℕ) (rs : List Record) (headers : ℕ) → listing catalog map capacity ≡ listed rs headers
+  pub shownNever31 : (capacity : ℕ) (rs : List Record) (headers : ℕ) → listing catalog map capacity ≡ listed rs headers
       → (r : Record) → In r rs → (raw place : ℕ)
       → writing catalog map (r .index) (r .point .definition .number) (pathOf (r .point)) raw ≡ refused 31 place → ⊥
   pub refusedIsMissing : (index number : ℕ) (path : List ℕ) (raw place : ℕ)

@@ -36,8 +36,9 @@ enum Verdict {
 }
 
 // Writes `raw` to the point with the number `point` and the instance numbers `path`, in the model with the index `model`.
-// All refusals are decided before anything is written. It takes the time of `find`: listing's survey, and a few reads of each
-// header and of each frame of that model's definition.
+// All refusals are decided before anything is written. The last `ensures` is the first two as one fact, which the claims on
+// calls assume. It takes the time of `find`: listing's survey, and a few reads of each header and of each frame of that
+// model's definition.
 pub fn write(
     catalog: &[u16],
     map: &mut [u16],

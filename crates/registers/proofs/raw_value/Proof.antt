@@ -1,5 +1,5 @@
 -- `raw_value` joins up to four registers. The invariant: the value joined so far, shifted past the registers left, plus their value
--- is the whole value; and 64 bits have capacity for the next register.
+-- is the whole value; and the next register still fits 64 bits.
 use mathlib.Core.Path.{_≡_, sym, _∙_}
 use Prim.Native.Nat.{suc, _+_, _-_, _*_, _^_, _≤_, _<_}
 use native.Mathlib.Omega.{arith}
@@ -7,7 +7,7 @@ use borrow.Author.Needs.{needs}
 use borrow.Author.Tests.{le-leb}
 use lib.ListN.{length, drop}
 use Rattle.registers.specs.Registers.{join, shownRaw}
-use Rattle.registers.proofs.Joining.{join-start, join-step, join-end, not-shown, one-more, capacity, positive}
+use Rattle.registers.proofs.Joining.{join-start, join-step, join-end, not-shown, one-more, fits-one-more, positive}
 use Rattle.registers.proofs.raw_value.Statement.{statement}
 use Rattle.registers.proofs.raw_value.Tie as tie
 
@@ -36,13 +36,13 @@ mul-raw : tie.Need-mul-raw Inv-loop μ-loop
 mul-raw c =
     let l = c .before .loop in
     let rs = c .before .before .before .before .args .registers .now in
-    omega (arith, capacity (length rs - l .left) (l .raw) (omega arith) (l .inv .2))
+    omega (arith, fits-one-more (length rs - l .left) (l .raw) (omega arith) (l .inv .2))
 
 add-raw : tie.Need-add-raw Inv-loop μ-loop
 add-raw c =
     let l = c .before .before .before .loop in
     let rs = c .before .before .before .before .before .before .args .registers .now in
-    omega (arith, c .wide .ensures .1, capacity (length rs - l .left) (l .raw) (omega arith) (l .inv .2))
+    omega (arith, c .wide .ensures .1, fits-one-more (length rs - l .left) (l .raw) (omega arith) (l .inv .2))
 
 loop-again : tie.Need-loop-again Inv-loop μ-loop
 loop-again c =

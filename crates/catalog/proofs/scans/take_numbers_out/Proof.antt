@@ -6,7 +6,7 @@ use native.Mathlib.Omega.{arith}
 use Rattle.lists.specs.Members.{among}
 use Rattle.number_sets.specs.NumberSets.{Marks}
 use Rattle.number_sets.proofs.MarkLaws as marks
-use Rattle.catalog.specs.InternalScans.{numbersBefore}
+use Rattle.catalog.specs.InternalScans.{numbersIn}
 use Rattle.catalog.proofs.WordScans.{number-next, number-nowhere}
 use borrow.Author.Needs.{needs}
 use Rattle.catalog.proofs.scans.take_numbers_out.Statement.{statement}
@@ -14,7 +14,7 @@ use Rattle.catalog.proofs.scans.take_numbers_out.Tie as tie
 
 abbrev Inv-loop : tie.InvT-loop
 Inv-loop catalog numbers₀ first end j₀ numbers j =
-    (first ≤ j) × (j ≤ end) × Marks numbers₀ numbers (λ n. among n (numbersBefore catalog first (j - first))) false
+    (first ≤ j) × (j ≤ end) × Marks numbers₀ numbers (λ n. among n (numbersIn catalog first (j - first))) false
 
 abbrev μ-loop : tie.MeasureT-loop
 μ-loop catalog numbers₀ first end j₀ numbers j = end - j

@@ -4,11 +4,12 @@ use Prim.Native.Nat.{ℕ}
 use native.Mathlib.Omega.{arith}
 use borrow.Author.Needs.{needs}
 use borrow.Author.Tests.{leb-true, ltb-false}
+use Rattle.lists.proofs.TestOutcomes.{impossible}
 use Rattle.probe.proofs.fields.digit_fits.Statement.{statement}
 use Rattle.probe.proofs.fields.digit_fits.Tie as tie
 
 returns : tie.Need-returns
-returns c = λ t. let z : _≡_ {A = ℕ} 0 1 = cc in absurd (omega arith)
+returns c = λ t. impossible (cc)
 
 returns-2 : tie.Need-returns-2
 returns-2 c = λ t. omega (arith, leb-true, ltb-false)

@@ -11,6 +11,7 @@ use lib.Signed.{ltZ, nonNeg}
 use mir.Syntax.{w64}
 use mir.Val.{SFits, Fits}
 use mir.Facts.{fits-ofZ, sfits-toZ, toZ-pos}
+use Rattle.lists.proofs.TestOutcomes.{impossible}
 use Rattle.probe.proofs.output.signed.Statement.{statement}
 use Rattle.probe.proofs.output.signed.Tie as tie
 
@@ -26,7 +27,7 @@ below (negsuc n) f t = record { number = suc n - 1; small = omega arith; is = si
 
 not-below : (z : ℤ) → SFits w64 z → ltZ z (pos 0) ≡ false → T (nonNeg z) × Fits w64 (natAbs z)
 not-below (pos n) f t = (tt, record { fits = omega arith })
-not-below (negsuc n) f t = let z : _≡_ {A = ℕ} 0 1 = cc in absurd (omega arith)
+not-below (negsuc n) f t = impossible (cc)
 
 sub-counted : tie.Need-sub-counted
 sub-counted c =

@@ -1,7 +1,7 @@
 // The command `list ENTRIES CATALOG MAP`: the points of a register map by a catalog, stored in a list of ENTRIES
 // numbers.
 use crate::fields;
-use crate::fields::CAPACITY;
+use crate::fields::FIELD_WORDS;
 use crate::output;
 use crate::plants::CATALOG_CAPACITY;
 use crate::plants::MAP_CAPACITY;
@@ -16,22 +16,27 @@ const LIST_CAPACITY: usize = 20000;
 
 // Runs the command on the fields from `at` on. False, with nothing written, where they are bad.
 pub(crate) fn run(line: &[u8], at: usize) -> bool {
-    let mut catalog = [0u16; CAPACITY];
-    let mut map = [0u16; CAPACITY];
-    let capacity = fields::decimal_field(line, at, LIST_CAPACITY as u64);
+    let mut catalog = [0u16; FIELD_WORDS];
+    let mut map = [0u16; FIELD_WORDS];
+    let entries = fields::decimal_field(line, at, LIST_CAPACITY as u64);
     let plant = plant_at(
         line,
-        capacity.next,
+        entries.next,
         CATALOG_CAPACITY,
         &mut catalog,
         MAP_CAPACITY,
         &mut map,
     );
-    list_if(plant, &catalog, &map, capacity.value as usize)
+    list_if(plant, &catalog, &map, entries.value as usize)
 }
 
 // Writes the result if the line is good, and returns whether it is.
-fn list_if(plant: Plant, catalog: &[u16; CAPACITY], map: &[u16; CAPACITY], entries: usize) -> bool
+fn list_if(
+    plant: Plant,
+    catalog: &[u16; FIELD_WORDS],
+    map: &[u16; FIELD_WORDS],
+    entries: usize,
+) -> bool
     requires { ⌜ entries ≤ 20000 ⌝ }
 {
     if plant.is_whole {

@@ -1,9 +1,9 @@
--- `probe::lists::write_records` is safe, and ends at the list's end.
+-- `probe::listings::write_records` is safe, and ends at the list's end.
 use Prim.Native.Nat.{_-_}
 use lib.ListN.{length}
 use borrow.Author.Needs.{needs}
-use Rattle.probe.proofs.lists.write_records.Statement.{statement}
-use Rattle.probe.proofs.lists.write_records.Tie as tie
+use Rattle.probe.proofs.listings.write_records.Statement.{statement}
+use Rattle.probe.proofs.listings.write_records.Tie as tie
 
 abbrev Inv-loop : tie.InvT-loop
 Inv-loop list points i₀ i = Unit {0}
