@@ -1,5 +1,5 @@
 -- The claim
-pub mod ClauseByClause
+pub mod CheckingVectors
 -- Laws of the definitions
 pub mod FrameWords
 -- Lemmas that the proofs of the functions cite

@@ -1,5 +1,5 @@
 -- The claims
-pub mod TwelveCases
+pub mod TwelveVectors
 pub mod DecimalVectors
 pub mod EventVectors
 pub mod Exactness

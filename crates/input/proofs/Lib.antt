@@ -1,5 +1,5 @@
 -- The claims
-pub mod ClauseByClause
+pub mod ParsingVectors
 pub mod LongInputs
 pub mod CutWords
 pub mod ReadBack

@@ -4,7 +4,7 @@ pub mod PastTheEnd
 pub mod Tiling
 pub mod OneRecord
 pub mod RawValues
-pub mod WorkedCases
+pub mod ListingVectors
 -- Laws of the walk over the models of a map
 pub mod ModelRecords
 pub mod WalkedModels

@@ -1,7 +1,7 @@
 -- The claims
 pub mod EnoughInput
 pub mod TruncatedInput
-pub mod WorkedExamples
+pub mod ReportVectors
 -- Laws of the definitions, cited by the proofs of the functions
 pub mod NumberTexts
 pub mod RecordTexts

@@ -5,7 +5,7 @@ pub mod OtherRecords
 pub mod NoSuchPoint
 pub mod ScaleFactors
 pub mod SameValue
-pub mod WorkedWrites
+pub mod WritingVectors
 -- Laws of the definitions, and what the proofs of the functions cite
 pub mod ValueStatus
 pub mod PairedWalk

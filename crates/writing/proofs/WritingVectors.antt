@@ -23,7 +23,7 @@ use Rattle.layout.specs.Paths.{depthIn}
 use Rattle.listing.specs.Listing as Listing
 use Rattle.listing.specs.Listing.{Record, recordNumbers, walk, recordsBy, allRecords, withCapacity, listing}
 use Rattle.listing.specs.Finding.{isRecord, finding}
-use Rattle.listed_records.proofs.WorkedCases.{Shown, listed, shown, model, times, point, uint16, scaled, sunssf, end, joined, body, row}
+use Rattle.listed_records.proofs.ListingVectors.{Shown, listed, shown, model, times, point, uint16, scaled, sunssf, end, joined, body, row}
 use Rattle.writing.specs.Writing.{refusal, rewritten, Answer, refused, written, mapAfter, writing, result}
 use Rattle.writing.specs.AfterWriting.{isScaleFactorOf}
 use Rattle.writing.specs.Calls.{WriteCall}
