@@ -8,6 +8,7 @@ pub use catalog_frames::CONSTANT_COUNT;
 pub use catalog_frames::COUNT_BY_POINT;
 pub use catalog_frames::FILL;
 pub use catalog_frames::FIXED_SCALE;
+use catalog_frames::FRAME_WORDS;
 pub use catalog_frames::Frame;
 pub use catalog_frames::Head;
 pub use catalog_frames::PAD;
@@ -15,7 +16,6 @@ pub use catalog_frames::Point;
 pub use catalog_frames::READ_ONLY;
 pub use catalog_frames::SCALE_BY_POINT;
 pub use catalog_frames::SUNSSF;
-use catalog_frames::WORDS;
 pub use catalog_frames::read_frame;
 use number_sets::SET_WORDS;
 use rules::fault_at;
@@ -45,13 +45,13 @@ pub enum Checked {
 pub fn check(catalog: &[u16]) -> Checked
     ensures { λ r. ⌜ toSpecChecked r ≡ checked (now (catalog .entry)) ⌝ }
 {
-    if catalog.len() % WORDS != 0 {
+    if catalog.len() % FRAME_WORDS != 0 {
         return Checked::Refused {
             number: 1,
             place: 0,
         };
     }
-    if FRAMES < catalog.len() / WORDS {
+    if FRAMES < catalog.len() / FRAME_WORDS {
         return Checked::Refused {
             number: 2,
             place: 0,
@@ -66,7 +66,7 @@ fn check_frames(catalog: &[u16]) -> Checked
     requires { ⌜ length (now catalog) / 8 ≤ 4096 ⌝ }
     ensures { λ r. ⌜ toSpecChecked r ≡ framesChecked (now (catalog .entry)) ⌝ }
 {
-    let frames = catalog.len() / WORDS;
+    let frames = catalog.len() / FRAME_WORDS;
     let mut state = at_start();
     let mut ids = [0u64; SET_WORDS];
     let mut numbers = [0u64; SET_WORDS];

@@ -2,13 +2,13 @@
 use crate::frames::word_of;
 use catalog_frames::COUNT_BY_POINT;
 use catalog_frames::END;
+use catalog_frames::FRAME_WORDS;
 use catalog_frames::GROUP;
 use catalog_frames::MODEL;
 use catalog_frames::POINT;
 use catalog_frames::READ_ONLY;
 use catalog_frames::SUNSSF;
 use catalog_frames::UINT16;
-use catalog_frames::WORDS;
 use number_sets::SET_WORDS;
 use number_sets::is_in;
 use number_sets::mark;
@@ -91,7 +91,7 @@ fn mark_point(catalog: &[u16], set: &mut [u64; SET_WORDS], j: usize, target: Tar
 fn mark_run(catalog: &[u16], set: &mut [u64; SET_WORDS], from: usize, target: Target, present: bool)
     ensures { λ _. ⌜ Marks (now (set .entry)) (now (set .exit)) (inRun (now (catalog .entry)) from target) present ⌝ }
 {
-    let frames = catalog.len() / WORDS;
+    let frames = catalog.len() / FRAME_WORDS;
     let mut j = from;
     while j < frames {
         if word_of(catalog, j, 0) != POINT {
@@ -143,7 +143,7 @@ fn first_stop(catalog: &[u16], counts: &[u64; SET_WORDS], from: usize) -> usize
     requires { ⌜ from ≤ length (now catalog) / 8 ⌝ }
     ensures { λ r. ⌜ r ≡ firstStop (now (catalog .entry)) (now (counts .entry)) from (length (now (catalog .entry)) / 8 - from) ⌝ }
 {
-    let frames = catalog.len() / WORDS;
+    let frames = catalog.len() / FRAME_WORDS;
     let mut j = from;
     while j < frames {
         if is_stop(catalog, counts, j) {

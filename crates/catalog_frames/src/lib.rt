@@ -7,7 +7,7 @@ ghost use Rattle.catalog_frames.specs.CodeTypes.{toSpecFrame};
 ghost use Rattle.catalog_frames.specs.InternalWords.{headWords, namedWords, pointWords, zeroWords, IsHead, IsPoint};
 
 // The number of words in a frame.
-pub const WORDS: usize = 8;
+pub const FRAME_WORDS: usize = 8;
 
 // The kinds of frames (word 0).
 pub const MODEL: u16 = 1;
@@ -74,7 +74,7 @@ fn word_of(catalog: &[u16], i: usize, k: usize) -> u16
     requires { ⌜ (i < length (now catalog) / 8) × (k < 8) ⌝ }
     ensures { λ r. ⌜ r ≡ word (now (catalog .entry)) i k ⌝ }
 {
-    catalog[WORDS * i + k]
+    catalog[FRAME_WORDS * i + k]
 }
 
 // Frame i.
@@ -104,7 +104,7 @@ fn named_words(kind: u16) -> usize
         MODEL => 2,
         GROUP => 5,
         END => 1,
-        _ => WORDS,
+        _ => FRAME_WORDS,
     }
 }
 
@@ -112,7 +112,7 @@ fn named_words(kind: u16) -> usize
 pub fn read_frame(catalog: &[u16], i: usize) -> Frame
     ensures { λ r. ⌜ toSpecFrame r ≡ frameIn (now (catalog .entry)) i ⌝ }
 {
-    if catalog.len() / WORDS <= i {
+    if catalog.len() / FRAME_WORDS <= i {
         return Frame::Malformed;
     }
     frame_at(catalog, i)
@@ -153,7 +153,7 @@ fn zero_from(catalog: &[u16], i: usize, from: usize) -> bool
     ensures { λ r. ⌜ r ≡ zeroWords (now (catalog .entry)) i from (8 - from) ⌝ }
 {
     let mut k = from;
-    while k < WORDS {
+    while k < FRAME_WORDS {
         if word_of(catalog, i, k) != 0 {
             return false;
         }

@@ -13,7 +13,7 @@ ghost use mathlib.Core.Path.{_≡_};
 ghost use Rattle.input.specs.Parsing.{storedCatalog, storedMap};
 ghost use Rattle.input.specs.CodeTypes.{toSpecParsed, result, parsedInto, CountsFit};
 
-// The words of a frame: the same number as `WORDS` of `catalog_frames`, on which this crate does not depend.
+// The words of a frame: the same number as `FRAME_WORDS` of `catalog_frames`, on which this crate does not depend.
 pub const FRAME_WORDS: usize = 8;
 
 // The result of `parse`: the number of frames and of registers, or the number of a refusal and its place, a line counted
