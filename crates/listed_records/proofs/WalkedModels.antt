@@ -17,7 +17,7 @@ use Rattle.listing.proofs.WalkSteps.{not-listed, walk-no-records, walk-faulty, 
 use Rattle.listed_records.proofs.ModelRecords.{Listed, walk-listed, end-listed}
 
 -- A record among those of the points ps is that of a point of ps.
-in-records : (i at id : ℕ) (ps : List ModelPoint) (r : Record) → In r (map (recordOf i at id) ps)
+pub in-records : (i at id : ℕ) (ps : List ModelPoint) (r : Record) → In r (map (recordOf i at id) ps)
     → In (r .point) ps × (r ≡ recordOf i at id (r .point))
 in-records i at id (p ∷ ps) r first = (first, refl)
 in-records i at id (p ∷ ps) r (later o) = let s = in-records i at id ps r o in (later (s .0), s .1)

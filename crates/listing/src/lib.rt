@@ -56,9 +56,9 @@ pub enum Listing {
 
 // Lists the points of a map into `out`, ten numbers a record. All refusals and the count of points are decided
 // before anything is written. The last `ensures` is the first two as one fact, which the claims on two calls assume.
-// Apart from checking the catalog, the time is at most proportional to the map's
-// registers times the catalog's frames: each model searches the catalog for its id, each instance reads the frames
-// of its group again, and no point needs a search.
+// Apart from checking the catalog, the time is at most proportional to the map's registers times the catalog's
+// frames: each model searches the catalog for its id, each instance reads the frames of its group again, and no
+// point needs a search.
 pub fn list(catalog: &[u16], map: &[u16], out: &mut [u64]) -> Listing
     ensures { λ r. ⌜ toSpecListing r ≡ Listings.result (Listings.listing (now (catalog .entry)) (now (map .entry)) (length (now (out .entry)))) ⌝ }
     ensures { λ _. ⌜ now (out .exit) ≡ Listings.stored (Listings.listing (now (catalog .entry)) (now (map .entry)) (length (now (out .entry)))) (now (out .entry)) ⌝ }

@@ -1,6 +1,6 @@
 -- Laws of `In`: the members of a list.
 use mathlib.Core.Path.{_≡_}
-use mathlib.Core.List.{List, [], _∷_, _++_}
+use mathlib.Core.List.{List, [], _∷_, _++_, map}
 use Rattle.lists.specs.Each.{Each}
 use Rattle.lists.proofs.TestOutcomes.{impossible}
 use Rattle.lists.specs.Members.{In, first, later}
@@ -35,3 +35,8 @@ not-in-none x (y ∷ ys) e i = impossible (cc)
 pub in-more : {A : Type 0} (x y : A) (xs ys : List A) → (In x xs → In x ys) → In x (y ∷ xs) → In x (y ∷ ys)
 in-more x y xs ys f first = first
 in-more x y xs ys f (later i) = later (f i)
+
+-- The image of a member is a member of the images.
+pub in-map : {A B : Type 0} (f : A → B) (x : A) (xs : List A) → In x xs → In (f x) (map f xs)
+in-map f x (y ∷ ys) first = first
+in-map f x (y ∷ ys) (later i) = later (in-map f x ys i)

@@ -8,7 +8,8 @@ use Prim.Native.Nat.{ℕ, _+_}
 use native.Mathlib.Omega.{arith}
 use borrow.Author.Tests.{eq-eqb}
 use lib.Dec.{eqb}
-use Rattle.lists.specs.Members.{In, first, later}
+use Rattle.lists.specs.Members.{In}
+use Rattle.lists.proofs.InLaws.{in-map}
 use Rattle.lists.proofs.SelectedLaws.{in-selected, selected-in}
 use Rattle.catalog_frames.specs.Frames.{scaleByPoint}
 use Rattle.model_definitions.specs.Definitions.{Content, definitions}
@@ -20,23 +21,13 @@ use Rattle.listing.specs.Listing.{Record, recordOf, listed, walk, allRecords, l
 use Rattle.listing.proofs.ListingCases.{records-walk, walk-records}
 use Rattle.listed_records.specs.Tiling.{recordsWith}
 use Rattle.listed_records.proofs.ModelRecords.{RecordsOf, model-records}
+use Rattle.listed_records.proofs.WalkedModels.{in-records}
 use Rattle.listed_records.proofs.RecordSources.{Source, record-source}
 use Rattle.listing.proofs.ListingInversion.{listed-walks}
 use Rattle.listed_records.proofs.OneRecord.{one-record}
 use Rattle.writing.specs.AfterWriting.{isScaleFactorOf}
 use Rattle.writing.specs.ScaleFactors.{IsFactor, ScaleFactors}
 use Rattle.writing.proofs.ModelFactors.{FactorOf, has-factor, same-factor, factor-of}
-
--- The record of a member of ps is one of the records of ps,
-in-records : (index at id : ℕ) (ps : List ModelPoint) (p : ModelPoint) → In p ps
-    → In (recordOf index at id p) (map (recordOf index at id) ps)
-in-records index at id (q ∷ ps) p first = first
-in-records index at id (q ∷ ps) p (later i) = later (in-records index at id ps p i)
-
--- and the point of one of these records is a member of ps.
-records-in : (index at id : ℕ) (ps : List ModelPoint) (r : Record) → In r (map (recordOf index at id) ps) → In (r .point) ps
-records-in index at id (q ∷ ps) r first = first
-records-in index at id (q ∷ ps) r (later i) = later (records-in index at id ps r i)
 
 -- ---- The records of one model
 
@@ -65,15 +56,15 @@ module _ (catalog registers : List ℕ) (rs : List Record) (headers : ℕ)
     point-there : (f : Record) → In f rs → f .index ≡ r .index → In (f .point) (source .all)
     point-there f i index =
         let test : Record → Bool = λ x. eqb (x .index) (r .index) in
-        records-in (r .index) (2 + totalSize (source .preceding)) (source .own .id) (source .all) f
-        (subst (In f) own-records (in-selected test f rs i (eq-eqb (f .index) (r .index) index)))
+        in-records (r .index) (2 + totalSize (source .preceding)) (source .own .id) (source .all) f
+        (subst (In f) own-records (in-selected test f rs i (eq-eqb (f .index) (r .index) index))) .0
 
     -- and each point of its model has a record with its index.
     record-there : (p : ModelPoint) → In p (source .all) → (f : Record) × (In f rs) × (f .index ≡ r .index) × (f .point ≡ p)
     record-there p i =
         let at = 2 + totalSize (source .preceding) in
         let f = recordOf (r .index) at (source .own .id) p in
-        let own = in-records (r .index) at (source .own .id) (source .all) p i in
+        let own = in-map (recordOf (r .index) at (source .own .id)) p (source .all) i in
         (f, selected-in (λ x. eqb (x .index) (r .index)) f rs (subst (In f) (sym own-records) own), refl, refl)
 
     module _ (top : Content) (known : topOf (r .id) (definitions catalog) ≡ some top) where
