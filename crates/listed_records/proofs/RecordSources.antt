@@ -9,8 +9,8 @@ use Rattle.lists.specs.Members.{In}
 use Rattle.lists.proofs.TestOutcomes.{impossible}
 use Rattle.model_definitions.specs.Definitions.{Content, Definition, definitions}
 use Rattle.model_definitions.specs.Soundness.{SoundDefinition}
-use Rattle.register_map.specs.Scan.{Model, totalSize, marked, scan}
-use Rattle.register_map.proofs.MadeOfModels.{MadeOf, made-of-models}
+use Rattle.register_map.specs.Scan.{Model, totalSize, marked, scan, MadeOf}
+use Rattle.register_map.proofs.MadeOfModels.{made-of-models}
 use Rattle.layout.specs.Points.{ModelPoint}
 use Rattle.layout.specs.Reading.{points, readBy, topOf, reading}
 use Rattle.layout.specs.InternalWalks.{Accepted, pointsOf}

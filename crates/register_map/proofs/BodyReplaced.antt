@@ -10,10 +10,9 @@ use lib.Seq.{sets, length-sets, drop-append-add}
 use Rattle.lists.proofs.EachLaws.{each-replaced}
 use Rattle.registers.proofs.StoredRegisters.{part-of-first, sets-append-right, sets-within}
 use Rattle.register_map.specs.Headers.{beginsWithSunS, opening}
-use Rattle.register_map.specs.Scan.{Model, totalSize, marked, scan, modelRegisters, WellFormed, BeginsWith1}
+use Rattle.register_map.specs.Scan.{Model, totalSize, marked, scan, modelRegisters, WellFormed, BeginsWith1, MadeOf}
 use Rattle.register_map.proofs.HeaderLaws.{opening-none, opening-with-SunS}
 use Rattle.register_map.proofs.ScanBack.{length-registers, scan-whole-back}
-use Rattle.register_map.proofs.MadeOfModels.{MadeOf}
 use Rattle.register_map.proofs.Lengthened.{registers-append}
 
 -- The model `m` with the registers `vs` stored in its body from `offset` on.

@@ -9,7 +9,7 @@ use lib.Seq.{length-take-le}
 use Rattle.lists.specs.Each.{Each}
 use Rattle.lists.proofs.TestOutcomes.{impossible}
 use Rattle.register_map.specs.Headers.{endId, Header, headerAt}
-use Rattle.register_map.specs.Scan.{Model, totalSize, marked, broken, Scan, scanFrom, scan, modelRegisters, WellFormed, BeginsWith1}
+use Rattle.register_map.specs.Scan.{Model, totalSize, marked, broken, Scan, scanFrom, scan, modelRegisters, WellFormed, BeginsWith1, MadeOf}
 use Rattle.register_map.proofs.HeaderCases.{HeaderCase, modelCase, endCase, refusedCase, header-case}
 use Rattle.register_map.proofs.ScanSteps.{scan-model, scan-end, scan-refused}
 use Rattle.register_map.proofs.ScanBack.{length-registers, length-total}
@@ -84,15 +84,6 @@ taken-apart zero first rest = record {
 }
 taken-apart (suc k) first rest =
     scan-step k first rest (headerAt first rest) (header-case first rest) refl (λ r. taken-apart k false r)
-
--- A map made of models: its first two registers, the models, the end marker and what follows.
-pub record MadeOf (map : List ℕ) (ms : List Model) : Type 0 where
-  pub register0 : ℕ
-  pub register1 : ℕ
-  pub tail : List ℕ
-  pub shape : map ≡ register0 ∷ register1 ∷ modelRegisters ms ++ 65535 ∷ 0 ∷ tail
-  pub wellFormed : Each WellFormed ms
-  pub begins : BeginsWith1 true ms
 
 -- A map whose scan ends at the end marker is made of the models scanned.
 pub made-of-models : (map : List ℕ) → scan map .ending ≡ marked → MadeOf map (scan map .models)

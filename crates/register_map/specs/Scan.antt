@@ -4,6 +4,7 @@ use mathlib.Core.Bool.{Bool, true, false}
 use mathlib.Core.List.{List, [], _∷_, _++_}
 use Prim.Native.Nat.{ℕ, zero, suc, _+_, _≤_}
 use lib.ListN.{length, take, drop}
+use Rattle.lists.specs.Each.{Each}
 use Rattle.register_map.specs.Headers.{endId, model, endMarker, refused, headerAt}
 
 -- A model in a map: its id, and its body, which is the L registers after its length L.
@@ -66,3 +67,12 @@ abbrev pub BeginsWith1 : Bool → List Model → Type 0
 BeginsWith1 false ms = Unit {0}
 BeginsWith1 true [] = ⊥
 BeginsWith1 true (m ∷ ms) = m .id ≡ 1
+
+-- A map made of models: its first two registers, the models, the end marker and what follows.
+pub record MadeOf (map : List ℕ) (ms : List Model) : Type 0 where
+  pub register0 : ℕ
+  pub register1 : ℕ
+  pub tail : List ℕ
+  pub shape : map ≡ register0 ∷ register1 ∷ modelRegisters ms ++ endId ∷ 0 ∷ tail
+  pub wellFormed : Each WellFormed ms
+  pub begins : BeginsWith1 true ms
