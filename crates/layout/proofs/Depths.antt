@@ -22,6 +22,14 @@ use Rattle.layout.specs.Paths.{depthIn, agreeTo}
 abbrev pub levels : List ℕ → List ℕ
 levels path = getD path 0 0 ∷ getD path 1 0 ∷ getD path 2 0 ∷ []
 
+-- A path of three numbers has no others.
+pub three-numbers : (path : List ℕ) → length path ≡ 3 → levels path ≡ path
+three-numbers [] l = absurd (omega (arith, l))
+three-numbers (x ∷ []) l = absurd (omega (arith, l))
+three-numbers (x ∷ y ∷ []) l = absurd (omega (arith, l))
+three-numbers (x ∷ y ∷ z ∷ []) l = refl
+three-numbers (x ∷ y ∷ z ∷ u ∷ us) l = absurd (omega (arith, l))
+
 -- A path agrees with itself.
 pub agree-itself : (n : ℕ) (path : List ℕ) → agreeTo n path path ≡ true
 agree-itself zero path = refl

@@ -21,6 +21,7 @@ use Rattle.layout.specs.Points.{ModelPoint, Instance, pointAt}
 use Rattle.layout.specs.Layout.{groupsSize, countsOf, pointsAt, instances, entered, groupsBy, groupsAt, noInstance, topInstance, contentAt}
 use Rattle.layout.specs.Paths.{isPoint}
 use Rattle.layout.specs.Locating.{Located, firstLocation, orElse, locatedAmong, locatedOwn, locatedIn, located}
+use Rattle.layout.proofs.Depths.{three-numbers}
 use Rattle.layout.proofs.LocatingSteps as steps
 
 -- ---- Three numbers, and the first result of two
@@ -46,13 +47,6 @@ three-tests x y z a b c (suc (suc zero)) x₁ x₀ y₁ y₀ z₁ z₀ l =
 three-tests x y z a b c (suc (suc (suc zero))) x₁ x₀ y₁ y₀ z₁ z₀ l =
     rw (eq-eqb x a (x₁ (omega arith)), eq-eqb y b (y₁ (omega arith)), eq-eqb z c (z₁ (omega arith)))
 three-tests x y z a b c (suc (suc (suc (suc m)))) x₁ x₀ y₁ y₀ z₁ z₀ l = absurd (omega arith)
-
-three-numbers : (xs : List ℕ) → length xs ≡ 3 → getD xs 0 0 ∷ getD xs 1 0 ∷ getD xs 2 0 ∷ [] ≡ xs
-three-numbers [] l = absurd (omega (arith, l))
-three-numbers (x ∷ []) l = absurd (omega (arith, l))
-three-numbers (x ∷ y ∷ []) l = absurd (omega (arith, l))
-three-numbers (x ∷ y ∷ z ∷ []) l = refl
-three-numbers (x ∷ y ∷ z ∷ u ∷ us) l = absurd (omega (arith, l))
 
 pub or-none : (o : Option Located) → orElse o none ≡ o
 or-none none = refl

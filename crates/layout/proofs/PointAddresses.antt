@@ -24,7 +24,7 @@ use Rattle.layout.specs.Tiling.{lowerPoints}
 use Rattle.layout.specs.Paths.{depthIn, agreeTo, pathOf}
 use Rattle.layout.proofs.InstanceLaws.{each-instance}
 use Rattle.layout.proofs.OnePoint.{framePoints, of-groups, number-among}
-use Rattle.layout.proofs.Depths.{agree-first}
+use Rattle.layout.proofs.Depths.{three-numbers, agree-first}
 
 -- ---- The function
 
@@ -100,14 +100,7 @@ lower-among p g i =
 path-back : (body : List ℕ) (i : Instance) (offset : ℕ) (q : Point) → length (i .path) ≡ 3
     → pathOf (pointAt body i offset q) ≡ i .path
 unfolding pointAt
-path-back body i offset q l = three (i .path) l
-  where
-    three : (path : List ℕ) → length path ≡ 3 → getD path 0 0 ∷ getD path 1 0 ∷ getD path 2 0 ∷ [] ≡ path
-    three [] l = absurd (omega (arith, l))
-    three (x ∷ []) l = absurd (omega (arith, l))
-    three (x ∷ y ∷ []) l = absurd (omega (arith, l))
-    three (x ∷ y ∷ z ∷ []) l = refl
-    three (x ∷ y ∷ z ∷ u ∷ us) l = absurd (omega (arith, l))
+path-back body i offset q l = three-numbers (i .path) l
 
 -- A point's raw value is that of its registers.
 abbrev pub Reads : List ℕ → ModelPoint → Type 0

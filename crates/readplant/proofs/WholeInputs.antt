@@ -7,7 +7,7 @@ use native.Mathlib.Omega.{arith}
 use lib.ListN.{length, take}
 use lib.Seq.{take-at, length-take-le}
 use Rattle.report.specs.Program.{output}
-use Rattle.report.proofs.EnoughInput.{enough}
+use Rattle.report.proofs.EnoughInput.{enough-input}
 use Rattle.readplant.specs.Printing.{Prints}
 
 pub whole-input : (buffer : List ℕ) (count : ℕ) (text : List ℕ) → length buffer ≡ 74818 → count ≤ length buffer
@@ -18,7 +18,7 @@ whole-input buffer count text full h e rest ended = go (decLe (length buffer) co
     go (yes k) =
         let read = take count buffer in
         let n : length read ≡ 74818 = omega (arith, length-take-le count buffer h) in
-        e ∙ ap output (sym (take-at read rest 74818 n)) ∙ enough (read ++ rest)
+        e ∙ ap output (sym (take-at read rest 74818 n)) ∙ enough-input (read ++ rest)
     go (no k) =
         let none : rest ≡ [] = ended (omega arith) in
         rw none (e ∙ ap output (sym (append-nil (take count buffer))))

@@ -68,7 +68,7 @@ BeginsWith1 false ms = Unit {0}
 BeginsWith1 true [] = ⊥
 BeginsWith1 true (m ∷ ms) = m .id ≡ 1
 
--- A map made of models: its first two registers, the models, the end marker and what follows.
+-- A map made of models: two registers (`opening` tests them), well-formed models, the first of id 1, the end marker and what follows.
 pub record MadeOf (map : List ℕ) (ms : List Model) : Type 0 where
   pub register0 : ℕ
   pub register1 : ℕ

@@ -8,6 +8,6 @@ use Rattle.input.specs.Parsing as Parsing
 use Rattle.input.proofs.LongInputs.{cut-off}
 use Rattle.report.specs.Program.{frameCapacity, registerCapacity, found, foundIn, printed, output}
 
-pub enough : (input : List ℕ) → output (take 74818 input) ≡ output input
+pub enough-input : (input : List ℕ) → output (take 74818 input) ≡ output input
 unfolding found
-enough input = ap (λ (x : Parsing.Input). printed (foundIn x)) (cut-off input frameCapacity registerCapacity 74818 (omega arith))
+enough-input input = ap (λ (x : Parsing.Input). printed (foundIn x)) (cut-off input frameCapacity registerCapacity 74818 (omega arith))

@@ -27,8 +27,8 @@ by-whole rs headers (Continued.tooMany place) o e = inr (tooMany place)
 by-whole rs headers (Continued.further catalog map more) (Outcome.given c m k eights frames fits) e =
     inl (listed-past-end catalog map more listCapacity rs headers e (omega arith))
 
-pub broken-off : (input : List ℕ) (n : ℕ) (rs : List Record) (headers : ℕ) → found (take n input) ≡ listed rs headers
+pub truncated-input : (input : List ℕ) (n : ℕ) (rs : List Record) (headers : ℕ) → found (take n input) ≡ listed rs headers
     → (found input ≡ listed rs headers) ⊎ RefusedAtLine (found input)
 unfolding found
-broken-off input n rs headers e =
+truncated-input input n rs headers e =
     by-whole rs headers (cut-words n input frameCapacity registerCapacity) (outcome input frameCapacity registerCapacity) e
