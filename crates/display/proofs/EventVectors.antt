@@ -1,4 +1,4 @@
--- Document 01, "Events", at its limits, computed. (The definition is that of the crate `event_fields`.)
+-- Document 01, "Events", and change request 1 at their limits, computed. (The definition is that of the crate `event_fields`.)
 use mathlib.Core.Path.{_≡_, refl}
 use mathlib.Core.List.{List, [], _∷_, map}
 use Prim.Native.Nat.{ℕ}
@@ -25,12 +25,20 @@ lines =
     ∷ (13, (0x80000000, refused 42 0))
     ∷ (13, (0xFFFFFFFF, refused 42 0))
     ∷ (13, (0x100000000, refused 42 0))
+    ∷ (21, (0, bits 0 64))
+    ∷ (21, (0x7FFFFFFFFFFFFFFF, bits 63 0))
+    ∷ (21, (0x4000000000000000, bits 1 62))
+    ∷ (21, (0x8000000000000000, refused 42 0))
+    ∷ (21, (0xFFFFFFFFFFFFFFFF, refused 42 0))
+    ∷ (21, (0x10000000000000000, refused 42 0))
     ∷ (4, (1, refused 41 0))
     ∷ (6, (0xFFFF, refused 41 0))
     ∷ (12, (1, refused 41 0))
     ∷ (14, (1, refused 41 0))
     ∷ (0, (0, refused 41 0))
-    ∷ (21, (0, refused 41 0))
+    ∷ (20, (0, refused 41 0))
+    ∷ (22, (0, refused 41 0))
+    ∷ (23, (0, refused 41 0))
     ∷ []
 
 pub event-vectors : map (λ (l : Line). eventBits (l .0) (l .1 .0)) lines ≡ map (λ (l : Line). l .1 .1) lines

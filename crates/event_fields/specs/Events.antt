@@ -1,4 +1,4 @@
--- Document 01, "Events": the bits that are set in the value of a bitfield.
+-- Document 01, "Events", with the type of change request 1: the bits that are set in the value of a bitfield.
 use mathlib.Core.Bool.{Bool, true, false, _||_}
 use mathlib.Core.List.{List, [], _∷_}
 use Prim.Native.Nat.{ℕ, zero, suc, _/_, _%_, _^_}
@@ -25,16 +25,16 @@ abbrev pub firstOr : ℕ → List ℕ → ℕ
 firstOr other [] = other
 firstOr other (x ∷ xs) = x
 
--- Is it the code of a bitfield type: 5 (bitfield16) or 13 (bitfield32)?
+-- Is it the code of a bitfield type: 5 (bitfield16), 13 (bitfield32) or 21 (bitfield64)?
 abbrev pub isBitfield : ℕ → Bool
-isBitfield code = eqb code 5 || eqb code 13
+isBitfield code = eqb code 5 || (eqb code 13 || eqb code 21)
 
 -- The results: the number of bits that are set and the position of the lowest, 64 if there is none; or a refusal, by number and place.
 pub data EventBits : Type 0 where
   bits : (count lowest : ℕ) → EventBits
   refused : (number place : ℕ) → EventBits
 
--- 41: the type is not 5 or 13. 42: unimplemented, out of range or too wide. Both have place 0.
+-- 41: the type is not 5, 13 or 21. 42: unimplemented, out of range or too wide. Both have place 0.
 unfoldable pub eventBits : ℕ → ℕ → EventBits
 eventBits code raw =
     elim (isBitfield code) [

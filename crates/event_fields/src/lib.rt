@@ -25,12 +25,15 @@ pub fn event_bits(type_code: u16, raw: u64) -> EventBits
     }
 }
 
-// Is it the code of bitfield16 or bitfield32?
+// Is it the code of bitfield16, bitfield32 or bitfield64?
 fn is_bitfield(type_code: u16) -> bool
     ensures { λ r. ⌜ r ≡ isBitfield «type_code» ⌝ }
 {
     if type_code == 5 {
         return true;
     }
-    type_code == 13
+    if type_code == 13 {
+        return true;
+    }
+    type_code == 21
 }

@@ -1,19 +1,20 @@
 -- Laws of the table of type rows: look-up, and facts about each row, computed once over the whole table.
 use mathlib.Core.Path.{_≡_, refl, sym, ap, subst, _∙_}
-use mathlib.Core.Bool.{Bool, true, false, not, _&&_, _||_}
+use mathlib.Core.Bool.{Bool, true, false, not, _&&_, _||_, Bool·beq}
 use mathlib.Core.List.{List, [], _∷_}
 use mathlib.Core.Option.{none, some}
-use Prim.Native.Nat.{ℕ, zero, suc, _+_, _-_, _≤_, _<_}
+use Prim.Native.Nat.{ℕ, zero, suc, _+_, _-_, _*_, _^_, _≤_, _<_}
 use native.Mathlib.Nat.{add-zero, add-suc, suc-add}
 use native.Mathlib.Omega.{arith}
-use borrow.Author.Tests.{eqb-true, le-leb, eq-eqb, ne-eqb}
+use borrow.Author.Tests.{eqb-true, lt-leb, eq-eqb, ne-eqb}
 use lib.Dec.{T, eqb, leb, eqb→eq, leb→le}
 use lib.IntN.{ℤ, pos, negsuc}
 use lib.ListN.{length, getD}
+use lib.Ieee.{Format, top}
 use lib.Ieee.Fits.{and-l, and-r}
 use Rattle.lists.specs.Tests.{every}
 use Rattle.lists.proofs.TestOutcomes.{impossible}
-use Rattle.point_types.specs.Rows.{TypeRow, Kind, signed, unsigned, float, Range, whole, between, notNaN, rows, rowAmong, rowOf, Listed}
+use Rattle.point_types.specs.Rows.{TypeRow, Kind, signed, unsigned, float, Unimplemented, never, pattern, Range, whole, between, notNaN, rows, rowAmong, rowOf, Listed}
 
 -- The row found has the search code, and passes a test that every row of the list passes.
 found-among : (test : TypeRow → Bool) (rs : List TypeRow) (c : ℕ) (r : TypeRow) → T (every test rs) → rowAmong rs c ≡ some r
@@ -61,23 +62,23 @@ by-place c (r ∷ rs) d (suc i) t h =
     simp (rowAmong, ne-eqb (c + suc i) (r .code) n)
     (rw (add-suc c i, ← suc-add c i) (by-place (suc c) rs d i (and-r (eqb (r .code) c) (numbered (suc c) rs) t) (omega arith)))
 
-pub row-at : (d : TypeRow) (c : ℕ) → 1 ≤ c → c ≤ 20 → rowOf c ≡ some (getD rows (c - 1) d)
+pub row-at : (d : TypeRow) (c : ℕ) → 1 ≤ c → c ≤ 22 → rowOf c ≡ some (getD rows (c - 1) d)
 unfolding rows
 row-at d c l h = let n : 1 + (c - 1) ≡ c = omega arith in sym (ap rowOf n) ∙ by-place 1 rows d (c - 1) tt (omega arith)
 
--- No row has a code below 1 or above 20.
-none-outside : (rs : List TypeRow) (c : ℕ) → T (every (λ r. leb 1 (r .code) && leb (r .code) 20) rs) → (1 ≤ c → c ≤ 20 → ⊥)
+-- No row has a code below 1 or above 22.
+none-outside : (rs : List TypeRow) (c : ℕ) → T (every (λ r. leb 1 (r .code) && leb (r .code) 22) rs) → (1 ≤ c → c ≤ 22 → ⊥)
     → rowAmong rs c ≡ none
 unfolding rowAmong
 none-outside [] c t n = refl
 none-outside (r ∷ rs) c t n =
-    let test : TypeRow → Bool = λ x. leb 1 (x .code) && leb (x .code) 20 in
+    let test : TypeRow → Bool = λ x. leb 1 (x .code) && leb (x .code) 22 in
     let here = and-l (test r) (every test rs) t in
-    let low = leb→le 1 (r .code) (and-l (leb 1 (r .code)) (leb (r .code) 20) here) in
-    let high = leb→le (r .code) 20 (and-r (leb 1 (r .code)) (leb (r .code) 20) here) in
+    let low = leb→le 1 (r .code) (and-l (leb 1 (r .code)) (leb (r .code) 22) here) in
+    let high = leb→le (r .code) 22 (and-r (leb 1 (r .code)) (leb (r .code) 22) here) in
     simp (rowAmong, ne-eqb c (r .code) (λ q. n (rw q low) (rw q high))) (none-outside rs c (and-r (test r) (every test rs) t) n)
 
-pub no-row-outside : (c : ℕ) → (1 ≤ c → c ≤ 20 → ⊥) → rowOf c ≡ none
+pub no-row-outside : (c : ℕ) → (1 ≤ c → c ≤ 22 → ⊥) → rowOf c ≡ none
 unfolding rows
 no-row-outside c n = none-outside rows c tt n
 
@@ -97,16 +98,41 @@ one-to-64 c r e =
     let high = and-r (leb 1 (r .fewest)) (leb (r .most) 64) t in
     (leb→le 1 (r .fewest) low, leb→le (r .most) 64 high)
 
--- The codes up to 18 take at most four registers.
+-- The codes that `decode` takes, 1–18, 21 and 22, are those of at most four registers.
 abbrev fourTest : TypeRow → Bool
-fourTest r = not (leb (r .code) 18) || leb (r .most) 4
+fourTest r = Bool·beq (leb (r .most) 4) (leb (r .code) 18 || leb 21 (r .code))
 
-pub four-registers : (c : ℕ) (r : TypeRow) → c ≤ 18 → rowOf c ≡ some r → r .most ≤ 4
+pub four-registers : (c : ℕ) (r : TypeRow) → rowOf c ≡ some r → leb (r .most) 4 ≡ (leb c 18 || leb 21 c)
 unfolding rows
-four-registers c r h e =
+four-registers c r e =
     let f = found fourTest tt c r e in
-    let k : r .code ≤ 18 = omega (arith, f .0) in
-    leb→le (r .most) 4 (rw (le-leb (r .code) 18 k) at (f .1))
+    same (leb (r .most) 4) (leb (r .code) 18 || leb 21 (r .code)) (f .1) ∙ ap (λ (k : ℕ). leb k 18 || leb 21 k) (sym (f .0))
+  where
+    same : (a b : Bool) → T (Bool·beq a b) → a ≡ b
+    same true true t = refl
+    same true false t = absurd t
+    same false true t = absurd t
+    same false false t = refl
+
+-- A type of more than four registers is unimplemented if all are 0, and any other pattern is in range.
+abbrev wideTest : Unimplemented → Range → Bool
+wideTest never r = false
+wideTest (pattern p) whole = eqb p 0
+wideTest (pattern p) (between low high) = false
+wideTest (pattern p) notNaN = false
+
+pub wide-row : (c : ℕ) (r : TypeRow) → rowOf c ≡ some r → 4 < r .most → (r .unimplemented ≡ pattern 0) × (r .range ≡ whole)
+unfolding rows
+wide-row c r e w =
+    let t = found (λ x. leb (x .most) 4 || wideTest (x .unimplemented) (x .range)) tt c r e .1 in
+    go (r .unimplemented) refl (r .range) refl (rw (lt-leb (r .most) 4 w) at t)
+  where
+    go : (u : Unimplemented) → r .unimplemented ≡ u → (x : Range) → r .range ≡ x → T (wideTest u x)
+        → (r .unimplemented ≡ pattern 0) × (r .range ≡ whole)
+    go never a x b t = absurd t
+    go (pattern p) a whole b t = (a ∙ ap pattern (eqb→eq p 0 t), b)
+    go (pattern p) a (between low high) b t = absurd t
+    go (pattern p) a notNaN b t = absurd t
 
 -- A type that may carry a scale takes at most four registers.
 pub scalable-width : (r : TypeRow) → Listed r → r .scalable ≡ true → r .most ≤ 4
@@ -115,13 +141,13 @@ scalable-width r l s =
     let t = found (λ x. not (x .scalable) || leb (x .most) 4) tt (r .code) r l .1 in
     leb→le (r .most) 4 (rw s at t)
 
--- A signed type takes one to four registers; a float takes two, and no NaN is in its range.
+-- A signed type takes one to four registers; a float has the width of its format, and no NaN is in its range.
 abbrev kindTest : Kind → ℕ → Range → Bool
 kindTest signed m r = leb 1 m && leb m 4
 kindTest unsigned m r = true
-kindTest float m whole = false
-kindTest float m (between low high) = false
-kindTest float m notNaN = eqb m 2
+kindTest (float f) m whole = false
+kindTest (float f) m (between low high) = false
+kindTest (float f) m notNaN = eqb (2 ^ (16 * m)) (2 * top f)
 
 module _ (r : TypeRow) (l : Listed r) where
   kinds : T (kindTest (r .kind) (r .most) (r .range))
@@ -133,13 +159,13 @@ module _ (r : TypeRow) (l : Listed r) where
       let t = rw k at kinds in
       (leb→le 1 (r .most) (and-l (leb 1 (r .most)) (leb (r .most) 4) t), leb→le (r .most) 4 (and-r (leb 1 (r .most)) (leb (r .most) 4) t))
 
-  pub float-row : r .kind ≡ float → (r .most ≡ 2) × (r .range ≡ notNaN)
-  float-row k = go (r .range) refl (rw k at kinds)
+  pub float-row : (f : Format) → r .kind ≡ float f → (2 ^ (16 * r .most) ≡ 2 * top f) × (r .range ≡ notNaN)
+  float-row f k = go (r .range) refl (rw k at kinds)
     where
-      go : (x : Range) → r .range ≡ x → T (kindTest float (r .most) x) → (r .most ≡ 2) × (r .range ≡ notNaN)
+      go : (x : Range) → r .range ≡ x → T (kindTest (float f) (r .most) x) → (2 ^ (16 * r .most) ≡ 2 * top f) × (r .range ≡ notNaN)
       go whole e t = absurd t
       go (between low high) e t = absurd t
-      go notNaN e t = (eqb→eq (r .most) 2 t, e)
+      go notNaN e t = (eqb→eq (2 ^ (16 * r .most)) (2 * top f) t, e)
 
 -- A type whose range begins below 0 is signed and has one register; a type whose range begins at 0 or above is not signed.
 abbrev rangeTest : Range → Kind → ℕ → Bool
@@ -147,10 +173,10 @@ rangeTest whole k m = true
 rangeTest notNaN k m = true
 rangeTest (between (pos low) high) signed m = false
 rangeTest (between (pos low) high) unsigned m = true
-rangeTest (between (pos low) high) float m = true
+rangeTest (between (pos low) high) (float f) m = true
 rangeTest (between (negsuc low) high) signed m = eqb m 1
 rangeTest (between (negsuc low) high) unsigned m = false
-rangeTest (between (negsuc low) high) float m = false
+rangeTest (between (negsuc low) high) (float f) m = false
 
 module _ (r : TypeRow) (l : Listed r) where
   ranges : T (rangeTest (r .range) (r .kind) (r .most))
@@ -166,7 +192,7 @@ module _ (r : TypeRow) (l : Listed r) where
       go : (k : Kind) → r .kind ≡ k → T (rangeTest (between (negsuc low) high) k (r .most)) → (r .kind ≡ signed) × (r .most ≡ 1)
       go signed q t = (q, eqb→eq (r .most) 1 t)
       go unsigned q t = absurd t
-      go float q t = absurd t
+      go (float f) q t = absurd t
 
 -- Only a float type has the range of floats.
 abbrev floatTest : Range → Kind → Bool
@@ -174,13 +200,13 @@ floatTest whole k = true
 floatTest (between low high) k = true
 floatTest notNaN signed = false
 floatTest notNaN unsigned = false
-floatTest notNaN float = true
+floatTest notNaN (float f) = true
 
-pub only-float : (r : TypeRow) → Listed r → r .range ≡ notNaN → r .kind ≡ float
+pub only-float : (r : TypeRow) → Listed r → r .range ≡ notNaN → (f : Format) × (r .kind ≡ float f)
 unfolding rows
 only-float r l e = go (r .kind) refl (rw e at (found (λ x. floatTest (x .range) (x .kind)) tt (r .code) r l .1))
   where
-    go : (k : Kind) → r .kind ≡ k → T (floatTest notNaN k) → r .kind ≡ float
+    go : (k : Kind) → r .kind ≡ k → T (floatTest notNaN k) → (f : Format) × (r .kind ≡ float f)
     go signed q t = absurd t
     go unsigned q t = absurd t
-    go float q t = q
+    go (float f) q t = (f, q)

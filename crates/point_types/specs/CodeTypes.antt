@@ -2,7 +2,9 @@
 use mathlib.Core.Option.{Option, none, some}
 use Prim.Native.Nat.{ℕ}
 use lib.IntN.{pos, negℤ}
+use lib.Ieee as Ieee
 use Rattle.point_types.specs.Rows as Rows
+use Rattle.point_types.specs.declared.Format.{Format}
 use Rattle.point_types.specs.declared.Kind.{Kind}
 use Rattle.point_types.specs.declared.Unimplemented.{Unimplemented}
 use Rattle.point_types.specs.declared.Range.{Range}
@@ -11,10 +13,14 @@ use Rattle.point_types.specs.declared.Found.{Found}
 use Rattle.point_types.specs.declared.RegisterCount.{RegisterCount}
 
 -- The parts of a row, a row, and the result of `row_of`.
+abbrev pub toSpecFormat : Format → Ieee.Format
+toSpecFormat Format.Binary32 = Ieee.binary32
+toSpecFormat Format.Binary64 = Ieee.binary64
+
 abbrev pub toSpecKind : Kind → Rows.Kind
 toSpecKind Kind.Signed = Rows.signed
 toSpecKind Kind.Unsigned = Rows.unsigned
-toSpecKind Kind.Float = Rows.float
+toSpecKind (Kind.Float f) = Rows.float (toSpecFormat f)
 
 abbrev pub toSpecUnimplemented : Unimplemented → Rows.Unimplemented
 toSpecUnimplemented Unimplemented.Never = Rows.never

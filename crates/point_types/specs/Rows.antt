@@ -1,4 +1,4 @@
--- The type rows of document 01, "The value rows": one table. Everything about a type is read from its row.
+-- The type rows of document 01, "The value rows", and of change request 1: one table. Everything about a type is read from its row.
 use mathlib.Core.Path.{_≡_}
 use mathlib.Core.Bool.{Bool, true, false}
 use mathlib.Core.List.{List, [], _∷_}
@@ -6,19 +6,21 @@ use mathlib.Core.Option.{Option, none, some}
 use Prim.Native.Nat.{ℕ}
 use lib.Dec.{eqb}
 use lib.IntN.{ℤ, pos, negℤ}
+use lib.Ieee.{Format, binary32, binary64}
 
--- How the bits of a value are read: as signed (document 01's list: codes 1, 8, 9, 16), as binary32 of IEEE 754 (float32), or as
--- unsigned (all others).
+-- How the bits of a value are read: as signed (document 01's list: codes 1, 8, 9, 16), as unsigned, or as a float of a format of
+-- IEEE 754: binary32 (float32) or binary64 (float64).
 pub data Kind : Type 0 where
-  signed unsigned float : Kind
+  signed unsigned : Kind
+  float : Format → Kind
 
 -- The pattern that marks a point as unimplemented (document 01: "not given"), or none.
 pub data Unimplemented : Type 0 where
   never : Unimplemented
   pattern : ℕ → Unimplemented
 
--- The values in range: all of them, the integers from the first to the second, or all floats but NaN. (Document 01 names those out
--- of range.)
+-- The values in range: all of them, the integers from the first to the second, or all floats but NaN. (The papers name those out of
+-- range.)
 pub data Range : Type 0 where
   whole : Range
   between : ℤ → ℤ → Range
@@ -50,7 +52,7 @@ row c f m s k u r =
 abbrev upTo : ℕ → Range
 upTo n = between (pos 0) (pos n)
 
--- Document 01, "The value rows", row by row.
+-- Document 01, "The value rows", row by row; 21 and 22: change request 1.
 unfoldable pub rows : List TypeRow
 rows =
     row 1 1 1 withScale signed (pattern 0x8000) whole  -- int16
@@ -66,13 +68,15 @@ rows =
     ∷ row 11 2 2 withScale unsigned (pattern 0) whole  -- acc32
     ∷ row 12 2 2 noScale unsigned (pattern 0xFFFFFFFF) whole  -- enum32
     ∷ row 13 2 2 noScale unsigned (pattern 0xFFFFFFFF) (upTo 0x7FFFFFFF)  -- bitfield32
-    ∷ row 14 2 2 noScale float (pattern 0x7FC00000) notNaN  -- float32
+    ∷ row 14 2 2 noScale (float binary32) (pattern 0x7FC00000) notNaN  -- float32
     ∷ row 15 2 2 noScale unsigned (pattern 0) whole  -- ipaddr
     ∷ row 16 4 4 withScale signed (pattern 0x8000000000000000) whole  -- int64
     ∷ row 17 4 4 withScale unsigned (pattern 0xFFFFFFFFFFFFFFFF) whole  -- uint64
     ∷ row 18 4 4 withScale unsigned (pattern 0) (upTo 9223372036854775807)  -- acc64
     ∷ row 19 1 64 noScale unsigned (pattern 0) whole  -- string
     ∷ row 20 8 8 noScale unsigned (pattern 0) whole  -- ipv6addr
+    ∷ row 21 4 4 noScale unsigned (pattern 0xFFFFFFFFFFFFFFFF) (upTo 0x7FFFFFFFFFFFFFFF)  -- bitfield64
+    ∷ row 22 4 4 noScale (float binary64) (pattern 0x7FF8000000000000) notNaN  -- float64
     ∷ []
 
 -- The first row of a list that has the type code c, or none.

@@ -4,6 +4,8 @@ ghost use mathlib.Core.Path.{_≡_};
 ghost use mathlib.Core.Option.{some};
 ghost use Rattle.point_types.specs.Rows.{row, mayScale, registersOf, rowOf};
 ghost use Rattle.point_types.specs.CodeTypes.{toSpecCount, toSpecFound, toSpecKind, toSpecUnimplemented, toSpecRange};
+use crate::Format::Binary32;
+use crate::Format::Binary64;
 use crate::Kind::Float;
 use crate::Kind::Signed;
 use crate::Kind::Unsigned;
@@ -15,11 +17,17 @@ use crate::Range::Whole;
 use crate::Unimplemented::At;
 use crate::Unimplemented::Never;
 
+// The formats of IEEE 754: 32 and 64 bits.
+pub enum Format {
+    Binary32,
+    Binary64,
+}
+
 // How the bits of a value are read.
 pub enum Kind {
     Signed,
     Unsigned,
-    Float,
+    Float(Format),
 }
 
 // The pattern that marks a point as unimplemented, if there is one.
@@ -78,13 +86,15 @@ pub fn row_of(type_code: u16) -> Found
         11 => row_found(11, 2, 2, true, Unsigned, At(0), Whole), // acc32
         12 => row_found(12, 2, 2, false, Unsigned, At(0xFFFFFFFF), Whole), // enum32
         13 => row_found(13, 2, 2, false, Unsigned, At(0xFFFFFFFF), UpTo(0x7FFFFFFF)), // bitfield32
-        14 => row_found(14, 2, 2, false, Float, At(0x7FC00000), NotNan), // float32
+        14 => row_found(14, 2, 2, false, Float(Binary32), At(0x7FC00000), NotNan), // float32
         15 => row_found(15, 2, 2, false, Unsigned, At(0), Whole), // ipaddr
         16 => row_found(16, 4, 4, true, Signed, At(0x8000000000000000), Whole), // int64
         17 => row_found(17, 4, 4, true, Unsigned, At(0xFFFFFFFFFFFFFFFF), Whole), // uint64
         18 => row_found(18, 4, 4, true, Unsigned, At(0), UpTo(0x7FFFFFFFFFFFFFFF)), // acc64
         19 => row_found(19, 1, 64, false, Unsigned, At(0), Whole), // string
         20 => row_found(20, 8, 8, false, Unsigned, At(0), Whole), // ipv6addr
+        21 => row_found(21, 4, 4, false, Unsigned, At(0xFFFFFFFFFFFFFFFF), UpTo(0x7FFFFFFFFFFFFFFF)), // bitfield64
+        22 => row_found(22, 4, 4, false, Float(Binary64), At(0x7FF8000000000000), NotNan), // float64
         _ => Found::Nothing,
     }
 }

@@ -29,6 +29,7 @@ fn write_value(type_code: u16, registers: [u16; 4]) {
         Value::Signed(n) => output::signed(n),
         Value::Unsigned(n) => output::counted(output::UNSIGNED, n),
         Value::Float(x) => output::float(f32::to_bits(x)),
+        Value::Double(x) => output::double(f64::to_bits(x)),
         Value::Unimplemented => output::say(output::NOT_GIVEN),
         Value::OutOfRange => output::say(output::OUT_OF_RANGE),
         Value::NotDecodable => output::refused(40),

@@ -32,24 +32,26 @@ pub(crate) const UNSIGNED: usize = 11;
 
 pub(crate) const FLOAT: usize = 12;
 
-pub(crate) const NOT_GIVEN: usize = 13;
+pub(crate) const DOUBLE: usize = 13;
 
-pub(crate) const OUT_OF_RANGE: usize = 14;
+pub(crate) const NOT_GIVEN: usize = 14;
 
-pub(crate) const YES: usize = 15;
+pub(crate) const OUT_OF_RANGE: usize = 15;
 
-pub(crate) const NO: usize = 16;
+pub(crate) const YES: usize = 16;
 
-pub(crate) const BAD_LINE: usize = 17;
+pub(crate) const NO: usize = 17;
 
-pub(crate) const DASH: usize = 18;
+pub(crate) const BAD_LINE: usize = 18;
 
-pub(crate) const END_LINE: usize = 19;
+pub(crate) const DASH: usize = 19;
+
+pub(crate) const END_LINE: usize = 20;
 
 // Writes the text with this number.
 pub(crate) fn say(number: usize) {
     say_part(
-        b"models |refused | at |points | headers | / | |parsed |written |signed |signed -|unsigned |float |not given|out of range|yes|no|bad line|-|\n|",
+        b"models |refused | at |points | headers | / | |parsed |written |signed |signed -|unsigned |float |double |not given|out of range|yes|no|bad line|-|\n|",
         number,
     );
 }
@@ -124,14 +126,26 @@ pub(crate) fn words(s: &[u16], count: usize) {
     }
 }
 
-// Writes the bits of a float in eight hexadecimal digits.
+// Writes the bits of a 32-bit float in eight hexadecimal digits,
 pub(crate) fn float(bits: u32) {
     say(FLOAT);
-    hex4((bits / 65536) as u16);
-    hex4((bits % 65536) as u16);
+    hex8(bits);
 }
 
-// Writes four hexadecimal digits in upper case.
+// and those of a 64-bit float in sixteen.
+pub(crate) fn double(bits: u64) {
+    say(DOUBLE);
+    hex8((bits / 4294967296) as u32);
+    hex8((bits % 4294967296) as u32);
+}
+
+// Writes eight hexadecimal digits in upper case,
+fn hex8(n: u32) {
+    hex4((n / 65536) as u16);
+    hex4((n % 65536) as u16);
+}
+
+// and four.
 fn hex4(n: u16) {
     let digits = [
         hex_glyph(n / 4096),

@@ -19,7 +19,7 @@ use Rattle.registers.proofs.Joining.{sixteen-each}
 use Rattle.registers.proofs.RegisterParts.{zero-joined}
 use Rattle.registers.proofs.Splitting.{join-bound}
 use Rattle.point_types.specs.Rows.{TypeRow, pattern, whole, rows, rowAmong, rowOf, registersOf}
-use Rattle.point_types.proofs.Table.{no-row-outside, four-registers}
+use Rattle.point_types.proofs.Table.{wide-row}
 use Rattle.values.specs.Classes.{Class, value, isUnimplemented, inRange, classOf, Classified, ofClass, classified}
 use Rattle.values.proofs.ClassCases.{in-range, of-class}
 use Rattle.catalog_frames.specs.Frames.{Point}
@@ -45,32 +45,7 @@ row-of-size code size = go (rowOf code) refl
         let s = both (leb (r .fewest) size) (leb size (r .most)) e in
         (r, q, leb-true size (r .most) (s .1))
 
--- The row in an option, or `other`.
-abbrev rowOr : TypeRow → Option TypeRow → TypeRow
-rowOr other none = other
-rowOr other (some r) = r
-
--- A type of more than four registers is unimplemented if all are 0, and any other pattern is in range.
-wide-row : (code : ℕ) (r : TypeRow) → rowOf code ≡ some r → 4 < r .most → (r .unimplemented ≡ pattern 0) × (r .range ≡ whole)
-unfolding rows rowAmong
-wide-row code r e w = go (decLe code 18) (decLe code 19) (decLe code 20)
-  where
-    by-code : (k : ℕ) → code ≡ k → rowOr r (rowOf k) ≡ r
-    by-code k q = ap (rowOr r) (sym (ap rowOf q) ∙ e)
-
-    go : Dec (code ≤ 18) → Dec (code ≤ 19) → Dec (code ≤ 20) → (r .unimplemented ≡ pattern 0) × (r .range ≡ whole)
-    go (yes l) d f = absurd (omega (arith, four-registers code r l e))
-    go (no l) (yes m) f =
-        let s = by-code 19 (omega arith) in
-        (sym (ap (λ (x : TypeRow). x .unimplemented) s), sym (ap (λ (x : TypeRow). x .range) s))
-    go (no l) (no m) (yes n) =
-        let s = by-code 20 (omega arith) in
-        (sym (ap (λ (x : TypeRow). x .unimplemented) s), sym (ap (λ (x : TypeRow). x .range) s))
-    go (no l) (no m) (no n) =
-        let none-there : none ≡ some r = sym (no-row-outside code (λ low high. omega arith)) ∙ e in
-        impossible (cc)
-
--- So any of its patterns but 0 is a value.
+-- Any pattern but 0 is a value of a type of more than four registers.
 wide-class : (code raw : ℕ) (r : TypeRow) → rowOf code ≡ some r → 4 < r .most → raw < 2 ^ (16 * r .most) → (raw ≡ 0 → ⊥)
     → classified code raw ≡ ofClass value
 unfolding tooWide inRange

@@ -1,6 +1,6 @@
 -- The cases of `classOf`, `classified` and `decoded`.
-use mathlib.Core.Path.{_≡_, refl}
-use mathlib.Core.Bool.{Bool, true, false, _&&_, and-false}
+use mathlib.Core.Path.{_≡_, refl, subst}
+use mathlib.Core.Bool.{Bool, true, false}
 use mathlib.Core.Option.{Option, none, some}
 use mathlib.Core.List.{List}
 use Prim.Native.Nat.{ℕ, _≤_, _<_}
@@ -9,7 +9,6 @@ use lib.Dec.{leb}
 use Rattle.lists.proofs.TestOutcomes.{impossible}
 use Rattle.registers.specs.Registers as registers
 use Rattle.point_types.specs.Rows.{TypeRow, rowOf}
-use Rattle.point_types.proofs.Table.{from-one}
 use Rattle.values.specs.Classes.{isUnimplemented, inRange, value, unimplemented, classOf, classified, ofClass, tooWide}
 use Rattle.values.specs.Decoding.{patternIn, valueOf, decodable, decoded, refused}
 
@@ -30,45 +29,43 @@ module _ (code raw : ℕ) where
 
 -- `decoded`, by the code's row.
 module _ (code : ℕ) (registers : List ℕ) where
-  pub beyond : 18 < code → decoded code registers ≡ refused 40 0
-  unfolding decodable decoded
-  beyond h = simp (decoded, decodable, lt-leb _ _ h, and-false)
-
-  no-row-decodes : rowOf code ≡ none → decodable code ≡ none
-  unfolding decodable
-  no-row-decodes e = go (leb 1 code && leb code 18)
-    where
-      go : (b : Bool) → _≡_ {A = Option TypeRow} (elim b [ true ↦ rowOf code | false ↦ none ]) none
-      go true = e
-      go false = refl
-
   pub no-row : rowOf code ≡ none → decoded code registers ≡ refused 40 0
-  unfolding decoded
-  no-row e = simp (decoded, no-row-decodes e)
+  unfolding decodable decoded
+  no-row e = simp (decoded, decodable, e)
 
-  pub decodes : (row : TypeRow) → code ≤ 18 → rowOf code ≡ some row → decodable code ≡ some row
-  unfolding decodable
-  decodes row h e = simp (decodable, le-leb _ _ (from-one code row e), le-leb _ _ h, e)
+  pub too-long : (row : TypeRow) → rowOf code ≡ some row → 4 < row .most → decoded code registers ≡ refused 40 0
+  unfolding decodable decoded
+  too-long row e h = simp (decoded, decodable, e, lt-leb _ _ h)
 
   pub by-row : (row : TypeRow) → decodable code ≡ some row → decoded code registers ≡ valueOf row (patternIn row registers)
   unfolding decoded
   by-row row e = simp (decoded, e)
 
--- The row that decodes a code is the table's, and the code is at most 18.
-pub row-of-decodable : (code : ℕ) (row : TypeRow) → decodable code ≡ some row → rowOf code ≡ some row
-unfolding decodable
-row-of-decodable code row e = go (leb 1 code && leb code 18) e
-  where
-    go : (b : Bool) → _≡_ {A = Option TypeRow} (elim b [ true ↦ rowOf code | false ↦ none ]) (some row) → rowOf code ≡ some row
-    go true q = q
-    go false q = cc
+-- The row that decodes a code: the table's, if it takes at most four registers.
+module _ (code : ℕ) (row : TypeRow) where
+  pub decodes : rowOf code ≡ some row → row .most ≤ 4 → decodable code ≡ some row
+  unfolding decodable
+  decodes e h = simp (decodable, e, le-leb _ _ h)
 
-pub decodable-up-to : (code : ℕ) (row : TypeRow) → decodable code ≡ some row → code ≤ 18
-unfolding decodable
-decodable-up-to code row e = go (leb 1 code) (leb code 18) refl e
-  where
-    go : (a b : Bool) → leb code 18 ≡ b → _≡_ {A = Option TypeRow} (elim (a && b) [ true ↦ rowOf code | false ↦ none ]) (some row)
-        → code ≤ 18
-    go true true t q = leb-true code 18 t
-    go true false t q = impossible (cc)
-    go false b t q = impossible (cc)
+  decoding-row : decodable code ≡ some row → (rowOf code ≡ some row) × (row .most ≤ 4)
+  unfolding decodable
+  decoding-row = by-found (rowOf code) refl
+    where
+      by-size : (r : TypeRow) → rowOf code ≡ some r → (b : Bool) → leb (r .most) 4 ≡ b
+          → _≡_ {A = Option TypeRow} (elim b [ true ↦ some r | false ↦ none ]) (some row) → (rowOf code ≡ some row) × (row .most ≤ 4)
+      by-size r e true t q =
+          let s : r ≡ row = cc in
+          subst (λ (x : TypeRow). (rowOf code ≡ some x) × (x .most ≤ 4)) s (e, leb-true (r .most) 4 t)
+      by-size r e false t q = impossible (cc)
+
+      by-found : (o : Option TypeRow) → rowOf code ≡ o
+          → elim o [ none ↦ none | some r ↦ elim (leb (r .most) 4) [ true ↦ some r | false ↦ none ] ] ≡ some row
+          → (rowOf code ≡ some row) × (row .most ≤ 4)
+      by-found none e q = impossible (cc)
+      by-found (some r) e q = by-size r e (leb (r .most) 4) refl q
+
+  pub row-of-decodable : decodable code ≡ some row → rowOf code ≡ some row
+  row-of-decodable e = decoding-row e .0
+
+  pub decodable-most : decodable code ≡ some row → row .most ≤ 4
+  decodable-most e = decoding-row e .1

@@ -56,7 +56,13 @@ lines =
     -- string at its longest, ipv6addr
     ∷ notGiven 19 0 ∷ value 19 1 ∷ value 19 (2 ^ 1024 - 1) ∷ wide 19 (2 ^ 1024)
     ∷ notGiven 20 0 ∷ value 20 1 ∷ value 20 (2 ^ 128 - 1) ∷ wide 20 (2 ^ 128)
-    ∷ unknown 21 0
+    -- bitfield64
+    ∷ value 21 0 ∷ value 21 0x7FFFFFFFFFFFFFFF ∷ out 21 0x8000000000000000 ∷ out 21 (2 ^ 64 - 2) ∷ notGiven 21 (2 ^ 64 - 1) ∷ wide 21 (2 ^ 64)
+    -- float64: infinities, negative zero and subnormals are values
+    ∷ value 22 0 ∷ value 22 1 ∷ value 22 0x7FF0000000000000 ∷ out 22 0x7FF0000000000001 ∷ out 22 0x7FF00000FFFFFFFF ∷ out 22 0x7FF7FFFFFFFFFFFF
+    ∷ notGiven 22 0x7FF8000000000000 ∷ out 22 0x7FF8000000000001 ∷ out 22 0x7FFFFFFFFFFFFFFF ∷ value 22 0x8000000000000000
+    ∷ value 22 0xFFF0000000000000 ∷ out 22 0xFFF0000000000001 ∷ out 22 0xFFF8000000000000 ∷ out 22 (2 ^ 64 - 1) ∷ wide 22 (2 ^ 64)
+    ∷ unknown 23 0
     ∷ []
 
 pub class-vectors : map (λ (l : Line). classified (l .0) (l .1 .0)) lines ≡ map (λ (l : Line). l .1 .1) lines

@@ -3,7 +3,7 @@ use mathlib.Core.Path.{_≡_, refl}
 use mathlib.Core.List.{List}
 use mathlib.Core.Option.{Option, none, some}
 use Prim.Native.Nat.{ℕ}
-use lib.Ieee.{binary32, ofBits}
+use lib.Ieee.{Format, ofBits}
 use Rattle.point_types.specs.Rows.{TypeRow, Kind}
 use Rattle.values.specs.Classes.{Class, classOf, width, twosComplement}
 use Rattle.values.specs.Decoding.{patternIn, Decoded, signed, unsigned, float, unimplemented, outOfRange, refused, numberOf, valueOf, decodable, decoded}
@@ -12,7 +12,7 @@ use Rattle.values.specs.Decoding.{patternIn, Decoded, signed, unsigned, 
 pub data ResultOf (row : TypeRow) (raw : ℕ) : Decoded → Type 0 where
   asSigned : row .kind ≡ Kind.signed → classOf row raw ≡ Class.value → ResultOf row raw (signed (twosComplement (width row) raw))
   asUnsigned : row .kind ≡ Kind.unsigned → classOf row raw ≡ Class.value → ResultOf row raw (unsigned raw)
-  asFloat : row .kind ≡ Kind.float → classOf row raw ≡ Class.value → ResultOf row raw (float (ofBits binary32 raw))
+  asFloat : (f : Format) → row .kind ≡ Kind.float f → classOf row raw ≡ Class.value → ResultOf row raw (float f (ofBits f raw))
   asUnimplemented : classOf row raw ≡ Class.unimplemented → ResultOf row raw unimplemented
   asOutOfRange : classOf row raw ≡ Class.outOfRange → ResultOf row raw outOfRange
 
@@ -26,14 +26,14 @@ result-of row raw = by-class (classOf row raw) refl (row .kind) refl
           | Class.value ↦ elim k [
             | Kind.signed ↦ signed (twosComplement (width row) raw)
             | Kind.unsigned ↦ unsigned raw
-            | Kind.float ↦ float (ofBits binary32 raw)
+            | Kind.float f ↦ float f (ofBits f raw)
           ]
           | Class.unimplemented ↦ unimplemented
           | Class.outOfRange ↦ outOfRange
         ])
     by-class Class.value c Kind.signed k = asSigned k c
     by-class Class.value c Kind.unsigned k = asUnsigned k c
-    by-class Class.value c Kind.float k = asFloat k c
+    by-class Class.value c (Kind.float f) k = asFloat f k c
     by-class Class.unimplemented c k q = asUnimplemented c
     by-class Class.outOfRange c k q = asOutOfRange c
 

@@ -1,4 +1,4 @@
--- Facts that decoding by a row of the table needs, if the code is at most 18 and four registers are given.
+-- Facts that decoding by a row of the table needs, if it takes at most four registers and four are given.
 use mathlib.Core.Path.{_≡_, sym, ap, _∙_}
 use mathlib.Core.List.{List}
 use mathlib.Core.Option.{some}
@@ -9,16 +9,16 @@ use lib.Seq.{length-take-le}
 use Rattle.registers.specs.Registers.{shownRaw}
 use Rattle.registers.proofs.Joining.{shown, first-fit}
 use Rattle.point_types.specs.Rows.{TypeRow, rowOf}
-use Rattle.point_types.proofs.Table.{listed, four-registers}
+use Rattle.point_types.proofs.Table.{listed}
 use Rattle.values.specs.Classes.{PatternOf}
 use Rattle.values.specs.Decoding.{valueOf, decoded}
 use Rattle.values.proofs.ClassCases.{decodes, by-row}
 
-module _ (code : ℕ) (registers : List ℕ) (row : TypeRow) (four : length registers ≡ 4) (most : code ≤ 18)
+module _ (code : ℕ) (registers : List ℕ) (row : TypeRow) (four : length registers ≡ 4) (most : row .most ≤ 4)
     (is : rowOf code ≡ some row) where
   -- The type's registers are among the four.
   pub among-four : row .most ≤ length registers
-  among-four = rw four (four-registers code row most is)
+  among-four = rw four most
 
   pub first-length : row .most ≡ length (take (row .most) registers)
   first-length = sym (length-take-le (row .most) registers among-four)
@@ -31,4 +31,4 @@ module _ (code : ℕ) (registers : List ℕ) (row : TypeRow) (four : length regi
   result-of raw e =
       let l : length (take (row .most) registers) ≤ 4 = omega (arith, first-length, among-four, four) in
       ap (valueOf row) (e ∙ shown (take (row .most) registers) l)
-      ∙ sym (by-row code registers row (decodes code registers row most is))
+      ∙ sym (by-row code registers row (decodes code row is most))

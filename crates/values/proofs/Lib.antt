@@ -3,6 +3,7 @@ pub mod ThreeClasses
 pub mod RoundTrip
 pub mod SignedNumbers
 pub mod PrintedRanges
+pub mod PrintedFormats
 pub mod NoNaN
 pub mod RefusedCodes
 pub mod UnscaledRange
@@ -14,5 +15,6 @@ pub mod IntegerOrder
 pub mod Ranges
 pub mod ClassCases
 pub mod DecodedCases
+pub mod DecodedPatterns
 pub mod UnscaledCases
 pub mod FoundRow

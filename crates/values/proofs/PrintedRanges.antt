@@ -12,6 +12,7 @@ use lib.IntN.{ℤ, pos, negsuc, negℤ, sucℤ}
 use lib.Pow.{pow-pos}
 use lib.ListN.{length, length-append, replicate, length-replicate}
 use lib.Seq.{take-at}
+use lib.Ieee.{Format}
 use lib.Ieee.Fits.{and-l, and-r}
 use lib.Signed.{leZ}
 use Rattle.lists.specs.Each.{Each}
@@ -22,7 +23,7 @@ use Rattle.lists.proofs.TestOutcomes.{impossible}
 use Rattle.registers.specs.Registers.{AreRegisters, join, split, tooWide}
 use Rattle.registers.proofs.Splitting.{split-length, split-registers, join-split}
 use Rattle.point_types.specs.Rows.{TypeRow, Kind, signed, unsigned, float, Unimplemented, never, pattern, Range, whole, between, notNaN, rows, rowAmong, Listed}
-use Rattle.point_types.proofs.Table.{listed, signed-width, only-float, four-registers}
+use Rattle.point_types.proofs.Table.{listed, signed-width, only-float}
 use Rattle.values.specs.Classes as classes
 use Rattle.values.specs.Classes.{width, twosComplement, integer, isUnimplemented, isBetween, inRange, classOf, PatternOf}
 use Rattle.values.specs.Decoding as decoding
@@ -34,8 +35,9 @@ use Rattle.values.proofs.ThreeClasses.{class-is-its-tests}
 use Rattle.values.proofs.Ranges.{in-whole, in-between, signed-integer, unsigned-integer}
 use Rattle.values.proofs.TwosComplement.{by-half, lower-half, upper-half, pattern-back}
 use Rattle.values.proofs.MachineIntegers.{halves}
-use Rattle.values.proofs.ClassCases.{row-of-decodable, decodable-up-to, by-row}
+use Rattle.values.proofs.ClassCases.{row-of-decodable, decodable-most, by-row}
 use Rattle.values.proofs.DecodedCases.{ResultOf, asSigned, asUnsigned, asFloat, asUnimplemented, asOutOfRange, Cases, byRow, noRow, cases}
+use Rattle.values.proofs.DecodedPatterns.{from-pattern}
 use Rattle.values.proofs.RoundTrip.{holds-pattern}
 
 -- ---- A row's range by its ends
@@ -45,14 +47,14 @@ abbrev lowest : Range → Kind → ℕ → ℤ
 lowest (between low high) k bits = low
 lowest whole signed bits = negℤ (pos (2 ^ (bits - 1)))
 lowest whole unsigned bits = pos 0
-lowest whole float bits = pos 0
+lowest whole (float f) bits = pos 0
 lowest notNaN k bits = pos 0
 
 abbrev highest : Range → Kind → ℕ → ℤ
 highest (between low high) k bits = high
 highest whole signed bits = pos (2 ^ (bits - 1) - 1)
 highest whole unsigned bits = pos (2 ^ bits - 1)
-highest whole float bits = pos 0
+highest whole (float f) bits = pos 0
 highest notNaN k bits = pos 0
 
 abbrev Between : ℤ → ℤ → ℤ → Type 0
@@ -71,7 +73,7 @@ between-test low high z = (
 
 module _ (row : TypeRow) (raw : ℕ) (p : PatternOf row raw) where
   -- The integer of a pattern lies between the ends of its width.
-  of-width : (row .kind ≡ float → ⊥) → Between (lowest whole (row .kind) (width row)) (highest whole (row .kind) (width row)) (integer row raw)
+  of-width : ((f : Format) → row .kind ≡ float f → ⊥) → Between (lowest whole (row .kind) (width row)) (highest whole (row .kind) (width row)) (integer row raw)
   of-width n = go (row .kind) refl
     where
       go : (k : Kind) → row .kind ≡ k → Between (lowest whole k (width row)) (highest whole k (width row)) (integer row raw)
@@ -83,10 +85,10 @@ module _ (row : TypeRow) (raw : ℕ) (p : PatternOf row raw) where
           (λ l. (negative-le half raw, le→leb raw (half - 1) (omega arith)))
           (λ u. (negative-le-negative half (2 ^ width row - suc raw) (omega (arith, h, p .fits)), tt)))
       go unsigned k = rw (unsigned-integer row raw k) (le→leb 0 raw (omega arith), le→leb raw (2 ^ width row - 1) (omega (arith, p .fits)))
-      go float k = absurd (n k)
+      go (float f) k = absurd (n f k)
 
   -- A pattern is in its type's range if and only if its integer is between the ends.
-  range-ends : (row .kind ≡ float → ⊥)
+  range-ends : ((f : Format) → row .kind ≡ float f → ⊥)
       → (inRange row raw ≡ true)
       ↔ Between (lowest (row .range) (row .kind) (width row)) (highest (row .range) (row .kind) (width row)) (integer row raw)
   range-ends n = go (row .range) refl
@@ -98,7 +100,7 @@ module _ (row : TypeRow) (raw : ℕ) (p : PatternOf row raw) where
           let t = between-test low high (integer row raw) in
           let q = in-between row raw low high e in
           (λ i. t .0 (sym q ∙ i), λ b. q ∙ t .1 b)
-      go notNaN e = absurd (n (only-float row (p .listed) e))
+      go notNaN e = let k = only-float row (p .listed) e in absurd (n (k .0) (k .1))
 
 -- ---- A printed range against its row
 
@@ -152,7 +154,7 @@ isOutside r row (pattern p) = ltb p (2 ^ width row) && not (isBetween (r .least)
 abbrev isIntegral : Kind → Bool
 isIntegral signed = true
 isIntegral unsigned = true
-isIntegral float = false
+isIntegral (float f) = false
 
 -- The tests of a printed range: its ends agree with those of the row's range, and fit the row's width.
 abbrev endTests : PrintedRange → TypeRow → List Bool
@@ -187,8 +189,8 @@ module _ (r : PrintedRange) (row : TypeRow) (l : Listed row) (tests : Each T (en
   abbrev high : ℤ
   high = highest (row .range) (row .kind) (width row)
 
-  not-float : row .kind ≡ float → ⊥
-  not-float k = rw k at (tests .0)
+  not-float : (f : Format) → row .kind ≡ float f → ⊥
+  not-float f k = rw k at (tests .0)
 
   -- The type is signed or unsigned.
   by-kind : {A : Type 0} → (row .kind ≡ signed → A) → (row .kind ≡ unsigned → A) → A
@@ -197,7 +199,7 @@ module _ (r : PrintedRange) (row : TypeRow) (l : Listed row) (tests : Each T (en
       go : (k : Kind) → row .kind ≡ k → A
       go signed k = s k
       go unsigned k = u k
-      go float k = absurd (not-float k)
+      go (float f) k = absurd (not-float f k)
 
   -- Patterns with the same integer are the same.
   same-pattern : (x y : ℕ) → x < 2 ^ width row → y < 2 ^ width row → integer row x ≡ integer row y → x ≡ y
@@ -294,7 +296,7 @@ in-order r z = (λ b. (record { le = b .0 }, record { le = b .1 }), λ b. (b .0 
 decoded-within : (r : PrintedRange) (d : Decoded) (z : ℤ) → Within r d → decodedInteger d ≡ some z → InPrinted r z
 decoded-within r (decoding.signed y) z w e = let q : y ≡ z = cc in subst (InPrinted r) q w
 decoded-within r (decoding.unsigned n) z w e = let q : pos n ≡ z = cc in subst (InPrinted r) q w
-decoded-within r (decoding.float x) z w e = absurd w
+decoded-within r (decoding.float f x) z w e = absurd w
 decoded-within r decoding.unimplemented z w e = impossible (cc)
 decoded-within r decoding.outOfRange z w e = impossible (cc)
 decoded-within r (decoding.refused n place) z w e = absurd w
@@ -320,7 +322,7 @@ module _ (r : PrintedRange) (row : TypeRow) (is : decodable (r .code) ≡ some r
       by-result (asUnsigned k v) =
           let raw = patternIn row registers in
           at raw (holds-pattern (r .code) registers four all row is) v (pos raw) (unsigned-integer row raw k)
-      by-result (asFloat k v) = absurd (not-float r row is-listed tests k)
+      by-result (asFloat f k v) = absurd (not-float r row is-listed tests f k)
       by-result (asUnimplemented v) = tt
       by-result (asOutOfRange v) = tt
 
@@ -346,32 +348,9 @@ module _ (r : PrintedRange) (row : TypeRow) (is : decodable (r .code) ≡ some r
     integer-of =
         by-kind r row is-listed tests (λ k. rw k) (λ k. rw k)
 
-    registers : List ℕ
-    registers = split (row .most) (rawOf row z) ++ replicate (4 - row .most) 0
-
-    zeros : (n : ℕ) → AreRegisters (replicate n 0)
-    zeros zero = tt
-    zeros (suc n) = (omega arith, zeros n)
-
-    decoded-there : DecodedFrom (r .code) z
-    unfolding registers valueOf tooWide
+    decoded-there : DecodedFrom (r .code) (λ d. decodedInteger d ≡ some z)
     decoded-there =
-        let n = row .most in
-        let first = split n (rawOf row z) in
-        let rest : List ℕ = replicate (4 - n) 0 in
-        let most = four-registers (r .code) row (decodable-up-to (r .code) row is) (row-of-decodable (r .code) row is) in
-        let read : patternIn row registers ≡ rawOf row z =
-        ap join (take-at first rest n (split-length n (rawOf row z))) ∙ join-split n (rawOf row z) (lt-leb _ _ (there .0)) in
-        let number : valueOf row (rawOf row z) ≡ numberOf row (rawOf row z) = simp (valueOf, is-value) in
-        record {
-          registers = registers;
-          four = length-append first rest ∙ omega (arith, split-length n (rawOf row z), length-replicate {A = ℕ} (4 - n) 0, most);
-          all = each-append (λ (x : ℕ). x < 65536) first rest (split-registers n (rawOf row z)) (zeros (4 - n));
-          is =
-              ap decodedInteger (by-row (r .code) registers row is ∙ ap (valueOf row) read ∙ number)
-              ∙ integer-of
-              ∙ ap some (there .1);
-        }
+        from-pattern (r .code) row is (rawOf row z) (there .0) (λ d. decodedInteger d ≡ some z) is-value (integer-of ∙ ap some (there .1))
 
 module _ (r : PrintedRange) where
   by-agreement : (o : Option TypeRow) → decodable (r .code) ≡ o → T (agrees r o)

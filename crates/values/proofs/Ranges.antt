@@ -7,10 +7,10 @@ use native.Mathlib.Decide.{decLe}
 use borrow.Author.Tests.{le-leb, lt-leb, eq-eqb, ne-eqb}
 use lib.Dec.{leb, eqb, leb·zero}
 use lib.IntN.{ℤ, pos, negℤ}
-use lib.Ieee.{binary32, nanBits}
+use lib.Ieee.{Format}
 use Rattle.point_types.specs.Rows.{TypeRow, Kind, signed, unsigned, float, whole, between, notNaN}
 use Rattle.point_types.proofs.Table.{counts-from-zero, signed-range}
-use Rattle.values.specs.Classes.{twosComplement, integer, isBetween, isScaleFactor, inRange, PatternOf}
+use Rattle.values.specs.Classes.{twosComplement, integer, isBetween, isScaleFactor, isNaN, inRange, PatternOf}
 
 module _ (row : TypeRow) (raw : ℕ) where
   pub in-whole : row .range ≡ whole → inRange row raw ≡ true
@@ -21,7 +21,7 @@ module _ (row : TypeRow) (raw : ℕ) where
   unfolding inRange
   in-between low high e = rw e
 
-  pub in-not-nan : row .range ≡ notNaN → inRange row raw ≡ not (nanBits binary32 raw)
+  pub in-not-nan : row .range ≡ notNaN → inRange row raw ≡ not (isNaN (row .kind) raw)
   unfolding inRange
   in-not-nan e = rw e
 
@@ -33,9 +33,9 @@ module _ (row : TypeRow) (raw : ℕ) where
   unfolding integer
   unsigned-integer e = rw e
 
-  pub float-integer : row .kind ≡ float → integer row raw ≡ pos raw
+  pub float-integer : (f : Format) → row .kind ≡ float f → integer row raw ≡ pos raw
   unfolding integer
-  float-integer e = rw e
+  float-integer f e = rw e
 
   pub plain-integer : (row .kind ≡ signed → ⊥) → integer row raw ≡ pos raw
   plain-integer n = go (row .kind) refl
@@ -43,7 +43,7 @@ module _ (row : TypeRow) (raw : ℕ) where
       go : (k : Kind) → row .kind ≡ k → integer row raw ≡ pos raw
       go signed e = absurd (n e)
       go unsigned e = unsigned-integer e
-      go float e = float-integer e
+      go (float f) e = float-integer f e
 
   module _ (p : PatternOf row raw) where
     pub in-up-to : (n : ℕ) → row .range ≡ between (pos 0) (pos n) → inRange row raw ≡ leb raw n

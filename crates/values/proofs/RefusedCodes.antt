@@ -1,33 +1,50 @@
--- Refusal 40, at place 0, is for the codes outside 1–18, and no other code is refused.
-use mathlib.Core.Path.{_≡_, subst}
-use mathlib.Core.Bool.{false}
+-- Refusal 40, at place 0, is for the codes outside 1–18, 21 and 22, and no other code is refused.
+use mathlib.Core.Path.{_≡_, refl, sym, ap, subst, _∙_}
+use mathlib.Core.Logic.{_⊎_, inl, inr}
+use mathlib.Core.Bool.{Bool, true, false, _||_}
 use mathlib.Core.List.{List}
-use mathlib.Core.Option.{none}
-use Prim.Native.Nat.{ℕ, _≤_}
+use mathlib.Core.Option.{Option, none, some}
+use Prim.Native.Nat.{ℕ, _-_, _≤_, _<_}
 use native.Mathlib.Omega.{arith}
 use native.Mathlib.Decide.{decLe}
-use borrow.Author.Tests.{le-leb}
+use borrow.Author.Tests.{le-leb, lt-leb, leb-true, leb-false}
+use lib.Dec.{leb}
+use lib.ListN.{getD}
 use Rattle.lists.proofs.TestOutcomes.{impossible}
-use Rattle.point_types.specs.Rows.{row, rowOf, unsigned, never, whole}
-use Rattle.point_types.proofs.Table.{row-at, no-row-outside}
-use Rattle.values.specs.Decoding.{refused, decodable, decoded}
-use Rattle.values.proofs.ClassCases.{beyond, no-row}
+use Rattle.point_types.specs.Rows.{TypeRow, row, rows, rowOf, unsigned, never, whole}
+use Rattle.point_types.proofs.Table.{row-at, no-row-outside, four-registers}
+use Rattle.values.specs.Decoding.{refused, decoded}
+use Rattle.values.proofs.ClassCases.{no-row, too-long, decodes}
 use Rattle.values.proofs.DecodedCases.{Cases, noRow, cases}
 
 module _ (code : ℕ) (registers : List ℕ) where
-  pub outside-refused : (1 ≤ code → code ≤ 18 → ⊥) → decoded code registers ≡ refused 40 0
-  outside-refused n =
-      elim (decLe code 18) [
-        | yes h ↦ no-row code registers (no-row-outside code (λ l k. n l h))
-        | no h ↦ beyond code registers (omega arith)
-      ]
-
-  pub inside-accepted : 1 ≤ code → code ≤ 18 → (n place : ℕ) → decoded code registers ≡ refused n place → ⊥
-  unfolding decodable
-  inside-accepted l h n place e = go n place (subst (Cases code registers) e (cases code registers))
+  pub outside-refused : (1 ≤ code → code ≤ 18 → ⊥) → (code ≡ 21 → ⊥) → (code ≡ 22 → ⊥) → decoded code registers ≡ refused 40 0
+  outside-refused a b c = go (decLe 1 code) (decLe code 22) (rowOf code) refl
     where
+      long : (r : TypeRow) → rowOf code ≡ some r → code ≤ 22 → 1 ≤ code → 4 < r .most
+      long r e h l =
+          let k : 18 < code = omega (arith, a l) in
+          let m : code < 21 = omega arith in
+          leb-false (r .most) 4 (four-registers code r e ∙ rw (lt-leb code 18 k, lt-leb 21 code m))
+
+      go : Dec (1 ≤ code) → Dec (code ≤ 22) → (o : Option TypeRow) → rowOf code ≡ o → decoded code registers ≡ refused 40 0
+      go (yes l) (yes h) none e = no-row code registers e
+      go (yes l) (yes h) (some r) e = too-long code registers r e (long r e h l)
+      go (yes l) (no h) o e = no-row code registers (no-row-outside code (λ x y. h y))
+      go (no l) d o e = no-row code registers (no-row-outside code (λ x y. l x))
+
+  pub inside-accepted : ((1 ≤ code) × (code ≤ 18)) ⊎ ((code ≡ 21) ⊎ (code ≡ 22)) → (n place : ℕ) → decoded code registers ≡ refused n place → ⊥
+  inside-accepted inside n place e = go n place (subst (Cases code registers) e (cases code registers))
+    where
+      bounds : ((1 ≤ code) × (code ≤ 18)) ⊎ ((code ≡ 21) ⊎ (code ≡ 22)) → (1 ≤ code) × (code ≤ 22) × ((leb code 18 || leb 21 code) ≡ true)
+      bounds (inl h) = (h .0, omega (arith, h .1), rw (le-leb code 18 (h .1)))
+      bounds (inr (inl h)) = (omega (arith, h), omega (arith, h), rw h)
+      bounds (inr (inr h)) = (omega (arith, h), omega (arith, h), rw h)
+
       go : (m p : ℕ) → Cases code registers (refused m p) → ⊥
-      go m p (noRow is) =
-          let r : rowOf code ≡ none = simp (decodable, le-leb _ _ l, le-leb _ _ h) at is in
-          let s = row-at (row 0 0 0 false unsigned never whole) code l (omega arith) in
+      go m p (noRow q) =
+          let b = bounds inside in
+          let is = row-at (row 0 0 0 false unsigned never whole) code (b .0) (b .1) in
+          let most = leb-true _ 4 (four-registers code _ is ∙ b .2) in
+          let r = decodes code _ is most in
           impossible (cc)

@@ -3,9 +3,9 @@ use mathlib.Core.Path.{_≡_, refl, ap, subst, _∙_}
 use mathlib.Core.List.{List}
 use mathlib.Core.Bool.{not}
 use mathlib.Core.Option.{some}
-use Prim.Native.Nat.{ℕ, _*_, _^_, _<_}
+use Prim.Native.Nat.{ℕ, _*_, _<_}
 use lib.Dec.{T}
-use lib.Ieee.{binary32, ofBits, isNan}
+use lib.Ieee.{top, ofBits, isNan}
 use lib.Ieee.Bits.{toBits-ofBits, nanBits-is}
 use lib.ListN.{length, take}
 use Rattle.registers.specs.Registers.{AreRegisters, split}
@@ -17,7 +17,7 @@ use Rattle.values.specs.Classes.{Class, width, classOf, PatternOf}
 use Rattle.values.specs.Decoding.{patternIn, Decoded, decodable, decoded}
 use Rattle.values.specs.Encoding.{rawValueOf, encoded}
 use Rattle.values.proofs.TwosComplement.{pattern-back}
-use Rattle.values.proofs.ClassCases.{row-of-decodable, decodable-up-to}
+use Rattle.values.proofs.ClassCases.{row-of-decodable, decodable-most}
 use Rattle.values.proofs.DecodedCases.{ResultOf, asSigned, asUnsigned, asFloat, asUnimplemented, asOutOfRange, Cases, byRow, noRow, cases}
 use Rattle.values.proofs.FoundRow.{pattern-of, first-length}
 use Rattle.values.proofs.NoNaN.{no-nan-pattern}
@@ -27,17 +27,17 @@ raw-back : (row : TypeRow) (raw : ℕ) (d : Decoded) → PatternOf row raw → R
     → rawValueOf row d ≡ some raw
 raw-back row raw d p (asSigned k v) e = ap some (pattern-back (width row) raw (p .fits))
 raw-back row raw d p (asUnsigned k v) e = refl
-raw-back row raw d p (asFloat k v) e =
-    let h : raw < 2 ^ 32 = rw (ap (λ (m : ℕ). 2 ^ (16 * m)) (float-row row (p .listed) k .0)) at (p .fits) in
-    let n : T (not (isNan (ofBits binary32 raw))) = rw (← nanBits-is binary32 raw, no-nan-pattern row raw (p .listed) k v) tt in
-    ap some (toBits-ofBits binary32 raw h n)
+raw-back row raw d p (asFloat f k v) e =
+    let h : raw < 2 * top f = rw (float-row row (p .listed) f k .0) at (p .fits) in
+    let n : T (not (isNan (ofBits f raw))) = rw (← nanBits-is f raw, no-nan-pattern row raw f (p .listed) k v) tt in
+    ap some (toBits-ofBits f raw h n)
 raw-back row raw d p (asUnimplemented v) e = cc
 raw-back row raw d p (asOutOfRange v) e = cc
 
 module _ (code : ℕ) (registers : List ℕ) (four : length registers ≡ 4) (all : AreRegisters registers) where
   pub holds-pattern : (row : TypeRow) → decodable code ≡ some row → PatternOf row (patternIn row registers)
   holds-pattern row e =
-      pattern-of code registers row four (decodable-up-to code row e) (row-of-decodable code row e) (patternIn row registers)
+      pattern-of code registers row four (decodable-most code row e) (row-of-decodable code row e) (patternIn row registers)
       (join-bound (take (row .most) registers) (first-registers (row .most) registers all))
 
   -- The claim: if the registers hold a value, encoding the result gives the registers that were read.
@@ -49,7 +49,7 @@ module _ (code : ℕ) (registers : List ℕ) (four : length registers ≡ 4) (al
       back : split (row .most) (patternIn row registers) ≡ take (row .most) registers
       back =
           ap (λ (k : ℕ). split k (patternIn row registers))
-          (first-length code registers row four (decodable-up-to code row e) (row-of-decodable code row e))
+          (first-length code registers row four (decodable-most code row e) (row-of-decodable code row e))
           ∙ split-join (take (row .most) registers) (first-registers (row .most) registers all)
 
       go : {d : Decoded} → Cases code registers d → encoded row d ≡ some (take (row .most) registers)

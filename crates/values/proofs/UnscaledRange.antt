@@ -30,10 +30,10 @@ module _ (row : TypeRow) (l : Listed row) (four : row .most ≤ 4) (raw : ℕ) (
   integer-within = go (row .kind) refl
     where
       go : (k : Kind) → row .kind ≡ k
-          → Within64 (elim k [ signed ↦ twosComplement (width row) raw | unsigned ↦ pos raw | float ↦ pos raw ])
+          → Within64 (elim k [ signed ↦ twosComplement (width row) raw | unsigned ↦ pos raw | float f ↦ pos raw ])
       go signed e = signed-within e
       go unsigned e = within
-      go float e = within
+      go (float f) e = within
 
 -- P holds of the unscaled integer, if there is one.
 abbrev Holds : (ℤ → Type 0) → Unscaled → Type 0

@@ -5,9 +5,9 @@ use Prim.Native.Nat.{ℕ, _-_, _*_, _^_, _<_}
 use lib.Dec.{eqb, ltb}
 use lib.IntN.{ℤ, pos, negℤ, _-ℤ_}
 use lib.Signed.{leZ}
-use lib.Ieee.{binary32, nanBits}
+use lib.Ieee.{nanBits}
 use Rattle.registers.specs.Registers as registers
-use Rattle.point_types.specs.Rows.{TypeRow, rowOf, Listed, signed, unsigned, float, Unimplemented, never, pattern, whole, between, notNaN}
+use Rattle.point_types.specs.Rows.{TypeRow, rowOf, Listed, Kind, signed, unsigned, float, Unimplemented, never, pattern, whole, between, notNaN}
 
 -- The number of a pattern of `bits` bits in two's complement (document 000, 6.4).
 unfoldable pub twosComplement : ℕ → ℕ → ℤ
@@ -21,7 +21,7 @@ width row = 16 * row .most
 -- The integer of a pattern by its type's kind. (For a float the value here does not matter: its range is not one of integers.)
 unfoldable pub integer : TypeRow → ℕ → ℤ
 integer row raw =
-    elim (row .kind) [ signed ↦ twosComplement (width row) raw | unsigned ↦ pos raw | float ↦ pos raw ]
+    elim (row .kind) [ signed ↦ twosComplement (width row) raw | unsigned ↦ pos raw | float f ↦ pos raw ]
 
 -- Is the raw value the type's unimplemented pattern (document 01: "not given")?
 abbrev pub isUnimplemented : Unimplemented → ℕ → Bool
@@ -36,13 +36,19 @@ isBetween low high z = leZ low z && leZ z high
 abbrev pub isScaleFactor : ℤ → Bool
 isScaleFactor z = isBetween (negℤ (pos 10)) (pos 10) z
 
--- Is the raw value in its type's range? For float32: every pattern but a NaN's, so infinities and negative zero too.
+-- Is the raw value the pattern of a NaN, of any sign and payload, in the format of its type's kind? Integers have none.
+abbrev pub isNaN : Kind → ℕ → Bool
+isNaN signed raw = false
+isNaN unsigned raw = false
+isNaN (float f) raw = nanBits f raw
+
+-- Is the raw value in its type's range? For a float: every pattern but a NaN's, so infinities, negative zero and subnormals too.
 unfoldable pub inRange : TypeRow → ℕ → Bool
 inRange row raw =
     elim (row .range) [
       | whole ↦ true
       | between low high ↦ isBetween low high (integer row raw)
-      | notNaN ↦ not (nanBits binary32 raw)
+      | notNaN ↦ not (isNaN (row .kind) raw)
     ]
 
 -- Document 01's three kinds of pattern: a value, not given, out of range.

@@ -1,6 +1,7 @@
 -- What the code's types stand for: the results of the public calls in document 01's terms.
 use mathlib.Core.Bool.{not}
 use lib.IntN.{ℤ, natAbs}
+use lib.Ieee.{binary32, binary64}
 use lib.Signed.{nonNeg}
 use Rattle.values.specs.Classes as Classes
 use Rattle.values.specs.Decoding as Decoding
@@ -10,11 +11,12 @@ use Rattle.values.specs.declared.Class.{Class}
 use Rattle.values.specs.declared.Classified.{Classified}
 use Rattle.values.specs.declared.UnscaledValue.{UnscaledValue}
 
--- The result of `decode`. `NotDecodable` is refusal 40 at place 0: the code is not 1–18.
+-- The result of `decode`. `NotDecodable` is refusal 40 at place 0: the code is not 1–18, 21 or 22.
 abbrev pub toSpecValue : Value → Decoding.Decoded
 toSpecValue (Value.Signed z) = Decoding.signed z
 toSpecValue (Value.Unsigned n) = Decoding.unsigned n
-toSpecValue (Value.Float x) = Decoding.float x
+toSpecValue (Value.Float x) = Decoding.float binary32 x
+toSpecValue (Value.Double x) = Decoding.float binary64 x
 toSpecValue Value.Unimplemented = Decoding.unimplemented
 toSpecValue Value.OutOfRange = Decoding.outOfRange
 toSpecValue Value.NotDecodable = Decoding.refused 40 0

@@ -3,7 +3,7 @@ use mathlib.Core.List.{List}
 use mathlib.Core.Option.{Option, none, some}
 use Prim.Native.Nat.{ℕ, suc, _-_, _^_}
 use lib.IntN.{ℤ, pos, negsuc}
-use lib.Ieee.{binary32, toBits}
+use lib.Ieee.{toBits}
 use Rattle.registers.specs.Registers.{split}
 use Rattle.point_types.specs.Rows.{TypeRow}
 use Rattle.values.specs.Classes.{width}
@@ -18,7 +18,7 @@ twosPattern bits (negsuc n) = 2 ^ bits - suc n
 abbrev pub rawValueOf : TypeRow → Decoded → Option ℕ
 rawValueOf row (signed z) = some (twosPattern (width row) z)
 rawValueOf row (unsigned n) = some n
-rawValueOf row (float x) = some (toBits binary32 x)
+rawValueOf row (float f x) = some (toBits f x)
 rawValueOf row unimplemented = none
 rawValueOf row outOfRange = none
 rawValueOf row (refused n place) = none

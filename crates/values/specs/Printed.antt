@@ -1,12 +1,16 @@
--- The integers that document 000 prints as the values of its types (6.4.1 to 6.4.3 and 6.4.8): the range of the type, less the
--- value printed as not implemented or not accumulated. The range includes that value for acc16, acc32 and acc64 (0) and for uint64
--- (its upper end; document 01: "not given wins"). One misprint is corrected: a digit is missing from bitfield32's upper end.
--- raw16 and ipaddr are not in the table: no range is printed for them. Nor is float32: its range is that of IEEE 754.
+-- What document 000 prints as the values of its types (6.4.1 to 6.4.3 and 6.4.6 to 6.4.8). Of integers it is the range of the type,
+-- less the value printed as not implemented or not accumulated. The range includes that value for acc16, acc32 and acc64 (0) and for
+-- uint64 (its upper end; document 01: "not given wins"). One misprint is corrected: a digit is missing from bitfield32's upper end.
+-- bitfield64 is named, without a range: change request 1 gives it that of the narrower bitfields. Of floats it is what IEEE 754 has.
+-- raw16 and ipaddr are not in the tables: no range is printed for them.
 use mathlib.Core.Path.{_≡_}
+use mathlib.Core.Bool.{not}
 use mathlib.Core.Logic.{_↔_}
 use mathlib.Core.List.{List, [], _∷_}
 use mathlib.Core.Option.{Option, none, some}
 use Prim.Native.Nat.{ℕ}
+use lib.Dec.{T}
+use lib.Ieee.{Format, binary32, binary64, Float, fits, isNan}
 use lib.IntN.{ℤ, pos, negℤ}
 use lib.ListN.{length}
 use lib.Signed.{_≤ℤ_}
@@ -44,6 +48,7 @@ printed =
     ∷ around 16 9223372036854775807
     ∷ fromTo 17 0 18446744073709551614  -- printed: 18,446,744,073,709,551,615, the not-implemented value
     ∷ fromTo 18 1 9223372036854775807  -- printed: 0 ... 9223372036854775807, and 0 as not accumulated
+    ∷ fromTo 21 0 0x7FFFFFFFFFFFFFFF  -- not printed: change request 1
     ∷ []
 
 -- An integer from the least to the greatest.
@@ -54,7 +59,7 @@ InPrinted r z = (r .least ≤ℤ z) × (z ≤ℤ r .greatest)
 abbrev pub Within : PrintedRange → Decoded → Type 0
 Within r (signed z) = InPrinted r z
 Within r (unsigned n) = InPrinted r (pos n)
-Within r (float x) = ⊥
+Within r (float f x) = ⊥
 Within r unimplemented = Unit {0}
 Within r outOfRange = Unit {0}
 Within r (refused n place) = ⊥
@@ -63,18 +68,45 @@ Within r (refused n place) = ⊥
 abbrev pub decodedInteger : Decoded → Option ℤ
 decodedInteger (signed z) = some z
 decodedInteger (unsigned n) = some (pos n)
-decodedInteger (float x) = none
+decodedInteger (float f x) = none
 decodedInteger unimplemented = none
 decodedInteger outOfRange = none
 decodedInteger (refused n place) = none
 
--- Four registers that are decoded as the integer z under a type code.
-pub record DecodedFrom (code : ℕ) (z : ℤ) : Type 0 where
+-- Four registers that are decoded, under a type code, as a result of which `Is` holds.
+pub record DecodedFrom (code : ℕ) (Is : Decoded → Type 0) : Type 0 where
   pub registers : List ℕ
   pub four : length registers ≡ 4
   pub all : AreRegisters registers
-  pub is : decodedInteger (decoded code registers) ≡ some z
+  pub is : Is (decoded code registers)
 
 -- The values of a type are the printed integers: z is decoded from some registers if and only if it is in the range.
 abbrev pub DecodedAsPrinted : PrintedRange → Type 0
-DecodedAsPrinted r = (z : ℤ) → DecodedFrom (r .code) z ↔ InPrinted r z
+DecodedAsPrinted r = (z : ℤ) → DecodedFrom (r .code) (λ d. decodedInteger d ≡ some z) ↔ InPrinted r z
+
+-- ---- Floats
+
+-- A float type's code and its format of IEEE 754.
+pub record PrintedFormat : Type 0 where
+  pub code : ℕ
+  pub format : Format
+
+unfoldable pub printedFormats : List PrintedFormat
+printedFormats = record { code = 14; format = binary32 } ∷ record { code = 22; format = binary64 } ∷ []
+
+-- A number of a format: an infinity, or a finite number that the format holds, with either sign.
+abbrev pub NumberIn : Format → Float → Type 0
+NumberIn f x = T (fits f x) × T (not (isNan x))
+
+-- What was decoded is a number of the format, or there is no value. None of these types is an integer or refused.
+abbrev pub WithinFormat : PrintedFormat → Decoded → Type 0
+WithinFormat r (signed z) = ⊥
+WithinFormat r (unsigned n) = ⊥
+WithinFormat r (float f x) = (f ≡ r .format) × NumberIn f x
+WithinFormat r unimplemented = Unit {0}
+WithinFormat r outOfRange = Unit {0}
+WithinFormat r (refused n place) = ⊥
+
+-- The values of a float type are the numbers of its format: x is decoded from some registers if and only if it is one.
+abbrev pub DecodedAsFormat : PrintedFormat → Type 0
+DecodedAsFormat r = (x : Float) → DecodedFrom (r .code) (λ d. d ≡ float (r .format) x) ↔ NumberIn (r .format) x

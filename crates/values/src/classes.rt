@@ -1,14 +1,15 @@
 // The class of a raw value under its type.
 ghost use mathlib.Core.Path.{_≡_};
-ghost use mathlib.Core.Bool.{not};
-ghost use lib.Ieee.{binary32, nanBits};
+ghost use lib.Ieee.{nanBits};
 ghost use Rattle.point_types.specs.Rows.{Listed};
-ghost use Rattle.point_types.specs.CodeTypes.{toSpecUnimplemented, toSpecRow};
-ghost use Rattle.values.specs.Classes.{PatternOf, ofClass, twosComplement, isUnimplemented, inRange, isScaleFactor, isValue, classOf, classified};
+ghost use Rattle.point_types.specs.CodeTypes.{toSpecFormat, toSpecKind, toSpecUnimplemented, toSpecRow};
+ghost use Rattle.values.specs.Classes.{PatternOf, ofClass, twosComplement, isUnimplemented, inRange, isScaleFactor, isNaN, isValue, classOf, classified};
 ghost use Rattle.values.specs.CodeTypes.{toSpecClass, toSpecClassified};
 use crate::Class;
 use crate::Classified;
+use point_types::Format;
 use point_types::Found;
+use point_types::Kind;
 use point_types::Range;
 use point_types::TypeRow;
 use point_types::Unimplemented;
@@ -96,13 +97,14 @@ fn in_range(row: TypeRow, raw: u64) -> bool
     requires { ⌜ PatternOf (toSpecRow row) raw ⌝ }
     ensures { λ r. ⌜ r ≡ inRange (toSpecRow row) raw ⌝ }
 {
+    let kind = row.kind;
     let range = row.range;
     match range {
         Range::Whole => true,
         Range::UpTo(high) => raw <= high,
         Range::Only(pattern) => raw == pattern,
         Range::ScaleFactor => scale_factor_in_range(raw as u16),
-        Range::NotNan => not_nan(raw),
+        Range::NotNan => !is_nan(kind, raw),
     }
 }
 
@@ -116,14 +118,23 @@ pub fn scale_factor_in_range(scale: u16) -> bool
     0xFFF6 <= scale
 }
 
-// A binary32 pattern is a NaN's if its exponent is all ones and its fraction is not 0.
-fn not_nan(raw: u64) -> bool
-    ensures { λ r. ⌜ r ≡ not (nanBits binary32 raw) ⌝ }
+// Is it the pattern of a NaN of its type's kind? Integers have none.
+fn is_nan(kind: Kind, raw: u64) -> bool
+    ensures { λ r. ⌜ r ≡ isNaN (toSpecKind kind) raw ⌝ }
 {
-    let exponent = raw % 0x80000000 / 0x800000;
-    let fraction = raw % 0x800000;
-    if exponent == 255 {
-        return fraction == 0;
+    match kind {
+        Kind::Signed => false,
+        Kind::Unsigned => false,
+        Kind::Float(format) => is_nan_pattern(format, raw),
     }
-    true
+}
+
+// Is it the pattern of a NaN? Then, without its sign, it is above infinity's.
+fn is_nan_pattern(format: Format, raw: u64) -> bool
+    ensures { λ r. ⌜ r ≡ nanBits (toSpecFormat format) raw ⌝ }
+{
+    match format {
+        Format::Binary32 => 0x7F800000 < raw % 0x80000000,
+        Format::Binary64 => 0x7FF0000000000000 < raw % 0x8000000000000000,
+    }
 }

@@ -8,6 +8,7 @@ use classes::class_in;
 pub use classes::classify;
 pub use classes::is_value;
 pub use classes::scale_factor_in_range;
+use point_types::Format;
 use point_types::Found;
 use point_types::Kind;
 use point_types::TypeRow;
@@ -16,10 +17,12 @@ use registers::all_ones;
 use registers::raw_value;
 pub use unscaled::unscaled_value;
 ghost use mathlib.Core.Path.{_≡_};
+ghost use mathlib.Core.Bool.{false};
 ghost use Prim.Native.Nat.{_*_, _-_, _^_, _≤_, _<_};
-ghost use Rattle.point_types.specs.CodeTypes.{toSpecRow};
+ghost use lib.Ieee.{top, nanBits, ofBits};
+ghost use Rattle.point_types.specs.CodeTypes.{toSpecFormat, toSpecRow};
 ghost use Rattle.values.specs.Classes.{PatternOf, twosComplement, classOf, value};
-ghost use Rattle.values.specs.Decoding.{numberOf, valueOf, decoded};
+ghost use Rattle.values.specs.Decoding.{float, numberOf, valueOf, decoded};
 ghost use Rattle.values.specs.CodeTypes.{toSpecValue};
 
 // A pattern of a type is a value, marks the point as unimplemented, or is out of the type's range.
@@ -38,11 +41,12 @@ pub enum Classified {
 }
 
 // The result of `decode`: a number, or why there is none. NotDecodable is refusal 40 at place 0: the code is
-// not 1–18. (string and ipv6addr are types, but may take more than four registers.)
+// not 1–18, 21 or 22. (string and ipv6addr are types, but may take more than four registers.)
 pub enum Value {
     Signed(i64),
     Unsigned(u64),
     Float(f32),
+    Double(f64),
     Unimplemented,
     OutOfRange,
     NotDecodable,
@@ -60,12 +64,12 @@ pub enum UnscaledValue {
 pub fn decode(type_code: u16, registers: [u16; 4]) -> Value
     ensures { λ r. ⌜ toSpecValue r ≡ decoded «type_code» registers ⌝ }
 {
-    if 18 < type_code {
-        return Value::NotDecodable;
-    }
     let found = row_of(type_code);
     match found {
         Found::Row(row) => {
+            if 4 < row.most {
+                return Value::NotDecodable;
+            }
             let count = row.most as usize;
             let raw = raw_value(&registers[..count]);
             value_of(row, raw)
@@ -97,7 +101,19 @@ fn number_of(row: TypeRow, raw: u64) -> Value
     match kind {
         Kind::Signed => Value::Signed(twos_complement(row.most, raw)),
         Kind::Unsigned => Value::Unsigned(raw),
-        Kind::Float => Value::Float(f32::from_bits(raw as u32)),
+        Kind::Float(format) => float_of(format, raw),
+    }
+}
+
+// The float of a pattern that is no NaN's.
+fn float_of(format: Format, raw: u64) -> Value
+    requires { ⌜ raw < 2 * top (toSpecFormat format) ⌝ }
+    requires { ⌜ nanBits (toSpecFormat format) raw ≡ false ⌝ }
+    ensures { λ r. ⌜ toSpecValue r ≡ float (toSpecFormat format) (ofBits (toSpecFormat format) raw) ⌝ }
+{
+    match format {
+        Format::Binary32 => Value::Float(f32::from_bits(raw as u32)),
+        Format::Binary64 => Value::Double(f64::from_bits(raw)),
     }
 }
 

@@ -45,7 +45,7 @@ fn integer_by_sign(row: TypeRow, raw: u64) -> UnscaledValue
             negative: false,
             magnitude: raw,
         },
-        Kind::Float => UnscaledValue::Of {
+        Kind::Float(_) => UnscaledValue::Of {
             negative: false,
             magnitude: raw,
         },

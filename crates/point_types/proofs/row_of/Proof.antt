@@ -16,6 +16,7 @@ row-of-spec =
     (λ c κs. search needs) (λ c κs. search needs) (λ c κs. search needs) (λ c κs. search needs) (λ c κs. search needs)
     (λ c κs. search needs) (λ c κs. search needs) (λ c κs. search needs) (λ c κs. search needs) (λ c κs. search needs)
     (λ c κs. search needs) (λ c κs. search needs) (λ c κs. search needs) (λ c κs. search needs) (λ c κs. search needs)
+    (λ c κs. search needs) (λ c κs. search needs)
     (λ c. c .row-found .ensures ∙ sym (ap rowOf (c .before .match .keys1)))
     (λ c. c .row-found2 .ensures ∙ sym (ap rowOf (c .before .match .keys2)))
     (λ c. c .row-found3 .ensures ∙ sym (ap rowOf (c .before .match .keys3)))
@@ -36,10 +37,13 @@ row-of-spec =
     (λ c. c .row-found18 .ensures ∙ sym (ap rowOf (c .before .match .keys18)))
     (λ c. c .row-found19 .ensures ∙ sym (ap rowOf (c .before .match .keys19)))
     (λ c. c .row-found20 .ensures ∙ sym (ap rowOf (c .before .match .keys20)))
+    (λ c. c .row-found21 .ensures ∙ sym (ap rowOf (c .before .match .keys21)))
+    (λ c. c .row-found22 .ensures ∙ sym (ap rowOf (c .before .match .keys22)))
     (λ c.
     let r = c .match .rest in
     let k = c .before .args .type-code in
-    let r16 = r .0 .0 .0 .0 in
+    let r20 = r .0 .0 in
+    let r16 = r20 .0 .0 .0 .0 in
     let r12 = r16 .0 .0 .0 .0 in
     let r8 = r12 .0 .0 .0 .0 in
     let r4 = r8 .0 .0 .0 .0 in
@@ -48,4 +52,5 @@ row-of-spec =
     let l9 : 9 ≤ k = omega (arith, l5, r8 .0 .0 .0 .1, r8 .0 .0 .1, r8 .0 .1, r8 .1) in
     let l13 : 13 ≤ k = omega (arith, l9, r12 .0 .0 .0 .1, r12 .0 .0 .1, r12 .0 .1, r12 .1) in
     let l17 : 17 ≤ k = omega (arith, l13, r16 .0 .0 .0 .1, r16 .0 .0 .1, r16 .0 .1, r16 .1) in
-    omega (arith, l17, h, r .0 .0 .0 .1, r .0 .0 .1, r .0 .1, r .1)))))
+    let l21 : 21 ≤ k = omega (arith, l17, r20 .0 .0 .0 .1, r20 .0 .0 .1, r20 .0 .1, r20 .1) in
+    omega (arith, l21, h, r .0 .1, r .1)))))

@@ -1,10 +1,9 @@
--- `number_of` reads the pattern by the type's kind. By the table, a signed type takes at most four registers and a float two, and a
--- value of a float type is no NaN.
+-- `number_of` reads the pattern by the type's kind. By the table, a signed type takes at most four registers, a float has the width
+-- of its format, and a value of a float type is no NaN.
 use mathlib.Core.Path.{ap, _∙_}
-use Prim.Native.Nat.{ℕ, _*_, _^_}
 use mir.Facts.{toZ-ofZ}
 use borrow.Author.Needs.{needs}
-use Rattle.point_types.specs.CodeTypes.{toSpecRow, toSpecKind}
+use Rattle.point_types.specs.CodeTypes.{toSpecFormat, toSpecKind, toSpecRow}
 use Rattle.point_types.proofs.Table.{signed-width, float-row}
 use Rattle.values.specs.Decoding as decoding
 use Rattle.values.specs.Decoding.{numberOf}
@@ -17,16 +16,13 @@ twos-complement-requires c κs =
     let s = c .before .before in
     (signed-width (toSpecRow (s .args .row)) (s .pre .0 .listed) (ap toSpecKind (c .enum-told .given .1)), s .pre .0 .fits)
 
-cast-t6 : tie.Need-cast-t6
-cast-t6 c =
-    let s = c .before .before in
-    let two = float-row (toSpecRow (s .args .row)) (s .pre .0 .listed) (ap toSpecKind (c .enum-told3 .given .1)) .0 in
-    record { fits = rw (ap (λ (k : ℕ). 2 ^ (16 * k)) two) at (s .pre .0 .fits) }
-
-float-from-bits-t7 : tie.Need-float-from-bits-t7
-float-from-bits-t7 c =
-    let s = c .before .before in
-    rw (no-nan-pattern (toSpecRow (s .args .row)) (s .args .raw) (s .pre .0 .listed) (ap toSpecKind (c .enum-told3 .given .1)) (s .pre .1)) tt
+float-of-requires : tie.Need-float-of-requires
+float-of-requires c κs =
+    let s = c .before .before .before in
+    let f = toSpecFormat (c .before .kind .given .0 .0) in
+    let row = toSpecRow (s .args .row) in
+    let k = ap toSpecKind (c .before .kind .given .1) in
+    (rw (float-row row (s .pre .0 .listed) f k .0) at (s .pre .0 .fits), no-nan-pattern row (s .args .raw) f (s .pre .0 .listed) k (s .pre .1))
 
 returns : tie.Need-returns
 unfolding numberOf
@@ -38,6 +34,7 @@ pub number-of-spec : {M : Type 1} → statement M
 unfolding numberOf
 number-of-spec =
     tie.close
-    (tie.spec (λ c. search needs) twos-complement-requires (λ c. search needs) (λ c. search needs) cast-t6 float-from-bits-t7
+    (tie.spec (λ c. search needs) twos-complement-requires (λ c. search needs) (λ c. search needs) float-of-requires
     returns
-    (λ c. simp (numberOf, ap toSpecKind (c .enum-told2 .given .1))) (λ c. simp (numberOf, ap toSpecKind (c .enum-told3 .given .1))))
+    (λ c. simp (numberOf, ap toSpecKind (c .enum-told2 .given .1)))
+    (λ c. c .float-of .ensures ∙ simp (numberOf, ap toSpecKind (c .before .before .kind .given .1))))

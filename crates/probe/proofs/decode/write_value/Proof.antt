@@ -7,7 +7,16 @@ use Rattle.probe.proofs.decode.write_value.Statement.{statement}
 use Rattle.probe.proofs.decode.write_value.Tie as tie
 
 float-to-bits-float : tie.Need-float-to-bits-float
-float-to-bits-float c = let called = c .before .before .before in no-nan (called .before .args .type-code) (called .before .args .registers) _ (sym (called .decode .ensures) ∙ ap toSpecValue (c .before .value3 .given .1))
+float-to-bits-float c =
+    let called = c .before .before .before in
+    no-nan (called .before .args .type-code) (called .before .args .registers) _ _
+    (sym (called .decode .ensures) ∙ ap toSpecValue (c .before .value3 .given .1))
+
+float-to-bits-double : tie.Need-float-to-bits-double
+float-to-bits-double c =
+    let called = c .before .before .before in
+    no-nan (called .before .args .type-code) (called .before .args .registers) _ _
+    (sym (called .decode .ensures) ∙ ap toSpecValue (c .before .value4 .given .1))
 
 pub write-value-spec : {M : Type 1} → statement M
 write-value-spec =
@@ -22,11 +31,15 @@ write-value-spec =
     float-to-bits-float
     (λ c κs. search needs)
     (λ c. search needs)
+    float-to-bits-double
     (λ c κs. search needs)
     (λ c. search needs)
     (λ c κs. search needs)
     (λ c. search needs)
     (λ c κs. search needs)
+    (λ c. search needs)
+    (λ c κs. search needs)
+    (λ c. search needs)
     (λ c. search needs)
     (λ c. search needs)
     (λ c. search needs)

@@ -1,5 +1,6 @@
 -- `in_range` tests each kind of range, by the laws of Ranges.
 use mathlib.Core.Path.{sym, ap, _∙_}
+use mathlib.Core.Bool.{not}
 use borrow.Author.Needs.{needs}
 use Rattle.point_types.specs.CodeTypes.{toSpecRow, toSpecRange}
 use Rattle.values.proofs.Ranges as ranges
@@ -37,7 +38,8 @@ returns-4 c =
 returns-5 : tie.Need-returns-5
 returns-5 c =
     let s = c .before .before .before in
-    c .not-nan .ensures ∙ sym (ranges.in-not-nan (toSpecRow (s .args .row)) (s .args .raw) (ap toSpecRange (c .before .enum-told3 .given .1)))
+    ap not (c .is-nan .ensures)
+    ∙ sym (ranges.in-not-nan (toSpecRow (s .args .row)) (s .args .raw) (ap toSpecRange (c .before .enum-told3 .given .1)))
 
 pub in-range-spec : {M : Type 1} → statement M
 in-range-spec =

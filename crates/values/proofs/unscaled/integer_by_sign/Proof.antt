@@ -27,7 +27,7 @@ returns-2 c =
 returns-3 : tie.Need-returns-3
 returns-3 c =
     let a = c .before .before .args in
-    ap toCodeInteger (sym (float-integer (toSpecRow (a .row)) (a .raw) (ap toSpecKind (c .enum-told3 .given .1))))
+    ap toCodeInteger (sym (float-integer (toSpecRow (a .row)) (a .raw) _ (ap toSpecKind (c .enum-told3 .given .1))))
 
 pub integer-by-sign-spec : {M : Type 1} → statement M
 integer-by-sign-spec =

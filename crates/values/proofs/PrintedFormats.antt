@@ -1,0 +1,131 @@
+-- The values of a float type are the numbers of its format of IEEE 754: no other float is decoded, and each of them is.
+use mathlib.Core.Path.{_≡_, refl, sym, ap, subst, _∙_}
+use mathlib.Core.Bool.{Bool, true, false, not}
+use mathlib.Core.List.{List, [], _∷_}
+use mathlib.Core.Logic.{_↔_}
+use mathlib.Core.Option.{Option, none, some}
+use Prim.Native.Nat.{ℕ, _^_, _<_}
+use borrow.Author.Tests.{ne-eqb, not-true}
+use lib.Dec.{T}
+use lib.Ieee.{Format, binary32, binary64, Float, fits, isNan, nanBits, ofBits, toBits}
+use lib.Ieee.Bits.{ofBits-fits, ofBits-toBits, toBits-lt, nanBits-is}
+use Rattle.lists.specs.Each.{Each}
+use Rattle.lists.proofs.EachLaws.{each-implied}
+use Rattle.lists.proofs.TestOutcomes.{impossible}
+use Rattle.point_types.specs.Rows.{TypeRow, row, Listed, Kind, float, Unimplemented, never, pattern, unsigned, whole, rows, rowAmong}
+use Rattle.point_types.proofs.Table.{listed, float-row}
+use Rattle.values.specs.Classes.{Class, width, isUnimplemented, isNaN, inRange, classOf}
+use Rattle.values.specs.Decoding as decoding
+use Rattle.values.specs.Decoding.{Decoded, patternIn, numberOf, decodable, decoded}
+use Rattle.values.specs.Printed.{PrintedFormat, printedFormats, NumberIn, WithinFormat, DecodedFrom, DecodedAsFormat}
+use Rattle.values.proofs.ThreeClasses.{class-is-its-tests}
+use Rattle.values.proofs.Ranges.{in-not-nan}
+use Rattle.values.proofs.ClassCases.{row-of-decodable}
+use Rattle.values.proofs.DecodedCases.{ResultOf, asSigned, asUnsigned, asFloat, asUnimplemented, asOutOfRange, Cases, byRow, noRow, cases}
+use Rattle.values.proofs.DecodedPatterns.{from-pattern}
+use Rattle.values.proofs.NoNaN.{no-nan}
+
+-- Is the unimplemented pattern a NaN's?
+abbrev isMarkNaN : Format → Unimplemented → Bool
+isMarkNaN f never = true
+isMarkNaN f (pattern p) = nanBits f p
+
+-- The row of a printed format: `decode` takes it, it is a float of the format, and its unimplemented pattern is a NaN's.
+record FormatRow (r : PrintedFormat) : Type 0 where
+  pub row : TypeRow
+  pub is : decodable (r .code) ≡ some row
+  pub kind : row .kind ≡ float (r .format)
+  pub mark : T (isMarkNaN (r .format) (row .unimplemented))
+
+-- The row in an option, or any other.
+abbrev rowIn : Option TypeRow → TypeRow
+rowIn none = row 0 0 0 false unsigned never whole
+rowIn (some r) = r
+
+-- Computed for both.
+format-rows : Each FormatRow printedFormats
+unfolding printedFormats rows rowAmong decodable nanBits
+format-rows = (
+  record { row = rowIn (decodable 14); is = refl; kind = refl; mark = tt },
+  (record { row = rowIn (decodable 22); is = refl; kind = refl; mark = tt }, tt),
+)
+
+module _ (r : PrintedFormat) (found : FormatRow r) where
+  abbrev f : Format
+  f = r .format
+
+  -- Any registers are decoded as a number of the format or as none.
+  within : (registers : List ℕ) → WithinFormat r (decoded (r .code) registers)
+  within registers = go refl (cases (r .code) registers)
+    where
+      by-result : {d : Decoded} → decoded (r .code) registers ≡ d → ResultOf (found .row) (patternIn (found .row) registers) d → WithinFormat r d
+      by-result q (asSigned k v) = let e = found .kind in impossible (cc)
+      by-result q (asUnsigned k v) = let e = found .kind in impossible (cc)
+      by-result q (asFloat g k v) =
+          let e = found .kind in
+          let same : g ≡ r .format = cc in
+          (same, (ofBits-fits g (patternIn (found .row) registers), no-nan (r .code) registers g _ q))
+      by-result q (asUnimplemented v) = tt
+      by-result q (asOutOfRange v) = tt
+
+      go : {d : Decoded} → decoded (r .code) registers ≡ d → Cases (r .code) registers d → WithinFormat r d
+      go {d} q (byRow other e a) =
+          let s : other ≡ found .row = cc in
+          by-result q (subst (λ (x : TypeRow). ResultOf x (patternIn x registers) d) s a)
+      go q (noRow e) = impossible (cc)
+
+  decoded-number : (x : Float) (d : Decoded) → WithinFormat r d → d ≡ decoding.float f x → NumberIn f x
+  decoded-number x d w e = subst (WithinFormat r) e w .1
+
+  -- A number of the format is decoded from the registers of its pattern.
+  module _ (x : Float) (n : NumberIn f x) where
+    abbrev raw : ℕ
+    raw = toBits f x
+
+    is-listed : Listed (found .row)
+    is-listed = listed (r .code) (found .row) (row-of-decodable (r .code) (found .row) (found .is))
+
+    raw-fits : raw < 2 ^ width (found .row)
+    raw-fits = rw (float-row (found .row) is-listed f (found .kind) .0) (toBits-lt f x (n .0))
+
+    back : ofBits f raw ≡ x
+    back = ofBits-toBits f x (n .0)
+
+    no-nan-bits : nanBits f raw ≡ false
+    no-nan-bits = nanBits-is f raw ∙ ap isNan back ∙ not-false' (isNan x) (n .1)
+      where
+        not-false' : (b : Bool) → T (not b) → b ≡ false
+        not-false' true t = absurd t
+        not-false' false t = refl
+
+    implemented : (m : Unimplemented) → T (isMarkNaN f m) → isUnimplemented m raw ≡ false
+    implemented never t = refl
+    implemented (pattern p) t = ne-eqb raw p (λ e. rw (← e, no-nan-bits) at t)
+
+    is-value : classOf (found .row) raw ≡ Class.value
+    is-value =
+        let range : inRange (found .row) raw ≡ true =
+        in-not-nan (found .row) raw (float-row (found .row) is-listed f (found .kind) .1)
+        ∙ ap (λ (k : Kind). not (isNaN k raw)) (found .kind)
+        ∙ ap not no-nan-bits in
+        class-is-its-tests (found .row) raw Class.value .1 (implemented (found .row .unimplemented) (found .mark), range)
+
+    decoded-there : DecodedFrom (r .code) (λ d. d ≡ decoding.float f x)
+    unfolding numberOf
+    decoded-there =
+        let number : numberOf (found .row) raw ≡ decoding.float f x = simp (numberOf, found .kind) (ap (decoding.float f) back) in
+        from-pattern (r .code) (found .row) (found .is) raw raw-fits (λ d. d ≡ decoding.float f x) is-value number
+
+-- ---- The claims
+
+-- A float is decoded from some registers if and only if it is a number of the format: for both types.
+pub decoded-as-format : Each DecodedAsFormat printedFormats
+decoded-as-format =
+    each-implied FormatRow DecodedAsFormat
+    (λ r found x. (λ d. decoded-number r found x (decoded (r .code) (d .registers)) (within r found (d .registers)) (d .is), decoded-there r found x))
+    printedFormats format-rows
+
+-- Any registers are decoded as a number of the format, or as unimplemented or out of range.
+pub within-formats : (registers : List ℕ) → Each (λ r. WithinFormat r (decoded (r .code) registers)) printedFormats
+within-formats registers =
+    each-implied FormatRow (λ r. WithinFormat r (decoded (r .code) registers)) (λ r found. within r found registers) printedFormats format-rows
