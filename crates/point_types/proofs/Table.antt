@@ -2,7 +2,7 @@
 use mathlib.Core.Path.{_≡_, refl, sym, ap, subst, _∙_}
 use mathlib.Core.Bool.{Bool, true, false, not, _&&_, _||_, Bool·beq}
 use mathlib.Core.List.{List, [], _∷_}
-use mathlib.Core.Option.{none, some}
+use mathlib.Core.Option.{Option, none, some}
 use Prim.Native.Nat.{ℕ, zero, suc, _+_, _-_, _*_, _^_, _≤_, _<_}
 use native.Mathlib.Nat.{add-zero, add-suc, suc-add}
 use native.Mathlib.Omega.{arith}
@@ -14,7 +14,7 @@ use lib.Ieee.{Format, top}
 use lib.Ieee.Fits.{and-l, and-r}
 use Rattle.lists.specs.Tests.{every}
 use Rattle.lists.proofs.TestOutcomes.{impossible}
-use Rattle.point_types.specs.Rows.{TypeRow, Kind, signed, unsigned, float, Unimplemented, never, pattern, Range, whole, between, notNaN, rows, rowAmong, rowOf, Listed}
+use Rattle.point_types.specs.Rows.{TypeRow, row, Kind, signed, unsigned, float, Unimplemented, never, pattern, Range, whole, between, notNaN, rows, rowAmong, rowOf, Listed}
 
 -- The row found has the search code, and passes a test that every row of the list passes.
 found-among : (test : TypeRow → Bool) (rs : List TypeRow) (c : ℕ) (r : TypeRow) → T (every test rs) → rowAmong rs c ≡ some r
@@ -81,6 +81,11 @@ none-outside (r ∷ rs) c t n =
 pub no-row-outside : (c : ℕ) → (1 ≤ c → c ≤ 22 → ⊥) → rowOf c ≡ none
 unfolding rows
 no-row-outside c n = none-outside rows c tt n
+
+-- The row in an option, for a code whose row is computed; any row if there is none.
+abbrev pub rowIn : Option TypeRow → TypeRow
+rowIn none = row 0 0 0 false unsigned never whole
+rowIn (some r) = r
 
 -- ---- Facts about each row
 

@@ -68,6 +68,13 @@ pub enum RegisterCount {
     UnknownType,
 }
 
+// Patterns of 64 bits in the table: all ones, all ones but the highest bit, and float64's NaN.
+const ONES_64: u64 = 0xFFFFFFFFFFFFFFFF;
+
+const ONES_63: u64 = 0x7FFFFFFFFFFFFFFF;
+
+const NAN_64: u64 = 0x7FF8000000000000;
+
 // The row of a type code.
 pub fn row_of(type_code: u16) -> Found
     ensures { λ r. ⌜ toSpecFound r ≡ rowOf «type_code» ⌝ }
@@ -89,12 +96,12 @@ pub fn row_of(type_code: u16) -> Found
         14 => row_found(14, 2, 2, false, Float(Binary32), At(0x7FC00000), NotNan), // float32
         15 => row_found(15, 2, 2, false, Unsigned, At(0), Whole), // ipaddr
         16 => row_found(16, 4, 4, true, Signed, At(0x8000000000000000), Whole), // int64
-        17 => row_found(17, 4, 4, true, Unsigned, At(0xFFFFFFFFFFFFFFFF), Whole), // uint64
-        18 => row_found(18, 4, 4, true, Unsigned, At(0), UpTo(0x7FFFFFFFFFFFFFFF)), // acc64
+        17 => row_found(17, 4, 4, true, Unsigned, At(ONES_64), Whole), // uint64
+        18 => row_found(18, 4, 4, true, Unsigned, At(0), UpTo(ONES_63)), // acc64
         19 => row_found(19, 1, 64, false, Unsigned, At(0), Whole), // string
         20 => row_found(20, 8, 8, false, Unsigned, At(0), Whole), // ipv6addr
-        21 => row_found(21, 4, 4, false, Unsigned, At(0xFFFFFFFFFFFFFFFF), UpTo(0x7FFFFFFFFFFFFFFF)), // bitfield64
-        22 => row_found(22, 4, 4, false, Float(Binary64), At(0x7FF8000000000000), NotNan), // float64
+        21 => row_found(21, 4, 4, false, Unsigned, At(ONES_64), UpTo(ONES_63)), // bitfield64
+        22 => row_found(22, 4, 4, false, Float(Binary64), At(NAN_64), NotNan), // float64
         _ => Found::Nothing,
     }
 }

@@ -12,13 +12,13 @@ use borrow.Author.Tests.{eqb-true, eqb-false, ne-eqb, le-leb, lt-leb, leb-true}
 use lib.Dec.{leb}
 use lib.ListN.{length, getD, take, drop, length-drop, take-append-drop}
 use lib.Seq.{length-take-le}
-use Rattle.lists.proofs.TestOutcomes.{impossible, clash, both}
+use Rattle.lists.proofs.TestOutcomes.{clash, both}
 use Rattle.lists.proofs.EachLaws.{each-parts, each-drop}
 use Rattle.registers.specs.Registers.{AreRegisters, join, allZero, tooWide}
 use Rattle.registers.proofs.Joining.{sixteen-each}
 use Rattle.registers.proofs.RegisterParts.{zero-joined}
 use Rattle.registers.proofs.Splitting.{join-bound}
-use Rattle.point_types.specs.Rows.{TypeRow, pattern, whole, rows, rowAmong, rowOf, registersOf}
+use Rattle.point_types.specs.Rows.{TypeRow, rowOf, registersOf}
 use Rattle.point_types.proofs.Table.{wide-row}
 use Rattle.values.specs.Classes.{Class, value, isUnimplemented, inRange, classOf, Classified, ofClass, classified}
 use Rattle.values.proofs.ClassCases.{in-range, of-class}

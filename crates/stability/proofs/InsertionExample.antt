@@ -1,13 +1,15 @@
--- Insertion on an example: a map with models 1 and 7, two unknown models inserted after model 1 and one after model 7.
+-- Insertion on two examples: a map with models 1 and 7, two unknown models inserted after model 1 and one after model 7; and a battery
+-- with a bitfield64 and a float64, an unknown model inserted before it.
 use mathlib.Core.Path.{_≡_, refl, sym, ap, _∙_}
 use mathlib.Core.List.{List, [], _∷_}
-use Prim.Native.Nat.{ℕ, _≤_}
+use Prim.Native.Nat.{ℕ, _+_, _≤_}
 use native.Mathlib.Omega.{arith}
 use lib.ListN.{length, replicate}
+use lib.Ieee.{nanBits}
 use Rattle.lists.specs.Each.{Each}
 use Rattle.registers.specs.Registers.{join, shownRaw, tooWide}
 use Rattle.point_types.specs.Rows.{rows, rowAmong, registersOf}
-use Rattle.values.specs.Classes.{inRange, classOf, classified}
+use Rattle.values.specs.Classes.{integer, inRange, classOf, classified}
 use Rattle.catalog_frames.specs.Frames.{frameOf, framesFrom}
 use Rattle.frame_rules.specs.FrameTests.{isSizeOf}
 use Rattle.catalog.specs.Checking.{checkFrom, checked}
@@ -146,3 +148,78 @@ pub refusals-moved : (movedResult 2 gaps (refusedResult 28 5 1 0) ≡ refusedRes
     × (movedResult 2 gaps (refusedResult 7 4 0 0) ≡ refusedResult 7 4 0 0)
 unfolding gapsBefore movedResult
 refusals-moved = (refl, refl, refl)
+
+-- ---- A battery: model 64920 with the points 1, a bitfield64, and 2, a float64
+
+abbrev batteryCatalog : List ℕ
+batteryCatalog =
+    1 ∷ 64920 ∷ 0 ∷ 0 ∷ 0 ∷ 0 ∷ 0 ∷ 0
+    ∷ 3 ∷ 1 ∷ 21 ∷ 4 ∷ 0 ∷ 0 ∷ 1 ∷ 0
+    ∷ 3 ∷ 2 ∷ 22 ∷ 4 ∷ 0 ∷ 0 ∷ 1 ∷ 0
+    ∷ 4 ∷ 0 ∷ 0 ∷ 0 ∷ 0 ∷ 0 ∷ 0 ∷ 0
+    ∷ []
+
+-- Events 62 and 0, and 1.5 kWh.
+abbrev battery : List ℕ
+battery = 0x5375 ∷ 0x6E53 ∷ 1 ∷ 1 ∷ 40 ∷ 64920 ∷ 8 ∷ 0x4000 ∷ 0 ∷ 0 ∷ 1 ∷ 0x3FF8 ∷ 0 ∷ 0 ∷ 0 ∷ 0xFFFF ∷ 0 ∷ []
+
+-- An unknown model of 3 registers after the common model: 2 + 3 more.
+abbrev batteryGaps : List (List Model)
+batteryGaps = (record { id = 9; body = 1 ∷ 2 ∷ 3 ∷ [] } ∷ []) ∷ []
+
+abbrev batteryLonger : List ℕ
+batteryLonger =
+    0x5375 ∷ 0x6E53 ∷ 1 ∷ 1 ∷ 40 ∷ 9 ∷ 3 ∷ 1 ∷ 2 ∷ 3 ∷ 64920 ∷ 8 ∷ 0x4000 ∷ 0 ∷ 0 ∷ 1 ∷ 0x3FF8 ∷ 0 ∷ 0 ∷ 0 ∷ 0xFFFF ∷ 0 ∷ []
+
+pub battery-is-longer : lengthened battery batteryGaps ≡ batteryLonger
+unfolding scanFrom scan placed lengthened Scan.modelRegisters
+battery-is-longer = refl
+
+-- The two records, of a battery with this index and this address of its first register.
+abbrev batteryRecords : ℕ → ℕ → List Record
+batteryRecords index address =
+    let at : ℕ → ℕ → ℕ → ℕ → Record = λ number typeCode offset raw.
+    record {
+      index = index;
+      id = 64920;
+      address = address + offset;
+      point =
+          record {
+            offset = offset;
+            definition =
+                record { number = number; typeCode = typeCode; size = 4; scaleKind = 0; scale = 0; mandatory = 1; access = 0 };
+            level2 = 0;
+            level3 = 0;
+            level4 = 0;
+            status = 0;
+            raw = raw;
+            scale = 0;
+          };
+    } in
+    at 1 21 0 0x4000000000000001 ∷ at 2 22 4 0x3FF8000000000000 ∷ []
+
+pub battery-old : listing batteryCatalog battery 20 ≡ listed (batteryRecords 1 7) 3
+unfolding rows rowAmong registersOf join shownRaw tooWide integer inRange classOf classified nanBits
+    frameOf framesFrom isSizeOf checkFrom checked parsed opening scanFrom scan
+    pointAt within measured fillMeasured countUnimplemented fits fillOf pointsAt groupsBy entered contentAt
+    endsWithPad readFull readBy topOf reading walk recordsBy allRecords withCapacity listing
+battery-old = refl
+
+battery-whole : MadeOfWholeModels battery
+unfolding MadeOfWholeModels frameOf framesFrom checkFrom checked parsed opening scanFrom scan topOf reading walk recordsBy allRecords withCapacity listing
+battery-whole = (3, refl)
+
+battery-unknown : Each (Each (UnknownModel batteryCatalog)) batteryGaps
+unfolding frameOf framesFrom
+battery-unknown = ((record { wellFormed = well 9 1 (2 ∷ 3 ∷ []) (λ q. omega arith) (λ q. omega arith); notKnown = refl }, tt), tt)
+
+battery-moved : movedAnswer (length (scan battery .models)) batteryGaps (listed (batteryRecords 1 7) 3) ≡ listed (batteryRecords 2 12) 4
+unfolding scanFrom scan movedAnswer gapsBefore
+battery-moved = refl
+
+-- Both points have moved by 5 registers, and the model's index by 1; status, raw value and scale factor are the same.
+pub battery-new : listing batteryCatalog batteryLonger 20 ≡ listed (batteryRecords 2 12) 4
+battery-new =
+    ap (λ m. listing batteryCatalog m 20) (sym battery-is-longer)
+    ∙ (insertion batteryCatalog battery batteryGaps 20 battery-whole battery-unknown (rw battery-is-longer (omega arith)) .0
+    ∙ (ap (λ a. movedAnswer (length (scan battery .models)) batteryGaps a) battery-old ∙ battery-moved))

@@ -5,7 +5,7 @@ use mathlib.Core.Option.{some}
 use Prim.Native.Nat.{ℕ, zero, suc, _-_, _^_, _<_}
 use native.Mathlib.Omega.{arith}
 use borrow.Author.Tests.{lt-leb}
-use lib.ListN.{length, length-append, replicate, length-replicate}
+use lib.ListN.{length-append, replicate, length-replicate}
 use lib.Seq.{take-at}
 use Rattle.lists.proofs.EachLaws.{each-append}
 use Rattle.registers.specs.Registers.{AreRegisters, join, split, tooWide}

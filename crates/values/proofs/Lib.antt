@@ -8,6 +8,7 @@ pub mod NoNaN
 pub mod RefusedCodes
 pub mod UnscaledRange
 pub mod ClassVectors
+pub mod DecodingVectors
 -- Laws of the definitions, and what the proofs of the functions cite
 pub mod TwosComplement
 pub mod MachineIntegers

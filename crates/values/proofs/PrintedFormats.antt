@@ -1,19 +1,18 @@
 -- The values of a float type are the numbers of its format of IEEE 754: no other float is decoded, and each of them is.
-use mathlib.Core.Path.{_≡_, refl, sym, ap, subst, _∙_}
+use mathlib.Core.Path.{_≡_, refl, ap, subst, _∙_}
 use mathlib.Core.Bool.{Bool, true, false, not}
-use mathlib.Core.List.{List, [], _∷_}
-use mathlib.Core.Logic.{_↔_}
-use mathlib.Core.Option.{Option, none, some}
+use mathlib.Core.List.{List}
+use mathlib.Core.Option.{some}
 use Prim.Native.Nat.{ℕ, _^_, _<_}
-use borrow.Author.Tests.{ne-eqb, not-true}
+use borrow.Author.Tests.{ne-eqb}
 use lib.Dec.{T}
-use lib.Ieee.{Format, binary32, binary64, Float, fits, isNan, nanBits, ofBits, toBits}
+use lib.Ieee.{Format, Float, isNan, nanBits, ofBits, toBits}
 use lib.Ieee.Bits.{ofBits-fits, ofBits-toBits, toBits-lt, nanBits-is}
 use Rattle.lists.specs.Each.{Each}
 use Rattle.lists.proofs.EachLaws.{each-implied}
 use Rattle.lists.proofs.TestOutcomes.{impossible}
-use Rattle.point_types.specs.Rows.{TypeRow, row, Listed, Kind, float, Unimplemented, never, pattern, unsigned, whole, rows, rowAmong}
-use Rattle.point_types.proofs.Table.{listed, float-row}
+use Rattle.point_types.specs.Rows.{TypeRow, Listed, Kind, float, Unimplemented, never, pattern, rows, rowAmong}
+use Rattle.point_types.proofs.Table.{rowIn, listed, float-row}
 use Rattle.values.specs.Classes.{Class, width, isUnimplemented, isNaN, inRange, classOf}
 use Rattle.values.specs.Decoding as decoding
 use Rattle.values.specs.Decoding.{Decoded, patternIn, numberOf, decodable, decoded}
@@ -36,11 +35,6 @@ record FormatRow (r : PrintedFormat) : Type 0 where
   pub is : decodable (r .code) ≡ some row
   pub kind : row .kind ≡ float (r .format)
   pub mark : T (isMarkNaN (r .format) (row .unimplemented))
-
--- The row in an option, or any other.
-abbrev rowIn : Option TypeRow → TypeRow
-rowIn none = row 0 0 0 false unsigned never whole
-rowIn (some r) = r
 
 -- Computed for both.
 format-rows : Each FormatRow printedFormats

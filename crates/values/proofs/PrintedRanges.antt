@@ -1,33 +1,31 @@
 -- The values of a type are the integers that document 000 prints for it: no other integer is decoded, and each of them is.
 use mathlib.Core.Path.{_≡_, refl, sym, ap, subst, _∙_}
 use mathlib.Core.Bool.{Bool, true, false, not, _&&_, _||_}
-use mathlib.Core.List.{List, [], _∷_, _++_}
+use mathlib.Core.List.{List, [], _∷_}
 use mathlib.Core.Logic.{_↔_}
 use mathlib.Core.Option.{Option, none, some}
-use Prim.Native.Nat.{ℕ, zero, suc, _+_, _-_, _^_, _≤_, _<_}
+use Prim.Native.Nat.{ℕ, suc, _-_, _^_, _≤_, _<_}
 use native.Mathlib.Omega.{arith}
-use borrow.Author.Tests.{eqb-false, ne-eqb, lt-leb}
+use borrow.Author.Tests.{eqb-false, ne-eqb}
 use lib.Dec.{T, ltb, le→leb, leb→le, ltb→lt}
 use lib.IntN.{ℤ, pos, negsuc, negℤ, sucℤ}
 use lib.Pow.{pow-pos}
-use lib.ListN.{length, length-append, replicate, length-replicate}
-use lib.Seq.{take-at}
+use lib.ListN.{length}
 use lib.Ieee.{Format}
 use lib.Ieee.Fits.{and-l, and-r}
 use lib.Signed.{leZ}
 use Rattle.lists.specs.Each.{Each}
 use Rattle.lists.specs.Tests.{every}
-use Rattle.lists.proofs.EachLaws.{each-implied, each-append}
+use Rattle.lists.proofs.EachLaws.{each-implied}
 use Rattle.lists.proofs.EveryLaws.{every-each}
 use Rattle.lists.proofs.TestOutcomes.{impossible}
-use Rattle.registers.specs.Registers.{AreRegisters, join, split, tooWide}
-use Rattle.registers.proofs.Splitting.{split-length, split-registers, join-split}
+use Rattle.registers.specs.Registers.{AreRegisters}
 use Rattle.point_types.specs.Rows.{TypeRow, Kind, signed, unsigned, float, Unimplemented, never, pattern, Range, whole, between, notNaN, rows, rowAmong, Listed}
 use Rattle.point_types.proofs.Table.{listed, signed-width, only-float}
 use Rattle.values.specs.Classes as classes
 use Rattle.values.specs.Classes.{width, twosComplement, integer, isUnimplemented, isBetween, inRange, classOf, PatternOf}
 use Rattle.values.specs.Decoding as decoding
-use Rattle.values.specs.Decoding.{Decoded, patternIn, numberOf, valueOf, decodable, decoded}
+use Rattle.values.specs.Decoding.{Decoded, patternIn, numberOf, decodable, decoded}
 use Rattle.values.specs.Encoding.{twosPattern}
 use Rattle.values.specs.Printed.{PrintedRange, printed, InPrinted, Within, decodedInteger, DecodedFrom, DecodedAsPrinted}
 use Rattle.values.proofs.IntegerOrder.{le-le, le-both, le-next, next-le, le-last, negative-le, negative-le-negative, negative-below}
@@ -35,7 +33,7 @@ use Rattle.values.proofs.ThreeClasses.{class-is-its-tests}
 use Rattle.values.proofs.Ranges.{in-whole, in-between, signed-integer, unsigned-integer}
 use Rattle.values.proofs.TwosComplement.{by-half, lower-half, upper-half, pattern-back}
 use Rattle.values.proofs.MachineIntegers.{halves}
-use Rattle.values.proofs.ClassCases.{row-of-decodable, decodable-most, by-row}
+use Rattle.values.proofs.ClassCases.{row-of-decodable}
 use Rattle.values.proofs.DecodedCases.{ResultOf, asSigned, asUnsigned, asFloat, asUnimplemented, asOutOfRange, Cases, byRow, noRow, cases}
 use Rattle.values.proofs.DecodedPatterns.{from-pattern}
 use Rattle.values.proofs.RoundTrip.{holds-pattern}

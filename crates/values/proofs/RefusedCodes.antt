@@ -1,18 +1,17 @@
 -- Refusal 40, at place 0, is for the codes outside 1–18, 21 and 22, and no other code is refused.
-use mathlib.Core.Path.{_≡_, refl, sym, ap, subst, _∙_}
+use mathlib.Core.Path.{_≡_, refl, subst, _∙_}
 use mathlib.Core.Logic.{_⊎_, inl, inr}
-use mathlib.Core.Bool.{Bool, true, false, _||_}
+use mathlib.Core.Bool.{true, _||_}
 use mathlib.Core.List.{List}
 use mathlib.Core.Option.{Option, none, some}
-use Prim.Native.Nat.{ℕ, _-_, _≤_, _<_}
+use Prim.Native.Nat.{ℕ, _≤_, _<_}
 use native.Mathlib.Omega.{arith}
 use native.Mathlib.Decide.{decLe}
 use borrow.Author.Tests.{le-leb, lt-leb, leb-true, leb-false}
 use lib.Dec.{leb}
-use lib.ListN.{getD}
 use Rattle.lists.proofs.TestOutcomes.{impossible}
-use Rattle.point_types.specs.Rows.{TypeRow, row, rows, rowOf, unsigned, never, whole}
-use Rattle.point_types.proofs.Table.{row-at, no-row-outside, four-registers}
+use Rattle.point_types.specs.Rows.{TypeRow, rowOf}
+use Rattle.point_types.proofs.Table.{rowIn, row-at, no-row-outside, four-registers}
 use Rattle.values.specs.Decoding.{refused, decoded}
 use Rattle.values.proofs.ClassCases.{no-row, too-long, decodes}
 use Rattle.values.proofs.DecodedCases.{Cases, noRow, cases}
@@ -44,7 +43,7 @@ module _ (code : ℕ) (registers : List ℕ) where
       go : (m p : ℕ) → Cases code registers (refused m p) → ⊥
       go m p (noRow q) =
           let b = bounds inside in
-          let is = row-at (row 0 0 0 false unsigned never whole) code (b .0) (b .1) in
+          let is = row-at (rowIn none) code (b .0) (b .1) in
           let most = leb-true _ 4 (four-registers code _ is ∙ b .2) in
           let r = decodes code _ is most in
           impossible (cc)

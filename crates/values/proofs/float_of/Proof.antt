@@ -1,9 +1,8 @@
 -- `float_of` reads the pattern in its format: it has the format's width and is no NaN's.
-use mathlib.Core.Path.{_≡_, sym, ap, _∙_}
+use mathlib.Core.Path.{_≡_, sym, ap}
 use mathlib.Core.Bool.{false}
-use Prim.Native.Nat.{_*_, _<_}
 use borrow.Author.Needs.{needs}
-use lib.Ieee.{Format, binary32, binary64, top, nanBits, ofBits}
+use lib.Ieee.{Format, binary32, binary64, nanBits, ofBits}
 use Rattle.point_types.specs.CodeTypes.{toSpecFormat}
 use Rattle.values.specs.Decoding.{float}
 use Rattle.values.proofs.float_of.Statement.{statement}

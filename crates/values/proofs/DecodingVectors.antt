@@ -1,0 +1,52 @@
+-- What `decode` gives for the types of change request 1 and their neighbours, computed: the floats of both formats, a bitfield64 at
+-- its limits, and the codes refused beside them.
+use mathlib.Core.Path.{_≡_, refl}
+use mathlib.Core.Bool.{true, false}
+use mathlib.Core.List.{List, [], _∷_, map}
+use Prim.Native.Nat.{ℕ}
+use lib.Count.{trailingZeros}
+use lib.IntN.{pos, negsuc}
+use lib.Ieee.{binary32, binary64, inf, fin, nanBits, odd, ofFields, ofBits}
+use Rattle.registers.specs.Registers.{join}
+use Rattle.point_types.specs.Rows.{rows, rowAmong}
+use Rattle.values.specs.Classes.{integer, inRange, classOf}
+use Rattle.values.specs.Decoding.{Decoded, unsigned, float, unimplemented, outOfRange, refused, numberOf, valueOf, decodable, decoded}
+
+-- A type code, four registers, and what they are decoded as.
+abbrev pub Line : Type 0
+Line = ℕ × (List ℕ × Decoded)
+
+abbrev from : ℕ → ℕ → ℕ → ℕ → ℕ → Decoded → Line
+from code a b c d result = (code, (a ∷ b ∷ c ∷ d ∷ [], result))
+
+unfoldable pub lines : List Line
+lines =
+    -- 1.5, negative zero, the least positive number and the infinities are values in both formats
+    from 14 0x3FC0 0 0xFFFF 0xFFFF (float binary32 (fin false 3 (negsuc 0)))
+    ∷ from 22 0x3FF8 0 0 0 (float binary64 (fin false 3 (negsuc 0)))
+    ∷ from 14 0x8000 0 0xFFFF 0xFFFF (float binary32 (fin true 0 (pos 0)))
+    ∷ from 22 0x8000 0 0 0 (float binary64 (fin true 0 (pos 0)))
+    ∷ from 14 0 1 0xFFFF 0xFFFF (float binary32 (fin false 1 (negsuc 148)))
+    ∷ from 22 0 0 0 1 (float binary64 (fin false 1 (negsuc 1073)))
+    ∷ from 14 0x7F80 0 0xFFFF 0xFFFF (float binary32 (inf false))
+    ∷ from 22 0x7FF0 0 0 0 (float binary64 (inf false))
+    ∷ from 22 0xFFF0 0 0 0 (float binary64 (inf true))
+    -- one NaN is unimplemented, every other is out of range
+    ∷ from 14 0x7FC0 0 0xFFFF 0xFFFF unimplemented
+    ∷ from 22 0x7FF8 0 0 0 unimplemented
+    ∷ from 22 0x7FF0 0 0 1 outOfRange
+    ∷ from 22 0xFFF8 0 0 0 outOfRange
+    -- bitfield64
+    ∷ from 21 0x7FFF 0xFFFF 0xFFFF 0xFFFF (unsigned 0x7FFFFFFFFFFFFFFF)
+    ∷ from 21 0x8000 0 0 0 outOfRange
+    ∷ from 21 0xFFFF 0xFFFF 0xFFFF 0xFFFF unimplemented
+    -- 0, string, ipv6addr and an unknown type
+    ∷ from 0 0 0 0 0 (refused 40 0)
+    ∷ from 19 0x4142 0 0 0 (refused 40 0)
+    ∷ from 20 0 0 0 1 (refused 40 0)
+    ∷ from 23 0 0 0 1 (refused 40 0)
+    ∷ []
+
+pub decoding-vectors : map (λ (l : Line). decoded (l .0) (l .1 .0)) lines ≡ map (λ (l : Line). l .1 .1) lines
+unfolding lines rows rowAmong join integer inRange classOf numberOf valueOf decodable decoded nanBits trailingZeros odd ofFields ofBits
+decoding-vectors = refl
