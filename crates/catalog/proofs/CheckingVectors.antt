@@ -1,4 +1,4 @@
--- Document 01, "Checking", clause by clause: a catalog for each clause and what checking returns, computed together.
+-- Document 01, "Checking", clause by clause, with the types of change request 1: a catalog for each clause and what checking returns, computed together.
 use mathlib.Core.Path.{_≡_, refl}
 use mathlib.Core.List.{List, [], _∷_, _++_, map}
 use Prim.Native.Nat.{ℕ}
@@ -71,9 +71,12 @@ cases =
     ∷ (model 1 ∷ groupBy 0 0 1 ∷ [], refused 6 1)
     ∷ (model 1 ∷ point 1 1 1 ∷ groupBy 1 0 1 ∷ [], refused 6 2)
     ∷ (model 1 ∷ groupBy 1 0 1 ∷ point 2 1 1 ∷ groupBy 2 0 1 ∷ [], refused 6 3)
-    ∷ (model 1 ∷ point 1 1 1 ∷ point 1 21 1 ∷ [], refused 6 2)  -- and not 7
+    ∷ (model 1 ∷ point 1 1 1 ∷ point 1 23 4 ∷ [], refused 6 2)  -- and not 7
     -- 7
-    ∷ (model 1 ∷ point 1 21 1 ∷ [], refused 7 1)
+    ∷ (model 1 ∷ point 1 23 4 ∷ [], refused 7 1)  -- an unknown type
+    ∷ (model 1 ∷ point 1 21 4 ∷ point 2 22 4 ∷ end ∷ [], accepted 1)
+    ∷ (model 1 ∷ point 1 21 2 ∷ [], refused 7 1)
+    ∷ (model 1 ∷ point 1 22 2 ∷ [], refused 7 1)
     ∷ (model 1 ∷ point 1 19 64 ∷ end ∷ [], accepted 1)
     ∷ (model 1 ∷ point 1 19 65 ∷ [], refused 7 1)
     ∷ (model 1 ∷ (2 ∷ 1 ∷ 2 ∷ 0 ∷ 0 ∷ 0 ∷ 0 ∷ 0 ∷ []) ∷ [], refused 7 1)  -- and not 9
@@ -83,6 +86,8 @@ cases =
     ∷ (model 1 ∷ scaled 1 3 0 ∷ [], refused 8 1)
     ∷ (model 1 ∷ scaled 1 0 1 ∷ [], refused 8 1)  -- and not 3
     ∷ (model 1 ∷ (3 ∷ 1 ∷ 4 ∷ 1 ∷ 1 ∷ 0 ∷ 0 ∷ 0 ∷ []) ∷ [], refused 8 1)  -- an enum16 may not be scaled
+    ∷ (model 1 ∷ (3 ∷ 1 ∷ 21 ∷ 4 ∷ 1 ∷ 0 ∷ 0 ∷ 0 ∷ []) ∷ [], refused 8 1)  -- nor a bitfield64
+    ∷ (model 1 ∷ (3 ∷ 1 ∷ 22 ∷ 4 ∷ 1 ∷ 0 ∷ 0 ∷ 0 ∷ []) ∷ [], refused 8 1)  -- nor a float64
     ∷ (model 1 ∷ scaled 1 1 0xFFF6 ∷ scaled 2 1 10 ∷ end ∷ [], accepted 1)
     ∷ (model 1 ∷ scaled 1 1 0xFFF5 ∷ [], refused 8 1)
     ∷ (model 1 ∷ scaled 1 1 11 ∷ [], refused 8 1)

@@ -55,6 +55,8 @@ lines =
     -- the order of the refusals, and what is no value
     ∷ refuses 4 0xFFFF 11 31 43
     ∷ refuses 0 0 0 32 43
+    ∷ refuses 21 1 0 32 43
+    ∷ refuses 22 0 0 32 43
     ∷ refuses 1 0x8000 11 31 44
     ∷ refuses 1 0x10000 0 32 44
     ∷ refuses 18 (2 ^ 63) 0 32 44

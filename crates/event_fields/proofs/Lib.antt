@@ -1,4 +1,4 @@
 -- The claim
-pub mod PositionsInWidth
+pub mod PositionsBelowTop
 -- What the proofs of the functions cite
 pub mod SetPositions

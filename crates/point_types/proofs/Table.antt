@@ -62,9 +62,17 @@ by-place c (r ∷ rs) d (suc i) t h =
     simp (rowAmong, ne-eqb (c + suc i) (r .code) n)
     (rw (add-suc c i, ← suc-add c i) (by-place (suc c) rs d i (and-r (eqb (r .code) c) (numbered (suc c) rs) t) (omega arith)))
 
-pub row-at : (d : TypeRow) (c : ℕ) → 1 ≤ c → c ≤ 22 → rowOf c ≡ some (getD rows (c - 1) d)
+-- The row in an option, for a code whose row is computed; a row of no type if there is none.
+abbrev pub rowIn : Option TypeRow → TypeRow
+rowIn none = row 0 0 0 false unsigned never whole
+rowIn (some r) = r
+
+-- Each code from 1 to 22 has a row.
+pub row-at : (c : ℕ) → 1 ≤ c → c ≤ 22 → (r : TypeRow) × (rowOf c ≡ some r)
 unfolding rows
-row-at d c l h = let n : 1 + (c - 1) ≡ c = omega arith in sym (ap rowOf n) ∙ by-place 1 rows d (c - 1) tt (omega arith)
+row-at c l h =
+    let n : 1 + (c - 1) ≡ c = omega arith in
+    (getD rows (c - 1) (rowIn none), sym (ap rowOf n) ∙ by-place 1 rows (rowIn none) (c - 1) tt (omega arith))
 
 -- No row has a code below 1 or above 22.
 none-outside : (rs : List TypeRow) (c : ℕ) → T (every (λ r. leb 1 (r .code) && leb (r .code) 22) rs) → (1 ≤ c → c ≤ 22 → ⊥)
@@ -82,17 +90,7 @@ pub no-row-outside : (c : ℕ) → (1 ≤ c → c ≤ 22 → ⊥) → rowOf c �
 unfolding rows
 no-row-outside c n = none-outside rows c tt n
 
--- The row in an option, for a code whose row is computed; any row if there is none.
-abbrev pub rowIn : Option TypeRow → TypeRow
-rowIn none = row 0 0 0 false unsigned never whole
-rowIn (some r) = r
-
 -- ---- Facts about each row
-
--- Codes count from 1.
-pub from-one : (c : ℕ) (r : TypeRow) → rowOf c ≡ some r → 1 ≤ c
-unfolding rows
-from-one c r e = let f = found (λ x. leb 1 (x .code)) tt c r e in omega (arith, f .0, leb→le 1 (r .code) (f .1))
 
 -- Every type takes 1 to 64 registers.
 pub one-to-64 : (c : ℕ) (r : TypeRow) → rowOf c ≡ some r → (1 ≤ r .fewest) × (r .most ≤ 64)

@@ -8,8 +8,8 @@ use lib.Dec.{eqb}
 use lib.IntN.{ℤ, pos, negℤ}
 use lib.Ieee.{Format, binary32, binary64}
 
--- How the bits of a value are read: as signed (document 01's list: codes 1, 8, 9, 16), as unsigned, or as a float of a format of
--- IEEE 754: binary32 (float32) or binary64 (float64).
+-- How the bits of a value are read: as signed (document 01's list: codes 1, 8, 9, 16), as unsigned, or as a float of IEEE 754:
+-- binary32 (float32) or binary64 (float64).
 pub data Kind : Type 0 where
   signed unsigned : Kind
   float : Format → Kind

@@ -17,7 +17,7 @@ use crate::Range::Whole;
 use crate::Unimplemented::At;
 use crate::Unimplemented::Never;
 
-// The formats of IEEE 754: 32 and 64 bits.
+// The formats of IEEE 754 for float32 and float64.
 pub enum Format {
     Binary32,
     Binary64,
@@ -68,7 +68,8 @@ pub enum RegisterCount {
     UnknownType,
 }
 
-// Patterns of 64 bits in the table: all ones, all ones but the highest bit, and float64's NaN.
+// Patterns of 64 bits in the table: all ones, all ones but the highest bit, and the NaN that marks a float64
+// as unimplemented.
 const ONES_64: u64 = 0xFFFFFFFFFFFFFFFF;
 
 const ONES_63: u64 = 0x7FFFFFFFFFFFFFFF;

@@ -139,13 +139,13 @@ pub(crate) fn double(bits: u64) {
     hex8((bits % 4294967296) as u32);
 }
 
-// Writes eight hexadecimal digits in upper case,
+// Writes eight hexadecimal digits in upper case.
 fn hex8(n: u32) {
     hex4((n / 65536) as u16);
     hex4((n % 65536) as u16);
 }
 
-// and four.
+// Writes four hexadecimal digits in upper case.
 fn hex4(n: u16) {
     let digits = [
         hex_glyph(n / 4096),

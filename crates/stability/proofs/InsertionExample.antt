@@ -1,5 +1,5 @@
 -- Insertion on two examples: a map with models 1 and 7, two unknown models inserted after model 1 and one after model 7; and a battery
--- with a bitfield64 and a float64, an unknown model inserted before it.
+-- with a bitfield64 and a float64, two unknown models inserted before it and one after it.
 use mathlib.Core.Path.{_≡_, refl, sym, ap, _∙_}
 use mathlib.Core.List.{List, [], _∷_}
 use Prim.Native.Nat.{ℕ, _+_, _≤_}
@@ -163,19 +163,23 @@ batteryCatalog =
 abbrev battery : List ℕ
 battery = 0x5375 ∷ 0x6E53 ∷ 1 ∷ 1 ∷ 40 ∷ 64920 ∷ 8 ∷ 0x4000 ∷ 0 ∷ 0 ∷ 1 ∷ 0x3FF8 ∷ 0 ∷ 0 ∷ 0 ∷ 0xFFFF ∷ 0 ∷ []
 
--- An unknown model of 3 registers after the common model: 2 + 3 more.
+-- Unknown models of 3 registers and 1 after the common model, (2 + 3) + (2 + 1) = 8 registers, and one after the battery.
 abbrev batteryGaps : List (List Model)
-batteryGaps = (record { id = 9; body = 1 ∷ 2 ∷ 3 ∷ [] } ∷ []) ∷ []
+batteryGaps =
+    (record { id = 9; body = 1 ∷ 2 ∷ 3 ∷ [] } ∷ record { id = 10; body = 5 ∷ [] } ∷ [])
+    ∷ (record { id = 9; body = 0 ∷ 0 ∷ [] } ∷ [])
+    ∷ []
 
 abbrev batteryLonger : List ℕ
 batteryLonger =
-    0x5375 ∷ 0x6E53 ∷ 1 ∷ 1 ∷ 40 ∷ 9 ∷ 3 ∷ 1 ∷ 2 ∷ 3 ∷ 64920 ∷ 8 ∷ 0x4000 ∷ 0 ∷ 0 ∷ 1 ∷ 0x3FF8 ∷ 0 ∷ 0 ∷ 0 ∷ 0xFFFF ∷ 0 ∷ []
+    0x5375 ∷ 0x6E53 ∷ 1 ∷ 1 ∷ 40 ∷ 9 ∷ 3 ∷ 1 ∷ 2 ∷ 3 ∷ 10 ∷ 1 ∷ 5 ∷ 64920 ∷ 8 ∷ 0x4000 ∷ 0 ∷ 0 ∷ 1 ∷ 0x3FF8 ∷ 0 ∷ 0 ∷ 0 ∷ 9 ∷ 2 ∷ 0 ∷ 0
+    ∷ 0xFFFF ∷ 0 ∷ []
 
 pub battery-is-longer : lengthened battery batteryGaps ≡ batteryLonger
 unfolding scanFrom scan placed lengthened Scan.modelRegisters
 battery-is-longer = refl
 
--- The two records, of a battery with this index and this address of its first register.
+-- The two records if the battery has the index `index` and its body begins at `address`.
 abbrev batteryRecords : ℕ → ℕ → List Record
 batteryRecords index address =
     let at : ℕ → ℕ → ℕ → ℕ → Record = λ number typeCode offset raw.
@@ -211,14 +215,18 @@ battery-whole = (3, refl)
 
 battery-unknown : Each (Each (UnknownModel batteryCatalog)) batteryGaps
 unfolding frameOf framesFrom
-battery-unknown = ((record { wellFormed = well 9 1 (2 ∷ 3 ∷ []) (λ q. omega arith) (λ q. omega arith); notKnown = refl }, tt), tt)
+battery-unknown =
+    let one : UnknownModel batteryCatalog (record { id = 9; body = 1 ∷ 2 ∷ 3 ∷ [] }) = record { wellFormed = well 9 1 (2 ∷ 3 ∷ []) (λ q. omega arith) (λ q. omega arith); notKnown = refl } in
+    let two : UnknownModel batteryCatalog (record { id = 10; body = 5 ∷ [] }) = record { wellFormed = well 10 5 [] (λ q. omega arith) (λ q. omega arith); notKnown = refl } in
+    let three : UnknownModel batteryCatalog (record { id = 9; body = 0 ∷ 0 ∷ [] }) = record { wellFormed = well 9 0 (0 ∷ []) (λ q. omega arith) (λ q. omega arith); notKnown = refl } in
+    ((one, (two, tt)), ((three, tt), tt))
 
-battery-moved : movedAnswer (length (scan battery .models)) batteryGaps (listed (batteryRecords 1 7) 3) ≡ listed (batteryRecords 2 12) 4
+battery-moved : movedAnswer (length (scan battery .models)) batteryGaps (listed (batteryRecords 1 7) 3) ≡ listed (batteryRecords 3 15) 6
 unfolding scanFrom scan movedAnswer gapsBefore
 battery-moved = refl
 
--- Both points have moved by 5 registers, and the model's index by 1; status, raw value and scale factor are the same.
-pub battery-new : listing batteryCatalog batteryLonger 20 ≡ listed (batteryRecords 2 12) 4
+-- Both points have moved by 8 registers, and the model's index by 2; status, raw value and scale factor are the same.
+pub battery-new : listing batteryCatalog batteryLonger 20 ≡ listed (batteryRecords 3 15) 6
 battery-new =
     ap (λ m. listing batteryCatalog m 20) (sym battery-is-longer)
     ∙ (insertion batteryCatalog battery batteryGaps 20 battery-whole battery-unknown (rw battery-is-longer (omega arith)) .0

@@ -1,21 +1,29 @@
 -- The cases of `classOf`, `classified` and `decoded`.
-use mathlib.Core.Path.{_≡_, refl, subst}
+use mathlib.Core.Path.{_≡_, refl, sym, subst}
 use mathlib.Core.Bool.{Bool, true, false}
 use mathlib.Core.Option.{Option, none, some}
 use mathlib.Core.List.{List}
 use Prim.Native.Nat.{ℕ, _≤_, _<_}
 use borrow.Author.Tests.{le-leb, lt-leb, leb-true}
 use lib.Dec.{leb}
-use Rattle.lists.proofs.TestOutcomes.{impossible}
+use Rattle.lists.proofs.TestOutcomes.{impossible, clash}
 use Rattle.registers.specs.Registers as registers
 use Rattle.point_types.specs.Rows.{TypeRow, rowOf}
-use Rattle.values.specs.Classes.{isUnimplemented, inRange, value, unimplemented, classOf, classified, ofClass, tooWide}
+use Rattle.values.specs.Classes.{isUnimplemented, inRange, value, unimplemented, outOfRange, classOf, Classified, classified, ofClass, tooWide, unknownType, isValue}
 use Rattle.values.specs.Decoding.{patternIn, valueOf, decodable, decoded, refused}
 
 pub in-range : (row : TypeRow) (raw : ℕ) → isUnimplemented (row .unimplemented) raw ≡ false → inRange row raw ≡ true
     → classOf row raw ≡ value
 unfolding classOf
 in-range row raw m r = simp (classOf, m, r)
+
+-- A raw value that passes the test `isValue` is of the class of values.
+pub value-class : (c : Classified) → isValue c ≡ true → c ≡ ofClass value
+value-class (ofClass value) e = refl
+value-class (ofClass unimplemented) e = clash (sym e)
+value-class (ofClass outOfRange) e = clash (sym e)
+value-class tooWide e = clash (sym e)
+value-class unknownType e = clash (sym e)
 
 module _ (code raw : ℕ) where
   pub too-wide : (row : TypeRow) → rowOf code ≡ some row → registers.tooWide (row .most) raw ≡ true → classified code raw ≡ tooWide

@@ -1,4 +1,4 @@
--- The class of a raw value at each limit of each row of document 01's table, computed together.
+-- The class of a raw value at each limit of each row of the table, computed together.
 use mathlib.Core.Path.{_≡_, refl}
 use mathlib.Core.List.{List, [], _∷_, map}
 use Prim.Native.Nat.{ℕ, _-_, _^_}

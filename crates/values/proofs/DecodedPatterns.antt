@@ -35,7 +35,7 @@ module _ (code : ℕ) (row : TypeRow) (is : decodable code ≡ some row) (raw : 
       let number : valueOf row raw ≡ numberOf row raw = simp (valueOf, v) in
       sym (by-row code (first ++ rest) row is ∙ ap (valueOf row) read ∙ number)
 
-  -- What holds of the number of a pattern that is a value holds of a result of `decode`.
+  -- If `Is` holds of the number of a pattern that is a value, some registers are decoded to a result with `Is`.
   pub from-pattern : (Is : Decoded → Type 0) → classOf row raw ≡ Class.value → Is (numberOf row raw) → DecodedFrom code Is
   from-pattern Is v h =
       let most = decodable-most code row is in

@@ -1,5 +1,4 @@
--- What `decode` gives for the types of change request 1 and their neighbours, computed: the floats of both formats, a bitfield64 at
--- its limits, and the codes refused beside them.
+-- What `decode` returns for floats of both formats and for bitfield64, at their limits, and codes that it refuses; computed.
 use mathlib.Core.Path.{_≡_, refl}
 use mathlib.Core.Bool.{true, false}
 use mathlib.Core.List.{List, [], _∷_, map}
@@ -21,13 +20,15 @@ from code a b c d result = (code, (a ∷ b ∷ c ∷ d ∷ [], result))
 
 unfoldable pub lines : List Line
 lines =
-    -- 1.5, negative zero, the least positive number and the infinities are values in both formats
+    -- 1.5, negative zero, the least positive number, the greatest finite one and the infinities are values in both formats
     from 14 0x3FC0 0 0xFFFF 0xFFFF (float binary32 (fin false 3 (negsuc 0)))
     ∷ from 22 0x3FF8 0 0 0 (float binary64 (fin false 3 (negsuc 0)))
     ∷ from 14 0x8000 0 0xFFFF 0xFFFF (float binary32 (fin true 0 (pos 0)))
     ∷ from 22 0x8000 0 0 0 (float binary64 (fin true 0 (pos 0)))
     ∷ from 14 0 1 0xFFFF 0xFFFF (float binary32 (fin false 1 (negsuc 148)))
     ∷ from 22 0 0 0 1 (float binary64 (fin false 1 (negsuc 1073)))
+    ∷ from 14 0x7F7F 0xFFFF 0xFFFF 0xFFFF (float binary32 (fin false 0xFFFFFF (pos 104)))
+    ∷ from 22 0x7FEF 0xFFFF 0xFFFF 0xFFFF (float binary64 (fin false 0x1FFFFFFFFFFFFF (pos 971)))
     ∷ from 14 0x7F80 0 0xFFFF 0xFFFF (float binary32 (inf false))
     ∷ from 22 0x7FF0 0 0 0 (float binary64 (inf false))
     ∷ from 22 0xFFF0 0 0 0 (float binary64 (inf true))

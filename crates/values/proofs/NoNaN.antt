@@ -9,20 +9,21 @@ use lib.Ieee.{Format, Float, isNan, nanBits}
 use lib.Ieee.Bits.{nanBits-is}
 use Rattle.point_types.specs.Rows.{TypeRow, Kind, Listed}
 use Rattle.point_types.proofs.Table.{float-row, listed}
-use Rattle.values.specs.Classes.{Class, isNaN, inRange, classOf}
+use Rattle.values.specs.Classes.{Class, holdsNaN, inRange, classOf}
 use Rattle.values.specs.Decoding.{patternIn, float, decoded}
 use Rattle.values.proofs.Ranges.{in-not-nan}
 use Rattle.values.proofs.ClassCases.{row-of-decodable}
 use Rattle.values.proofs.ThreeClasses.{class-is-its-tests}
 use Rattle.values.proofs.DecodedCases.{asFloat, Cases, byRow, cases}
 
--- A value of a float type is not the pattern of a NaN.
-pub no-nan-pattern : (row : TypeRow) (raw : ℕ) (f : Format) → Listed row → row .kind ≡ Kind.float f → classOf row raw ≡ Class.value
-    → nanBits f raw ≡ false
-no-nan-pattern row raw f l k v =
-    let e : inRange row raw ≡ not (nanBits f raw) =
-    in-not-nan row raw (float-row row l f k .1) ∙ ap (λ (x : Kind). not (isNaN x raw)) k in
-    not-true (nanBits f raw) (sym e ∙ class-is-its-tests row raw Class.value .0 v .1)
+module _ (row : TypeRow) (raw : ℕ) (f : Format) (l : Listed row) (k : row .kind ≡ Kind.float f) where
+  -- In the range of a float type is every pattern but a NaN's,
+  pub float-in-range : inRange row raw ≡ not (nanBits f raw)
+  float-in-range = in-not-nan row raw (float-row row l f k .1) ∙ ap (λ (x : Kind). not (holdsNaN x raw)) k
+
+  -- so a value of it is not the pattern of a NaN.
+  pub no-nan-pattern : classOf row raw ≡ Class.value → nanBits f raw ≡ false
+  no-nan-pattern v = not-true (nanBits f raw) (sym float-in-range ∙ class-is-its-tests row raw Class.value .0 v .1)
 
 pub no-nan : (code : ℕ) (registers : List ℕ) (f : Format) (x : Float) → decoded code registers ≡ float f x → T (not (isNan x))
 no-nan code registers f x e = go f x (subst (Cases code registers) e (cases code registers))

@@ -7,34 +7,33 @@ use Prim.Native.Nat.{ℕ, _^_, _<_}
 use borrow.Author.Tests.{ne-eqb}
 use lib.Dec.{T}
 use lib.Ieee.{Format, Float, isNan, nanBits, ofBits, toBits}
-use lib.Ieee.Bits.{ofBits-fits, ofBits-toBits, toBits-lt, nanBits-is}
+use lib.Ieee.Bits.{is-false, ofBits-fits, ofBits-toBits, toBits-lt, nanBits-is}
 use Rattle.lists.specs.Each.{Each}
 use Rattle.lists.proofs.EachLaws.{each-implied}
 use Rattle.lists.proofs.TestOutcomes.{impossible}
 use Rattle.point_types.specs.Rows.{TypeRow, Listed, Kind, float, Unimplemented, never, pattern, rows, rowAmong}
 use Rattle.point_types.proofs.Table.{rowIn, listed, float-row}
-use Rattle.values.specs.Classes.{Class, width, isUnimplemented, isNaN, inRange, classOf}
+use Rattle.values.specs.Classes.{Class, width, isUnimplemented, holdsNaN, inRange, classOf}
 use Rattle.values.specs.Decoding as decoding
 use Rattle.values.specs.Decoding.{Decoded, patternIn, numberOf, decodable, decoded}
 use Rattle.values.specs.Printed.{PrintedFormat, printedFormats, NumberIn, WithinFormat, DecodedFrom, DecodedAsFormat}
 use Rattle.values.proofs.ThreeClasses.{class-is-its-tests}
-use Rattle.values.proofs.Ranges.{in-not-nan}
 use Rattle.values.proofs.ClassCases.{row-of-decodable}
 use Rattle.values.proofs.DecodedCases.{ResultOf, asSigned, asUnsigned, asFloat, asUnimplemented, asOutOfRange, Cases, byRow, noRow, cases}
 use Rattle.values.proofs.DecodedPatterns.{from-pattern}
-use Rattle.values.proofs.NoNaN.{no-nan}
+use Rattle.values.proofs.NoNaN.{float-in-range, no-nan}
 
--- Is the unimplemented pattern a NaN's?
-abbrev isMarkNaN : Format → Unimplemented → Bool
-isMarkNaN f never = true
-isMarkNaN f (pattern p) = nanBits f p
+-- Is the unimplemented pattern, if there is one, a NaN's?
+abbrev markIsNaN : Format → Unimplemented → Bool
+markIsNaN f never = true
+markIsNaN f (pattern p) = nanBits f p
 
 -- The row of a printed format: `decode` takes it, it is a float of the format, and its unimplemented pattern is a NaN's.
 record FormatRow (r : PrintedFormat) : Type 0 where
   pub row : TypeRow
   pub is : decodable (r .code) ≡ some row
   pub kind : row .kind ≡ float (r .format)
-  pub mark : T (isMarkNaN (r .format) (row .unimplemented))
+  pub mark : T (markIsNaN (r .format) (row .unimplemented))
 
 -- Computed for both.
 format-rows : Each FormatRow printedFormats
@@ -86,22 +85,15 @@ module _ (r : PrintedFormat) (found : FormatRow r) where
     back = ofBits-toBits f x (n .0)
 
     no-nan-bits : nanBits f raw ≡ false
-    no-nan-bits = nanBits-is f raw ∙ ap isNan back ∙ not-false' (isNan x) (n .1)
-      where
-        not-false' : (b : Bool) → T (not b) → b ≡ false
-        not-false' true t = absurd t
-        not-false' false t = refl
+    no-nan-bits = nanBits-is f raw ∙ ap isNan back ∙ is-false (isNan x) (n .1)
 
-    implemented : (m : Unimplemented) → T (isMarkNaN f m) → isUnimplemented m raw ≡ false
+    implemented : (m : Unimplemented) → T (markIsNaN f m) → isUnimplemented m raw ≡ false
     implemented never t = refl
     implemented (pattern p) t = ne-eqb raw p (λ e. rw (← e, no-nan-bits) at t)
 
     is-value : classOf (found .row) raw ≡ Class.value
     is-value =
-        let range : inRange (found .row) raw ≡ true =
-        in-not-nan (found .row) raw (float-row (found .row) is-listed f (found .kind) .1)
-        ∙ ap (λ (k : Kind). not (isNaN k raw)) (found .kind)
-        ∙ ap not no-nan-bits in
+        let range : inRange (found .row) raw ≡ true = float-in-range (found .row) raw f is-listed (found .kind) ∙ ap not no-nan-bits in
         class-is-its-tests (found .row) raw Class.value .1 (implemented (found .row .unimplemented) (found .mark), range)
 
     decoded-there : DecodedFrom (r .code) (λ d. d ≡ decoding.float f x)

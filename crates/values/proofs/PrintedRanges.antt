@@ -1,4 +1,4 @@
--- The values of a type are the integers that document 000 prints for it: no other integer is decoded, and each of them is.
+-- The values of a type are the integers of the table `printed`: no other integer is decoded, and each of them is.
 use mathlib.Core.Path.{_≡_, refl, sym, ap, subst, _∙_}
 use mathlib.Core.Bool.{Bool, true, false, not, _&&_, _||_}
 use mathlib.Core.List.{List, [], _∷_}
@@ -365,7 +365,7 @@ module _ (r : PrintedRange) where
 each-agrees : Each (λ r. T (agrees r (decodable (r .code)))) printed
 each-agrees = every-each (λ r. agrees r (decodable (r .code))) printed all-agree
 
--- An integer is decoded from some registers if and only if it is printed: for every type of the table.
+-- An integer is decoded from some registers if and only if it is in the type's range: for every type of the table.
 pub decoded-as-printed : Each DecodedAsPrinted printed
 decoded-as-printed =
     each-implied (λ r. T (agrees r (decodable (r .code)))) DecodedAsPrinted (λ r t. by-agreement r (decodable (r .code)) refl t .0) printed each-agrees

@@ -10,7 +10,7 @@ use lib.IntN.{ℤ, pos, negℤ}
 use lib.Ieee.{Format}
 use Rattle.point_types.specs.Rows.{TypeRow, Kind, signed, unsigned, float, whole, between, notNaN}
 use Rattle.point_types.proofs.Table.{counts-from-zero, signed-range}
-use Rattle.values.specs.Classes.{twosComplement, integer, isBetween, isScaleFactor, isNaN, inRange, PatternOf}
+use Rattle.values.specs.Classes.{twosComplement, integer, isBetween, isScaleFactor, holdsNaN, inRange, PatternOf}
 
 module _ (row : TypeRow) (raw : ℕ) where
   pub in-whole : row .range ≡ whole → inRange row raw ≡ true
@@ -21,7 +21,7 @@ module _ (row : TypeRow) (raw : ℕ) where
   unfolding inRange
   in-between low high e = rw e
 
-  pub in-not-nan : row .range ≡ notNaN → inRange row raw ≡ not (isNaN (row .kind) raw)
+  pub in-not-nan : row .range ≡ notNaN → inRange row raw ≡ not (holdsNaN (row .kind) raw)
   unfolding inRange
   in-not-nan e = rw e
 

@@ -1,6 +1,6 @@
 -- Refusal 40, at place 0, is for the codes outside 1–18, 21 and 22, and no other code is refused.
 use mathlib.Core.Path.{_≡_, refl, subst, _∙_}
-use mathlib.Core.Logic.{_⊎_, inl, inr}
+use mathlib.Core.Logic.{inl, inr}
 use mathlib.Core.Bool.{true, _||_}
 use mathlib.Core.List.{List}
 use mathlib.Core.Option.{Option, none, some}
@@ -11,18 +11,21 @@ use borrow.Author.Tests.{le-leb, lt-leb, leb-true, leb-false}
 use lib.Dec.{leb}
 use Rattle.lists.proofs.TestOutcomes.{impossible}
 use Rattle.point_types.specs.Rows.{TypeRow, rowOf}
-use Rattle.point_types.proofs.Table.{rowIn, row-at, no-row-outside, four-registers}
-use Rattle.values.specs.Decoding.{refused, decoded}
+use Rattle.point_types.proofs.Table.{row-at, no-row-outside, four-registers}
+use Rattle.values.specs.Decoding.{DecodedCode, refused, decoded}
 use Rattle.values.proofs.ClassCases.{no-row, too-long, decodes}
 use Rattle.values.proofs.DecodedCases.{Cases, noRow, cases}
 
 module _ (code : ℕ) (registers : List ℕ) where
-  pub outside-refused : (1 ≤ code → code ≤ 18 → ⊥) → (code ≡ 21 → ⊥) → (code ≡ 22 → ⊥) → decoded code registers ≡ refused 40 0
-  outside-refused a b c = go (decLe 1 code) (decLe code 22) (rowOf code) refl
+  pub outside-refused : (DecodedCode code → ⊥) → decoded code registers ≡ refused 40 0
+  outside-refused outside = go (decLe 1 code) (decLe code 22) (rowOf code) refl
     where
       long : (r : TypeRow) → rowOf code ≡ some r → code ≤ 22 → 1 ≤ code → 4 < r .most
       long r e h l =
-          let k : 18 < code = omega (arith, a l) in
+          let low : code ≤ 18 → ⊥ = λ q. outside (inl (l, q)) in
+          let k : 18 < code = omega arith in
+          let a : code ≡ 21 → ⊥ = λ q. outside (inr (inl q)) in
+          let b : code ≡ 22 → ⊥ = λ q. outside (inr (inr q)) in
           let m : code < 21 = omega arith in
           leb-false (r .most) 4 (four-registers code r e ∙ rw (lt-leb code 18 k, lt-leb 21 code m))
 
@@ -32,10 +35,10 @@ module _ (code : ℕ) (registers : List ℕ) where
       go (yes l) (no h) o e = no-row code registers (no-row-outside code (λ x y. h y))
       go (no l) d o e = no-row code registers (no-row-outside code (λ x y. l x))
 
-  pub inside-accepted : ((1 ≤ code) × (code ≤ 18)) ⊎ ((code ≡ 21) ⊎ (code ≡ 22)) → (n place : ℕ) → decoded code registers ≡ refused n place → ⊥
+  pub inside-accepted : DecodedCode code → (n place : ℕ) → decoded code registers ≡ refused n place → ⊥
   inside-accepted inside n place e = go n place (subst (Cases code registers) e (cases code registers))
     where
-      bounds : ((1 ≤ code) × (code ≤ 18)) ⊎ ((code ≡ 21) ⊎ (code ≡ 22)) → (1 ≤ code) × (code ≤ 22) × ((leb code 18 || leb 21 code) ≡ true)
+      bounds : DecodedCode code → (1 ≤ code) × (code ≤ 22) × ((leb code 18 || leb 21 code) ≡ true)
       bounds (inl h) = (h .0, omega (arith, h .1), rw (le-leb code 18 (h .1)))
       bounds (inr (inl h)) = (omega (arith, h), omega (arith, h), rw h)
       bounds (inr (inr h)) = (omega (arith, h), omega (arith, h), rw h)
@@ -43,7 +46,7 @@ module _ (code : ℕ) (registers : List ℕ) where
       go : (m p : ℕ) → Cases code registers (refused m p) → ⊥
       go m p (noRow q) =
           let b = bounds inside in
-          let is = row-at (rowIn none) code (b .0) (b .1) in
-          let most = leb-true _ 4 (four-registers code _ is ∙ b .2) in
-          let r = decodes code _ is most in
+          let r = row-at code (b .0) (b .1) in
+          let most = leb-true (r .0 .most) 4 (four-registers code (r .0) (r .1) ∙ b .2) in
+          let d = decodes code (r .0) (r .1) most in
           impossible (cc)

@@ -37,10 +37,10 @@ abbrev pub isScaleFactor : ℤ → Bool
 isScaleFactor z = isBetween (negℤ (pos 10)) (pos 10) z
 
 -- Is the raw value the pattern of a NaN, of any sign and payload, in the format of its type's kind? Integers have none.
-abbrev pub isNaN : Kind → ℕ → Bool
-isNaN signed raw = false
-isNaN unsigned raw = false
-isNaN (float f) raw = nanBits f raw
+abbrev pub holdsNaN : Kind → ℕ → Bool
+holdsNaN signed raw = false
+holdsNaN unsigned raw = false
+holdsNaN (float f) raw = nanBits f raw
 
 -- Is the raw value in its type's range? For a float: every pattern but a NaN's, so infinities, negative zero and subnormals too.
 unfoldable pub inRange : TypeRow → ℕ → Bool
@@ -48,7 +48,7 @@ inRange row raw =
     elim (row .range) [
       | whole ↦ true
       | between low high ↦ isBetween low high (integer row raw)
-      | notNaN ↦ not (isNaN (row .kind) raw)
+      | notNaN ↦ not (holdsNaN (row .kind) raw)
     ]
 
 -- Document 01's three kinds of pattern: a value, not given, out of range.

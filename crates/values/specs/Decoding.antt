@@ -2,8 +2,10 @@
 -- refusal 40.
 use mathlib.Core.Bool.{true, false}
 use mathlib.Core.List.{List}
+use mathlib.Core.Logic.{_⊎_}
 use mathlib.Core.Option.{Option, none, some}
-use Prim.Native.Nat.{ℕ}
+use mathlib.Core.Path.{_≡_}
+use Prim.Native.Nat.{ℕ, _≤_}
 use lib.Dec.{leb}
 use lib.IntN.{ℤ}
 use lib.Ieee.{Format, Float, ofBits}
@@ -44,7 +46,12 @@ valueOf row raw =
 abbrev pub patternIn : TypeRow → List ℕ → ℕ
 patternIn row registers = join (take (row .most) registers)
 
--- The row that decodes a code: that of a type of at most four registers. The codes 1–18, 21 and 22 have one (RefusedCodes).
+-- The codes that `decode` takes: document 01 has 1–18, change request 1 adds 21 and 22. (RefusedCodes proves that `decodable` has
+-- exactly these.)
+abbrev pub DecodedCode : ℕ → Type 0
+DecodedCode code = ((1 ≤ code) × (code ≤ 18)) ⊎ ((code ≡ 21) ⊎ (code ≡ 22))
+
+-- The row that decodes a code: the table's, if the type takes at most four registers.
 unfoldable pub decodable : ℕ → Option TypeRow
 decodable code =
     elim (rowOf code) [ none ↦ none | some row ↦ elim (leb (row .most) 4) [ true ↦ some row | false ↦ none ] ]

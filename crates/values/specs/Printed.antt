@@ -1,8 +1,8 @@
--- What document 000 prints as the values of its types (6.4.1 to 6.4.3 and 6.4.6 to 6.4.8). Of integers it is the range of the type,
--- less the value printed as not implemented or not accumulated. The range includes that value for acc16, acc32 and acc64 (0) and for
--- uint64 (its upper end; document 01: "not given wins"). One misprint is corrected: a digit is missing from bitfield32's upper end.
--- bitfield64 is named, without a range: change request 1 gives it that of the narrower bitfields. Of floats it is what IEEE 754 has.
--- raw16 and ipaddr are not in the tables: no range is printed for them.
+-- The values of the types as document 000 prints them (6.4.1 to 6.4.3 and 6.4.6 to 6.4.8).
+-- Integers: the type's range without the value printed as not implemented or not accumulated. The range includes that value for
+-- acc16, acc32 and acc64 (0) and for uint64 (its upper end; document 01: "not given wins"). One misprint is corrected: a digit is
+-- missing from bitfield32's upper end. bitfield64 has no printed range: change request 1 gives it that of the narrower bitfields.
+-- Floats: the numbers of the type's format of IEEE 754. raw16 and ipaddr are in neither table: no range is printed for them.
 use mathlib.Core.Path.{_≡_}
 use mathlib.Core.Bool.{not}
 use mathlib.Core.Logic.{_↔_}
@@ -73,7 +73,7 @@ decodedInteger unimplemented = none
 decodedInteger outOfRange = none
 decodedInteger (refused n place) = none
 
--- Four registers that are decoded, under a type code, as a result of which `Is` holds.
+-- Four registers whose result under a type code satisfies `Is`.
 pub record DecodedFrom (code : ℕ) (Is : Decoded → Type 0) : Type 0 where
   pub registers : List ℕ
   pub four : length registers ≡ 4

@@ -3,7 +3,7 @@ ghost use mathlib.Core.Path.{_≡_};
 ghost use lib.Ieee.{nanBits};
 ghost use Rattle.point_types.specs.Rows.{Listed};
 ghost use Rattle.point_types.specs.CodeTypes.{toSpecFormat, toSpecKind, toSpecUnimplemented, toSpecRow};
-ghost use Rattle.values.specs.Classes.{PatternOf, ofClass, twosComplement, isUnimplemented, inRange, isScaleFactor, isNaN, isValue, classOf, classified};
+ghost use Rattle.values.specs.Classes.{PatternOf, ofClass, twosComplement, isUnimplemented, inRange, isScaleFactor, holdsNaN, isValue, classOf, classified};
 ghost use Rattle.values.specs.CodeTypes.{toSpecClass, toSpecClassified};
 use crate::Class;
 use crate::Classified;
@@ -104,7 +104,7 @@ fn in_range(row: TypeRow, raw: u64) -> bool
         Range::UpTo(high) => raw <= high,
         Range::Only(pattern) => raw == pattern,
         Range::ScaleFactor => scale_factor_in_range(raw as u16),
-        Range::NotNan => !is_nan(kind, raw),
+        Range::NotNan => !holds_nan(kind, raw),
     }
 }
 
@@ -119,8 +119,8 @@ pub fn scale_factor_in_range(scale: u16) -> bool
 }
 
 // Is it the pattern of a NaN of its type's kind? Integers have none.
-fn is_nan(kind: Kind, raw: u64) -> bool
-    ensures { λ r. ⌜ r ≡ isNaN (toSpecKind kind) raw ⌝ }
+fn holds_nan(kind: Kind, raw: u64) -> bool
+    ensures { λ r. ⌜ r ≡ holdsNaN (toSpecKind kind) raw ⌝ }
 {
     match kind {
         Kind::Signed => false,
@@ -129,7 +129,7 @@ fn is_nan(kind: Kind, raw: u64) -> bool
     }
 }
 
-// Is it the pattern of a NaN? Then, without its sign, it is above infinity's.
+// Is it the pattern of a NaN: without its sign bit, above infinity's?
 fn is_nan_pattern(format: Format, raw: u64) -> bool
     ensures { λ r. ⌜ r ≡ nanBits (toSpecFormat format) raw ⌝ }
 {

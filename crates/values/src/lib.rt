@@ -105,7 +105,7 @@ fn number_of(row: TypeRow, raw: u64) -> Value
     }
 }
 
-// The float of a pattern that is no NaN's.
+// The float of a pattern that is not a NaN's.
 fn float_of(format: Format, raw: u64) -> Value
     requires { ⌜ raw < 2 * top (toSpecFormat format) ⌝ }
     requires { ⌜ nanBits (toSpecFormat format) raw ≡ false ⌝ }

@@ -17,6 +17,7 @@ use Rattle.registers.proofs.Splitting.{split-length, join-split, one-register}
 use Rattle.registers.proofs.StoredRegisters.{stored-outside, run-stored, first-stored, part-stays}
 use Rattle.point_types.specs.Rows.{mayScale}
 use Rattle.values.specs.Classes.{value, ofClass, classified, isValue, isUnimplementedClass}
+use Rattle.values.proofs.ClassCases.{value-class}
 use Rattle.catalog_frames.specs.Frames.{Point, scaleByPoint, sunssf}
 use Rattle.frame_rules.specs.FrameTests.{isSizeOf}
 use Rattle.model_definitions.specs.Definitions.{Content}
@@ -229,7 +230,7 @@ module _ (top : Content) (w : ModelPoint) (raw : ℕ) (body : List ℕ) where
         now-value here =
             ap (λ (x : Point). classified (x .typeCode) (join (registersAt new a p))) (same-point here)
             ∙ ap (classified (w .definition .typeCode)) (ap join (holding here) ∙ join-split (w .definition .size) raw narrow)
-            ∙ status.value-class (classified (w .definition .typeCode) raw)
+            ∙ value-class (classified (w .definition .typeCode) raw)
             (both (isValue (classified (w .definition .typeCode) raw)) (not (tooWide (w .definition .size) raw)) (x .holds) .0)
 
         -- So the point written holds the raw value.

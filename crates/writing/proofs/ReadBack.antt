@@ -18,6 +18,7 @@ use Rattle.registers.specs.Registers.{split, tooWide}
 use Rattle.registers.proofs.Splitting.{split-length}
 use Rattle.registers.proofs.StoredRegisters.{stored-outside}
 use Rattle.values.specs.Classes.{value, Classified, ofClass, classified, isValue}
+use Rattle.values.proofs.ClassCases.{value-class}
 use Rattle.catalog_frames.specs.Frames.{Point, scaleByPoint}
 use Rattle.model_definitions.specs.Definitions.{Content, definitions}
 use Rattle.layout.specs.Points.{ModelPoint, statusOf, scaleOf}
@@ -32,7 +33,6 @@ use Rattle.writing.specs.Writing.{rewritten, written, writing}
 use Rattle.writing.specs.AfterWriting.{isScaleFactorOf, Holds, rescaled, RecordAfter}
 use Rattle.writing.specs.ScaleFactors.{IsFactor}
 use Rattle.writing.specs.ReadBack.{ScaledBy, ReadBack}
-use Rattle.writing.proofs.ValueStatus.{value-class}
 use Rattle.writing.proofs.WritingCases.{Writable, refusal-none, accepted-write}
 use Rattle.writing.proofs.AfterCases.{same-record, after-written, after-unscaled}
 use Rattle.writing.proofs.MapAfter.{map-after}

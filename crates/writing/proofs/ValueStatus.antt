@@ -16,14 +16,6 @@ use Rattle.shown_points.proofs.PointClasses.{row-of-size}
 
 -- ---- Classes
 
--- A raw value that passes the test `isValue` is of the class of values.
-pub value-class : (c : Classified) → isValue c ≡ true → c ≡ ofClass value
-value-class (ofClass value) e = refl
-value-class (ofClass unimplemented) e = clash (sym e)
-value-class (ofClass outOfRange) e = clash (sym e)
-value-class tooWide e = clash (sym e)
-value-class unknownType e = clash (sym e)
-
 -- A point that is implemented, and not out of range by its status, has a value.
 pub was-value : (p : Point) (c : Classified) (register : ℕ) → isUnimplementedClass c ≡ false → (statusOf p c register ≡ 5 → ⊥)
     → c ≡ ofClass value

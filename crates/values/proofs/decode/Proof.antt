@@ -10,10 +10,11 @@ use Rattle.values.proofs.FoundRow as found
 use Rattle.values.proofs.decode.Statement.{statement}
 use Rattle.values.proofs.decode.Tie as tie
 
--- The row found is the table's.
+-- The row found,
 abbrev rowAt : tie.After-found → TypeRow
 rowAt c = toSpecRow (c .found .given .0 .0)
 
+-- which is the table's.
 at : (c : tie.After-found) → rowOf (c .before .before .before .args .type-code) ≡ some (rowAt c)
 at c = sym (c .before .before .row-of .ensures) ∙ ap toSpecFound (c .found .given .1)
 

@@ -1,4 +1,4 @@
--- `float_of` reads the pattern in its format: it has the format's width and is no NaN's.
+-- `float_of` reads the pattern in its format: it has the format's width and is not a NaN's.
 use mathlib.Core.Path.{_≡_, sym, ap}
 use mathlib.Core.Bool.{false}
 use borrow.Author.Needs.{needs}

@@ -38,7 +38,7 @@ returns-4 c =
 returns-5 : tie.Need-returns-5
 returns-5 c =
     let s = c .before .before .before in
-    ap not (c .is-nan .ensures)
+    ap not (c .holds-nan .ensures)
     ∙ sym (ranges.in-not-nan (toSpecRow (s .args .row)) (s .args .raw) (ap toSpecRange (c .before .enum-told3 .given .1)))
 
 pub in-range-spec : {M : Type 1} → statement M

@@ -1,4 +1,4 @@
--- `is_nan_pattern` makes the one comparison that tells a NaN's pattern, by the library's law for both formats.
+-- `is_nan_pattern` is one comparison, by the library's law for both formats.
 use mathlib.Core.Path.{sym, ap, _∙_}
 use borrow.Author.Needs.{needs}
 use lib.Ieee.{Format, binary32, binary64, nanBits}

@@ -19,8 +19,8 @@ use Rattle.lists.proofs.TestOutcomes.{impossible}
 use Rattle.registers.specs.Registers.{tooWide}
 use Rattle.point_types.specs.Rows.{TypeRow, between, rows, rowAmong, rowOf}
 use Rattle.point_types.proofs.Table.{rowIn, listed}
-use Rattle.values.specs.Classes.{width, Class, value, unimplemented, outOfRange, classOf, PatternOf, ofClass, isValue, classified}
-use Rattle.values.proofs.ClassCases.{of-class}
+use Rattle.values.specs.Classes.{width, value, classOf, PatternOf, isValue, classified}
+use Rattle.values.proofs.ClassCases.{value-class, of-class}
 use Rattle.values.proofs.Ranges.{in-up-to}
 use Rattle.values.proofs.ThreeClasses.{class-is-its-tests}
 use Rattle.values.proofs.UnscaledCases.{value-fits}
@@ -56,13 +56,9 @@ module _ (code raw : ℕ) (row : TypeRow) (is : rowOf code ≡ some row) where
       let fits = value-fits code raw row is v in
       let p : PatternOf row raw = record { listed = listed code row is; fits = fits } in
       let c = of-class code raw row is (lt-leb (2 ^ width row) raw fits) in
-      let tests = class-is-its-tests row raw value .0 (is-value-class (classOf row raw) (ap isValue (sym c) ∙ v)) in
-      leb-true raw high (sym (in-up-to row raw p high e) ∙ tests .1)
-    where
-      is-value-class : (class : Class) → isValue (ofClass class) ≡ true → class ≡ value
-      is-value-class value t = refl
-      is-value-class unimplemented t = impossible (cc)
-      is-value-class outOfRange t = impossible (cc)
+      let d = value-class (classified code raw) v in
+      let class : classOf row raw ≡ value = cc in
+      leb-true raw high (sym (in-up-to row raw p high e) ∙ class-is-its-tests row raw value .0 class .1)
 
   -- What `event_bits` accepts is a bitfield's code and a value; the lowest position is the first one.
   accepted : (count lowest : ℕ) → eventBits code raw ≡ bits count lowest
@@ -92,9 +88,9 @@ module _ (code raw : ℕ) (row : TypeRow) (is : rowOf code ≡ some row) where
       go false a false b false c t f g h = impossible (cc)
 
   -- The claim, of every position,
-  pub positions-in-width : (count lowest : ℕ) → eventBits code raw ≡ bits count lowest → Each (λ p. suc p < width row) (setPositions raw)
+  pub positions-below-top : (count lowest : ℕ) → eventBits code raw ≡ bits count lowest → Each (λ p. suc p < width row) (setPositions raw)
   unfolding rows rowAmong
-  positions-in-width count lowest q =
+  positions-below-top count lowest q =
       let a = accepted count lowest q in
       by-code (a .0) (at 5 0x7FFF refl refl refl (a .1)) (at 13 0x7FFFFFFF refl refl refl (a .1)) (at 21 0x7FFFFFFFFFFFFFFF refl refl refl (a .1))
     where
@@ -109,8 +105,8 @@ module _ (code raw : ℕ) (row : TypeRow) (is : rowOf code ≡ some row) where
           (all-below 64 0 raw (width row - 1) (omega arith))
 
   -- and of the lowest, which is 64 if no bit is set.
-  pub lowest-in-width : (count lowest : ℕ) → eventBits code raw ≡ bits count lowest → (lowest ≡ 64) ⊎ (suc lowest < width row)
-  lowest-in-width count lowest q = go (setPositions raw) (accepted count lowest q .2) (positions-in-width count lowest q)
+  pub lowest-below-top : (count lowest : ℕ) → eventBits code raw ≡ bits count lowest → (lowest ≡ 64) ⊎ (suc lowest < width row)
+  lowest-below-top count lowest q = go (setPositions raw) (accepted count lowest q .2) (positions-below-top count lowest q)
     where
       go : (ps : List ℕ) → firstOr 64 ps ≡ lowest → Each (λ p. suc p < width row) ps → (lowest ≡ 64) ⊎ (suc lowest < width row)
       go [] e all = inl (sym e)
