@@ -11,9 +11,9 @@ use lib.Ieee.Bits.{is-false, ofBits-fits, ofBits-toBits, toBits-lt, nanBits-is}
 use Rattle.lists.specs.Each.{Each}
 use Rattle.lists.proofs.EachLaws.{each-implied}
 use Rattle.lists.proofs.TestOutcomes.{impossible}
-use Rattle.point_types.specs.Rows.{TypeRow, Listed, Kind, float, Unimplemented, never, pattern, rows, rowAmong}
+use Rattle.point_types.specs.Rows.{TypeRow, Listed, float, Unimplemented, never, pattern, rows, rowAmong}
 use Rattle.point_types.proofs.Table.{rowIn, listed, float-row}
-use Rattle.values.specs.Classes.{Class, width, isUnimplemented, holdsNaN, inRange, classOf}
+use Rattle.values.specs.Classes.{Class, width, isUnimplemented, inRange, classOf}
 use Rattle.values.specs.Decoding as decoding
 use Rattle.values.specs.Decoding.{Decoded, patternIn, numberOf, decodable, decoded}
 use Rattle.values.specs.Printed.{PrintedFormat, printedFormats, NumberIn, WithinFormat, DecodedFrom, DecodedAsFormat}

@@ -7,7 +7,7 @@ use lib.Dec.{eqb}
 use Rattle.lists.proofs.TestOutcomes.{clash}
 use Rattle.point_types.specs.Rows.{rows, rowAmong, mayScale, registersOf}
 use Rattle.point_types.proofs.Table.{listed, scalable-width}
-use Rattle.values.specs.Classes.{value, unimplemented, outOfRange, Classified, ofClass, tooWide, unknownType, classified, isValue, isUnimplementedClass}
+use Rattle.values.specs.Classes.{value, unimplemented, outOfRange, Classified, ofClass, tooWide, unknownType, classified, isUnimplementedClass}
 use Rattle.catalog_frames.specs.Frames.{Point, scaleByPoint, sunssf}
 use Rattle.frame_rules.specs.FrameTests.{isSizeOf}
 use Rattle.layout.specs.Points.{statusOf, scaleStatus}
