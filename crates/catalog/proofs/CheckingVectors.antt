@@ -1,4 +1,5 @@
--- Document 01, "Checking", clause by clause, with the types of change request 1: a catalog for each clause and what checking returns, computed together.
+-- Document 01, "Checking", clause by clause, and the types of change request 1: a catalog for each clause and what checking returns,
+-- computed together.
 use mathlib.Core.Path.{_≡_, refl}
 use mathlib.Core.List.{List, [], _∷_, _++_, map}
 use Prim.Native.Nat.{ℕ}

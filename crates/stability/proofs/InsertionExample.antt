@@ -1,19 +1,21 @@
 -- Insertion on two examples: a map with models 1 and 7, two unknown models inserted after model 1 and one after model 7; and a battery
 -- with a bitfield64 and a float64, two unknown models inserted before it and one after it.
 use mathlib.Core.Path.{_≡_, refl, sym, ap, _∙_}
+use mathlib.Core.Bool.{false}
 use mathlib.Core.List.{List, [], _∷_}
 use Prim.Native.Nat.{ℕ, _+_, _≤_}
 use native.Mathlib.Omega.{arith}
 use lib.ListN.{length, replicate}
 use lib.Ieee.{nanBits}
 use Rattle.lists.specs.Each.{Each}
+use Rattle.lists.specs.Members.{among}
 use Rattle.registers.specs.Registers.{join, shownRaw, tooWide}
 use Rattle.point_types.specs.Rows.{rows, rowAmong, registersOf}
 use Rattle.values.specs.Classes.{integer, inRange, classOf, classified}
-use Rattle.catalog_frames.specs.Frames.{frameOf, framesFrom}
+use Rattle.catalog_frames.specs.Frames.{frameOf, framesFrom, frames}
 use Rattle.frame_rules.specs.FrameTests.{isSizeOf}
 use Rattle.catalog.specs.Checking.{checkFrom, checked}
-use Rattle.model_definitions.specs.Definitions.{parsed}
+use Rattle.model_definitions.specs.Definitions.{parsed, modelIds}
 use Rattle.register_map.specs.Headers.{opening}
 use Rattle.register_map.specs.Scan as Scan
 use Rattle.register_map.specs.Scan.{Model, WellFormed, scanFrom, scan}
@@ -21,7 +23,7 @@ use Rattle.register_map.specs.Insertion.{placed, lengthened, gapsBefore}
 use Rattle.layout.specs.Points.{ModelPoint, pointAt}
 use Rattle.layout.specs.Layout.{within, measured, fillMeasured, countUnimplemented, fits, fillOf, pointsAt, groupsBy, entered, contentAt}
 use Rattle.layout.specs.Reading.{endsWithPad, readFull, readBy, topOf, reading}
-use Rattle.listing.specs.Listing.{Record, recordNumbers, listed, walk, recordsBy, allRecords, withCapacity, listing, stored, listedResult, refusedResult, consecutive}
+use Rattle.listing.specs.Listing.{Record, Answer, recordNumbers, listed, walk, recordsBy, allRecords, withCapacity, listing, stored, listedResult, refusedResult, consecutive}
 use Rattle.listing.specs.declared.Listing as Code
 use Rattle.listing.specs.CodeTypes.{toSpecListing}
 use Rattle.listing.specs.Calls.{ListCall, recordsIn}
@@ -88,13 +90,27 @@ whole = (3, refl)
 well : (id : ℕ) (x : ℕ) (xs : List ℕ) → (id ≡ 0 → ⊥) → (id ≡ 65535 → ⊥) → WellFormed (record { id = id; body = x ∷ xs })
 well id x xs a b = record { notZero = a; notMarker = b; notEmpty = omega arith }
 
+-- The inserted models are unknown to a catalog without the ids 9 and 10.
+unknown-to : (c : List ℕ) → among 9 (modelIds (frames c)) ≡ false → among 10 (modelIds (frames c)) ≡ false → Each (Each (UnknownModel c)) gaps
+unknown-to c no9 no10 =
+    let nine : (x : ℕ) (xs : List ℕ) → UnknownModel c (record { id = 9; body = x ∷ xs }) =
+    λ x xs. record { wellFormed = well 9 x xs (λ q. omega arith) (λ q. omega arith); notKnown = no9 } in
+    let ten : UnknownModel c (record { id = 10; body = 5 ∷ [] }) =
+    record { wellFormed = well 10 5 [] (λ q. omega arith) (λ q. omega arith); notKnown = no10 } in
+    ((nine 0 (0 ∷ []), (ten, tt)), ((nine 1 (2 ∷ 3 ∷ []), tt), tt))
+
 unknown : Each (Each (UnknownModel catalog)) gaps
 unfolding frameOf framesFrom
-unknown =
-    let one : UnknownModel catalog (record { id = 9; body = 0 ∷ 0 ∷ [] }) = record { wellFormed = well 9 0 (0 ∷ []) (λ q. omega arith) (λ q. omega arith); notKnown = refl } in
-    let two : UnknownModel catalog (record { id = 10; body = 5 ∷ [] }) = record { wellFormed = well 10 5 [] (λ q. omega arith) (λ q. omega arith); notKnown = refl } in
-    let three : UnknownModel catalog (record { id = 9; body = 1 ∷ 2 ∷ 3 ∷ [] }) = record { wellFormed = well 9 1 (2 ∷ 3 ∷ []) (λ q. omega arith) (λ q. omega arith); notKnown = refl } in
-    ((one, (two, tt)), ((three, tt), tt))
+unknown = unknown-to catalog refl refl
+
+-- By the claim, the listing of a lengthened map is the listing of the map, moved.
+by-insertion : (c map long : List ℕ) → lengthened map gaps ≡ long → MadeOfWholeModels map → Each (Each (UnknownModel c)) gaps
+    → length long ≤ 65536 → (answer moved : Answer) → listing c map 20 ≡ answer
+    → movedAnswer (length (scan map .models)) gaps answer ≡ moved → listing c long 20 ≡ moved
+by-insertion c map long is w u l answer moved e m =
+    ap (λ x. listing c x 20) (sym is)
+    ∙ (insertion c map gaps 20 w u (rw is l) .0
+    ∙ (ap (λ a. movedAnswer (length (scan map .models)) gaps a) e ∙ m))
 
 short : length (lengthened plant gaps) ≤ 65536
 short = rw is-longer (omega arith)
@@ -106,10 +122,7 @@ unfolding scanFrom scan movedAnswer gapsBefore
 expected = refl
 
 pub new : listing catalog longer 20 ≡ listed (model1 ∷ record { index = 3; id = 7; address = 14; point = point 50 } ∷ []) 6
-new =
-    ap (λ m. listing catalog m 20) (sym is-longer)
-    ∙ (insertion catalog plant gaps 20 whole unknown short .0
-    ∙ (ap (λ a. movedAnswer (length (scan plant .models)) gaps a) old ∙ expected))
+new = by-insertion catalog plant longer is-longer whole unknown (omega arith) _ _ old expected
 
 -- Each record is moved by exactly the inserted models with lower addresses.
 pub lower : MovedByLower (placed (scan plant .models) gaps) gaps (listing catalog plant 20)
@@ -163,19 +176,13 @@ batteryCatalog =
 abbrev battery : List ℕ
 battery = 0x5375 ∷ 0x6E53 ∷ 1 ∷ 1 ∷ 40 ∷ 64920 ∷ 8 ∷ 0x4000 ∷ 0 ∷ 0 ∷ 1 ∷ 0x3FF8 ∷ 0 ∷ 0 ∷ 0 ∷ 0xFFFF ∷ 0 ∷ []
 
--- Unknown models of 3 registers and 1 after the common model, (2 + 3) + (2 + 1) = 8 registers, and one after the battery.
-abbrev batteryGaps : List (List Model)
-batteryGaps =
-    (record { id = 9; body = 1 ∷ 2 ∷ 3 ∷ [] } ∷ record { id = 10; body = 5 ∷ [] } ∷ [])
-    ∷ (record { id = 9; body = 0 ∷ 0 ∷ [] } ∷ [])
-    ∷ []
-
+-- The same unknown models: two after the common model, (2 + 2) + (2 + 1) = 7 registers, and one after the battery.
 abbrev batteryLonger : List ℕ
 batteryLonger =
-    0x5375 ∷ 0x6E53 ∷ 1 ∷ 1 ∷ 40 ∷ 9 ∷ 3 ∷ 1 ∷ 2 ∷ 3 ∷ 10 ∷ 1 ∷ 5 ∷ 64920 ∷ 8 ∷ 0x4000 ∷ 0 ∷ 0 ∷ 1 ∷ 0x3FF8 ∷ 0 ∷ 0 ∷ 0 ∷ 9 ∷ 2 ∷ 0 ∷ 0
+    0x5375 ∷ 0x6E53 ∷ 1 ∷ 1 ∷ 40 ∷ 9 ∷ 2 ∷ 0 ∷ 0 ∷ 10 ∷ 1 ∷ 5 ∷ 64920 ∷ 8 ∷ 0x4000 ∷ 0 ∷ 0 ∷ 1 ∷ 0x3FF8 ∷ 0 ∷ 0 ∷ 0 ∷ 9 ∷ 3 ∷ 1 ∷ 2 ∷ 3
     ∷ 0xFFFF ∷ 0 ∷ []
 
-pub battery-is-longer : lengthened battery batteryGaps ≡ batteryLonger
+pub battery-is-longer : lengthened battery gaps ≡ batteryLonger
 unfolding scanFrom scan placed lengthened Scan.modelRegisters
 battery-is-longer = refl
 
@@ -213,21 +220,15 @@ battery-whole : MadeOfWholeModels battery
 unfolding MadeOfWholeModels frameOf framesFrom checkFrom checked parsed opening scanFrom scan topOf reading walk recordsBy allRecords withCapacity listing
 battery-whole = (3, refl)
 
-battery-unknown : Each (Each (UnknownModel batteryCatalog)) batteryGaps
+battery-unknown : Each (Each (UnknownModel batteryCatalog)) gaps
 unfolding frameOf framesFrom
-battery-unknown =
-    let one : UnknownModel batteryCatalog (record { id = 9; body = 1 ∷ 2 ∷ 3 ∷ [] }) = record { wellFormed = well 9 1 (2 ∷ 3 ∷ []) (λ q. omega arith) (λ q. omega arith); notKnown = refl } in
-    let two : UnknownModel batteryCatalog (record { id = 10; body = 5 ∷ [] }) = record { wellFormed = well 10 5 [] (λ q. omega arith) (λ q. omega arith); notKnown = refl } in
-    let three : UnknownModel batteryCatalog (record { id = 9; body = 0 ∷ 0 ∷ [] }) = record { wellFormed = well 9 0 (0 ∷ []) (λ q. omega arith) (λ q. omega arith); notKnown = refl } in
-    ((one, (two, tt)), ((three, tt), tt))
+battery-unknown = unknown-to batteryCatalog refl refl
 
-battery-moved : movedAnswer (length (scan battery .models)) batteryGaps (listed (batteryRecords 1 7) 3) ≡ listed (batteryRecords 3 15) 6
+battery-moved : movedAnswer (length (scan battery .models)) gaps (listed (batteryRecords 1 7) 3) ≡ listed (batteryRecords 3 14) 6
 unfolding scanFrom scan movedAnswer gapsBefore
 battery-moved = refl
 
--- Both points have moved by 8 registers, and the model's index by 2; status, raw value and scale factor are the same.
-pub battery-new : listing batteryCatalog batteryLonger 20 ≡ listed (batteryRecords 3 15) 6
+-- Both points have moved by 7 registers, and the model's index by 2; status, raw value and scale factor are the same.
+pub battery-new : listing batteryCatalog batteryLonger 20 ≡ listed (batteryRecords 3 14) 6
 battery-new =
-    ap (λ m. listing batteryCatalog m 20) (sym battery-is-longer)
-    ∙ (insertion batteryCatalog battery batteryGaps 20 battery-whole battery-unknown (rw battery-is-longer (omega arith)) .0
-    ∙ (ap (λ a. movedAnswer (length (scan battery .models)) batteryGaps a) battery-old ∙ battery-moved))
+    by-insertion batteryCatalog battery batteryLonger battery-is-longer battery-whole battery-unknown (omega arith) _ _ battery-old battery-moved

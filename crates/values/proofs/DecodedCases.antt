@@ -1,5 +1,5 @@
 -- The cases of `decoded`, each with its reason: the laws about decoded numbers go by these.
-use mathlib.Core.Path.{_≡_, refl}
+use mathlib.Core.Path.{_≡_, refl, sym, subst}
 use mathlib.Core.List.{List}
 use mathlib.Core.Option.{Option, none, some}
 use Prim.Native.Nat.{ℕ}
@@ -7,6 +7,7 @@ use lib.Ieee.{Format, ofBits}
 use Rattle.point_types.specs.Rows.{TypeRow, Kind}
 use Rattle.values.specs.Classes.{Class, classOf, width, twosComplement}
 use Rattle.values.specs.Decoding.{patternIn, Decoded, signed, unsigned, float, unimplemented, outOfRange, refused, numberOf, valueOf, decodable, decoded}
+use Rattle.values.proofs.ClassCases.{by-row}
 
 -- The result for a pattern: a number, read by the type's kind, if the pattern is a value; else unimplemented or out of range.
 pub data ResultOf (row : TypeRow) (raw : ℕ) : Decoded → Type 0 where
@@ -50,3 +51,9 @@ cases code registers = go (decodable code) refl
         → Cases code registers (elim o [ none ↦ refused 40 0 | some row ↦ valueOf row (patternIn row registers) ])
     go none e = noRow e
     go (some row) e = byRow row e (result-of row (patternIn row registers))
+
+-- The result for a code whose row is known.
+pub result-by : (code : ℕ) (registers : List ℕ) (row : TypeRow) → decodable code ≡ some row
+    → ResultOf row (patternIn row registers) (decoded code registers)
+result-by code registers row e =
+    subst (ResultOf row (patternIn row registers)) (sym (by-row code registers row e)) (result-of row (patternIn row registers))

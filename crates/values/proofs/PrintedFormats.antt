@@ -19,7 +19,7 @@ use Rattle.values.specs.Decoding.{Decoded, patternIn, numberOf, decodabl
 use Rattle.values.specs.Printed.{PrintedFormat, printedFormats, NumberIn, WithinFormat, DecodedFrom, DecodedAsFormat}
 use Rattle.values.proofs.ThreeClasses.{class-is-its-tests}
 use Rattle.values.proofs.ClassCases.{row-of-decodable}
-use Rattle.values.proofs.DecodedCases.{ResultOf, asSigned, asUnsigned, asFloat, asUnimplemented, asOutOfRange, Cases, byRow, noRow, cases}
+use Rattle.values.proofs.DecodedCases.{ResultOf, asSigned, asUnsigned, asFloat, asUnimplemented, asOutOfRange, result-by}
 use Rattle.values.proofs.DecodedPatterns.{from-pattern}
 use Rattle.values.proofs.NoNaN.{float-in-range, no-nan}
 
@@ -49,7 +49,7 @@ module _ (r : PrintedFormat) (found : FormatRow r) where
 
   -- Any registers are decoded as a number of the format or as none.
   within : (registers : List ℕ) → WithinFormat r (decoded (r .code) registers)
-  within registers = go refl (cases (r .code) registers)
+  within registers = by-result refl (result-by (r .code) registers (found .row) (found .is))
     where
       by-result : {d : Decoded} → decoded (r .code) registers ≡ d → ResultOf (found .row) (patternIn (found .row) registers) d → WithinFormat r d
       by-result q (asSigned k v) = let e = found .kind in impossible (cc)
@@ -60,12 +60,6 @@ module _ (r : PrintedFormat) (found : FormatRow r) where
           (same, (ofBits-fits g (patternIn (found .row) registers), no-nan (r .code) registers g _ q))
       by-result q (asUnimplemented v) = tt
       by-result q (asOutOfRange v) = tt
-
-      go : {d : Decoded} → decoded (r .code) registers ≡ d → Cases (r .code) registers d → WithinFormat r d
-      go {d} q (byRow other e a) =
-          let s : other ≡ found .row = cc in
-          by-result q (subst (λ (x : TypeRow). ResultOf x (patternIn x registers) d) s a)
-      go q (noRow e) = impossible (cc)
 
   decoded-number : (x : Float) (d : Decoded) → WithinFormat r d → d ≡ decoding.float f x → NumberIn f x
   decoded-number x d w e = subst (WithinFormat r) e w .1

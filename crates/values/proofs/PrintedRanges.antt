@@ -34,7 +34,7 @@ use Rattle.values.proofs.Ranges.{in-whole, in-between, signed-integer, 
 use Rattle.values.proofs.TwosComplement.{by-half, lower-half, upper-half, pattern-back}
 use Rattle.values.proofs.MachineIntegers.{halves}
 use Rattle.values.proofs.ClassCases.{row-of-decodable}
-use Rattle.values.proofs.DecodedCases.{ResultOf, asSigned, asUnsigned, asFloat, asUnimplemented, asOutOfRange, Cases, byRow, noRow, cases}
+use Rattle.values.proofs.DecodedCases.{ResultOf, asSigned, asUnsigned, asFloat, asUnimplemented, asOutOfRange, result-by}
 use Rattle.values.proofs.DecodedPatterns.{from-pattern}
 use Rattle.values.proofs.RoundTrip.{holds-pattern}
 
@@ -308,7 +308,7 @@ module _ (r : PrintedRange) (row : TypeRow) (is : decodable (r .code) ≡ some r
 
   -- Any registers are decoded as a printed integer or as none.
   within : (registers : List ℕ) → length registers ≡ 4 → AreRegisters registers → Within r (decoded (r .code) registers)
-  within registers four all = go (cases (r .code) registers)
+  within registers four all = by-result (result-by (r .code) registers row is)
     where
       at : (raw : ℕ) → PatternOf row raw → classOf row raw ≡ classes.value → (z : ℤ) → integer row raw ≡ z → InPrinted r z
       at raw p v z e = subst (InPrinted r) e (in-order r (integer row raw) .0 (value-printed r row is-listed tests raw (p .fits) .0 v))
@@ -323,12 +323,6 @@ module _ (r : PrintedRange) (row : TypeRow) (is : decodable (r .code) ≡ some r
       by-result (asFloat f k v) = absurd (not-float r row is-listed tests f k)
       by-result (asUnimplemented v) = tt
       by-result (asOutOfRange v) = tt
-
-      go : {d : Decoded} → Cases (r .code) registers d → Within r d
-      go {d} (byRow other e a) =
-          let s : other ≡ row = cc in
-          by-result (subst (λ (x : TypeRow). ResultOf x (patternIn x registers) d) s a)
-      go (noRow e) = impossible (cc)
 
   -- A printed integer is decoded from the registers of its pattern.
   module _ (z : ℤ) (b : InPrinted r z) where

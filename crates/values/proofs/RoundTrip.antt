@@ -1,5 +1,5 @@
 -- A decoded number, encoded as registers again, gives the registers that it was read from.
-use mathlib.Core.Path.{_≡_, refl, ap, subst, _∙_}
+use mathlib.Core.Path.{_≡_, refl, ap, _∙_}
 use mathlib.Core.List.{List}
 use mathlib.Core.Bool.{not}
 use mathlib.Core.Option.{some}
@@ -18,7 +18,7 @@ use Rattle.values.specs.Decoding.{patternIn, Decoded, decodable, decoded
 use Rattle.values.specs.Encoding.{rawValueOf, encoded}
 use Rattle.values.proofs.TwosComplement.{pattern-back}
 use Rattle.values.proofs.ClassCases.{row-of-decodable, decodable-most}
-use Rattle.values.proofs.DecodedCases.{ResultOf, asSigned, asUnsigned, asFloat, asUnimplemented, asOutOfRange, Cases, byRow, noRow, cases}
+use Rattle.values.proofs.DecodedCases.{ResultOf, asSigned, asUnsigned, asFloat, asUnimplemented, asOutOfRange, result-by}
 use Rattle.values.proofs.FoundRow.{pattern-of, first-length}
 use Rattle.values.proofs.NoNaN.{no-nan-pattern}
 
@@ -44,18 +44,12 @@ module _ (code : ℕ) (registers : List ℕ) (four : length registers ≡ 4) (al
   pub round-trip : (row : TypeRow) → decodable code ≡ some row → classOf row (patternIn row registers) ≡ Class.value
       → encoded row (decoded code registers) ≡ some (take (row .most) registers)
   unfolding encoded
-  round-trip row e v = go (cases code registers)
+  round-trip row e v =
+      simp (encoded, raw-back row (patternIn row registers) (decoded code registers) (holds-pattern row e) (result-by code registers row e) v)
+      (ap some back)
     where
       back : split (row .most) (patternIn row registers) ≡ take (row .most) registers
       back =
           ap (λ (k : ℕ). split k (patternIn row registers))
           (first-length code registers row four (decodable-most code row e) (row-of-decodable code row e))
           ∙ split-join (take (row .most) registers) (first-registers (row .most) registers all)
-
-      go : {d : Decoded} → Cases code registers d → encoded row d ≡ some (take (row .most) registers)
-      go {d} (byRow other is a) =
-          let s : other ≡ row = cc in
-          let r = raw-back row (patternIn row registers) d (holds-pattern row e)
-          (subst (λ (r : TypeRow). ResultOf r (patternIn r registers) d) s a) v in
-          simp (encoded, r) (ap some back)
-      go (noRow is) = cc

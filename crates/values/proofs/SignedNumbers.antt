@@ -10,7 +10,7 @@ use lib.Dec.{lt→ltb, ltb→lt}
 use lib.IntN.{ℤ, pos, negsuc, _+ℤ_, _-ℤ_, -ℤ-+ℤ-cancel, +ℤ-negℤ-cancel}
 use lib.ListN.{length}
 use Rattle.registers.specs.Registers.{AreRegisters}
-use Rattle.point_types.specs.Rows.{TypeRow, Kind}
+use Rattle.point_types.specs.Rows.{TypeRow}
 use Rattle.point_types.proofs.Table.{listed, signed-width}
 use Rattle.values.specs.Classes.{width, twosComplement}
 use Rattle.values.specs.Decoding.{patternIn, signed, decodable, decoded}
@@ -19,7 +19,7 @@ use Rattle.values.proofs.IntegerOrder.{negative-le, negative-le-negativ
 use Rattle.values.proofs.ClassCases.{row-of-decodable}
 use Rattle.values.proofs.TwosComplement.{by-half, less}
 use Rattle.values.proofs.MachineIntegers.{halves}
-use Rattle.values.proofs.DecodedCases.{asSigned, Cases, byRow, cases}
+use Rattle.values.proofs.DecodedCases.{ResultOf, asSigned, result-by}
 use Rattle.values.proofs.RoundTrip.{holds-pattern}
 
 module _ (width raw : ℕ) (wide : 1 ≤ width) (fits : raw < 2 ^ width) where
@@ -69,16 +69,9 @@ module _ (width raw : ℕ) (wide : 1 ≤ width) where
 module _ (code : ℕ) (registers : List ℕ) (four : length registers ≡ 4) (all : AreRegisters registers) where
   pub signed-number : (row : TypeRow) → decodable code ≡ some row → (z : ℤ) → decoded code registers ≡ signed z
       → TwosComplementOf (width row) (patternIn row registers) z
-  signed-number row e z q = go z (subst (Cases code registers) q (cases code registers))
+  signed-number row e z q = go z (subst (ResultOf row (patternIn row registers)) q (result-by code registers row e))
     where
-      at : (r : TypeRow) → decodable code ≡ some r → r .kind ≡ Kind.signed
-          → TwosComplementOf (width r) (patternIn r registers) (twosComplement (width r) (patternIn r registers))
-      at r is k =
-          twos-complement (width r) (patternIn r registers)
-          (omega (arith, signed-width r (listed code r (row-of-decodable code r is)) k)) (holds-pattern code registers four all r is .fits)
-
-      go : (y : ℤ) → Cases code registers (signed y) → TwosComplementOf (width row) (patternIn row registers) y
-      go y (byRow other is (asSigned k v)) =
-          let s : other ≡ row = cc in
-          let z = twosComplement (width other) (patternIn other registers) in
-          subst (λ (r : TypeRow). TwosComplementOf (width r) (patternIn r registers) z) s (at other is k)
+      go : (y : ℤ) → ResultOf row (patternIn row registers) (signed y) → TwosComplementOf (width row) (patternIn row registers) y
+      go y (asSigned k v) =
+          twos-complement (width row) (patternIn row registers)
+          (omega (arith, signed-width row (listed code row (row-of-decodable code row e)) k)) (holds-pattern code registers four all row e .fits)
