@@ -2,6 +2,7 @@
 use mathlib.Core.Path.{_≡_, refl, sym, ap, subst, _∙_}
 use mathlib.Core.Bool.{Bool, true, false, not, _&&_, _||_, Bool·beq}
 use mathlib.Core.List.{List, [], _∷_}
+use mathlib.Core.Logic.{_↔_, inl, inr}
 use mathlib.Core.Option.{Option, none, some}
 use Prim.Native.Nat.{ℕ, zero, suc, _+_, _-_, _*_, _^_, _≤_, _<_}
 use native.Mathlib.Nat.{add-zero, add-suc, suc-add}
@@ -14,7 +15,7 @@ use lib.Ieee.{Format, top}
 use lib.Ieee.Fits.{and-l, and-r}
 use Rattle.lists.specs.Tests.{every}
 use Rattle.lists.proofs.TestOutcomes.{impossible}
-use Rattle.point_types.specs.Rows.{TypeRow, row, Kind, signed, unsigned, float, Unimplemented, never, pattern, Range, whole, between, notNaN, rows, rowAmong, rowOf, Listed}
+use Rattle.point_types.specs.Rows.{TypeRow, row, Kind, signed, unsigned, accumulator, float, Unimplemented, never, pattern, Range, whole, between, notNaN, rows, rowAmong, rowOf, Listed, isAccumulator, AccumulatorCode}
 
 -- The row found has the search code, and passes a test that every row of the list passes.
 found-among : (test : TypeRow → Bool) (rs : List TypeRow) (c : ℕ) (r : TypeRow) → T (every test rs) → rowAmong rs c ≡ some r
@@ -101,6 +102,13 @@ one-to-64 c r e =
     let high = and-r (leb 1 (r .fewest)) (leb (r .most) 64) t in
     (leb→le 1 (r .fewest) low, leb→le (r .most) 64 high)
 
+-- Two tests that agree have one outcome.
+same-outcome : (a b : Bool) → T (Bool·beq a b) → a ≡ b
+same-outcome true true t = refl
+same-outcome true false t = absurd t
+same-outcome false true t = absurd t
+same-outcome false false t = refl
+
 -- The codes that `decode` takes, 1–18, 21 and 22, are those of at most four registers.
 abbrev fourTest : TypeRow → Bool
 fourTest r = Bool·beq (leb (r .most) 4) (leb (r .code) 18 || leb 21 (r .code))
@@ -109,13 +117,7 @@ pub four-registers : (c : ℕ) (r : TypeRow) → rowOf c ≡ some r → leb (r .
 unfolding rows
 four-registers c r e =
     let f = found fourTest tt c r e in
-    same (leb (r .most) 4) (leb (r .code) 18 || leb 21 (r .code)) (f .1) ∙ ap (λ (k : ℕ). leb k 18 || leb 21 k) (sym (f .0))
-  where
-    same : (a b : Bool) → T (Bool·beq a b) → a ≡ b
-    same true true t = refl
-    same true false t = absurd t
-    same false true t = absurd t
-    same false false t = refl
+    same-outcome (leb (r .most) 4) (leb (r .code) 18 || leb 21 (r .code)) (f .1) ∙ ap (λ (k : ℕ). leb k 18 || leb 21 k) (sym (f .0))
 
 -- A type of more than four registers is unimplemented if all are 0, and any other pattern is in range.
 abbrev wideTest : Unimplemented → Range → Bool
@@ -148,6 +150,7 @@ scalable-width r l s =
 abbrev kindTest : Kind → ℕ → Range → Bool
 kindTest signed m r = leb 1 m && leb m 4
 kindTest unsigned m r = true
+kindTest accumulator m r = true
 kindTest (float f) m whole = false
 kindTest (float f) m (between low high) = false
 kindTest (float f) m notNaN = eqb (2 ^ (16 * m)) (2 * top f)
@@ -176,9 +179,11 @@ rangeTest whole k m = true
 rangeTest notNaN k m = true
 rangeTest (between (pos low) high) signed m = false
 rangeTest (between (pos low) high) unsigned m = true
+rangeTest (between (pos low) high) accumulator m = true
 rangeTest (between (pos low) high) (float f) m = true
 rangeTest (between (negsuc low) high) signed m = eqb m 1
 rangeTest (between (negsuc low) high) unsigned m = false
+rangeTest (between (negsuc low) high) accumulator m = false
 rangeTest (between (negsuc low) high) (float f) m = false
 
 module _ (r : TypeRow) (l : Listed r) where
@@ -195,6 +200,7 @@ module _ (r : TypeRow) (l : Listed r) where
       go : (k : Kind) → r .kind ≡ k → T (rangeTest (between (negsuc low) high) k (r .most)) → (r .kind ≡ signed) × (r .most ≡ 1)
       go signed q t = (q, eqb→eq (r .most) 1 t)
       go unsigned q t = absurd t
+      go accumulator q t = absurd t
       go (float f) q t = absurd t
 
 -- Only a float type has the range of floats.
@@ -203,6 +209,7 @@ floatTest whole k = true
 floatTest (between low high) k = true
 floatTest notNaN signed = false
 floatTest notNaN unsigned = false
+floatTest notNaN accumulator = false
 floatTest notNaN (float f) = true
 
 pub only-float : (r : TypeRow) → Listed r → r .range ≡ notNaN → (f : Format) × (r .kind ≡ float f)
@@ -212,4 +219,49 @@ only-float r l e = go (r .kind) refl (rw e at (found (λ x. floatTest (x .range)
     go : (k : Kind) → r .kind ≡ k → T (floatTest notNaN k) → (f : Format) × (r .kind ≡ float f)
     go signed q t = absurd t
     go unsigned q t = absurd t
+    go accumulator q t = absurd t
     go (float f) q t = (f, q)
+
+-- The rows of the accumulators are those with the codes 3, 11 and 18, and an optional one is unimplemented at 0.
+abbrev isAccumulatorCode : ℕ → Bool
+isAccumulatorCode c = eqb c 3 || (eqb c 11 || eqb c 18)
+
+accumulator-code : (c : ℕ) → (isAccumulatorCode c ≡ true) ↔ AccumulatorCode c
+accumulator-code c = (listing (eqb c 3) refl (eqb c 11) refl, unlisting)
+  where
+    listing : (a : Bool) → eqb c 3 ≡ a → (b : Bool) → eqb c 11 ≡ b → (a || (b || eqb c 18)) ≡ true → AccumulatorCode c
+    listing true p b q e = inl (eqb-true c 3 p)
+    listing false p true q e = inr (inl (eqb-true c 11 q))
+    listing false p false q e = inr (inr (eqb-true c 18 e))
+
+    unlisting : AccumulatorCode c → isAccumulatorCode c ≡ true
+    unlisting (inl e) = rw e
+    unlisting (inr (inl e)) = rw e
+    unlisting (inr (inr e)) = rw e
+
+abbrev accumulatorTest : Kind → Unimplemented → Bool
+accumulatorTest signed u = true
+accumulatorTest unsigned u = true
+accumulatorTest (float f) u = true
+accumulatorTest accumulator never = false
+accumulatorTest accumulator (pattern p) = eqb p 0
+
+module _ (c : ℕ) (r : TypeRow) (e : rowOf c ≡ some r) where
+  pub accumulator-codes : (isAccumulator (r .kind) ≡ true) ↔ AccumulatorCode c
+  unfolding rows
+  accumulator-codes =
+      let f = found (λ x. Bool·beq (isAccumulator (x .kind)) (isAccumulatorCode (x .code))) tt c r e in
+      let q : isAccumulator (r .kind) ≡ isAccumulatorCode c =
+      same-outcome (isAccumulator (r .kind)) (isAccumulatorCode (r .code)) (f .1) ∙ ap isAccumulatorCode (sym (f .0)) in
+      (λ a. accumulator-code c .0 (sym q ∙ a), λ a. q ∙ accumulator-code c .1 a)
+
+  pub accumulator-at-0 : isAccumulator (r .kind) ≡ true → r .unimplemented ≡ pattern 0
+  unfolding rows
+  accumulator-at-0 a = go (r .kind) a (r .unimplemented) refl (found (λ x. accumulatorTest (x .kind) (x .unimplemented)) tt c r e .1)
+    where
+      go : (k : Kind) → isAccumulator k ≡ true → (u : Unimplemented) → r .unimplemented ≡ u → T (accumulatorTest k u) → r .unimplemented ≡ pattern 0
+      go signed a u q t = impossible (cc)
+      go unsigned a u q t = impossible (cc)
+      go (float f) a u q t = impossible (cc)
+      go accumulator a never q t = absurd t
+      go accumulator a (pattern p) q t = q ∙ ap pattern (eqb→eq p 0 t)

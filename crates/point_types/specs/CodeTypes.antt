@@ -3,7 +3,9 @@ use mathlib.Core.Option.{Option, none, some}
 use Prim.Native.Nat.{ℕ}
 use lib.IntN.{pos, negℤ}
 use lib.Ieee as Ieee
+use Rattle.point_types.specs.Presence as Presences
 use Rattle.point_types.specs.Rows as Rows
+use Rattle.point_types.specs.declared.Presence.{Presence}
 use Rattle.point_types.specs.declared.Format.{Format}
 use Rattle.point_types.specs.declared.Kind.{Kind}
 use Rattle.point_types.specs.declared.Unimplemented.{Unimplemented}
@@ -11,6 +13,11 @@ use Rattle.point_types.specs.declared.Range.{Range}
 use Rattle.point_types.specs.declared.TypeRow.{TypeRow}
 use Rattle.point_types.specs.declared.Found.{Found}
 use Rattle.point_types.specs.declared.RegisterCount.{RegisterCount}
+
+-- The presence of a point.
+abbrev pub toSpecPresence : Presence → Presences.Presence
+toSpecPresence Presence.Mandatory = Presences.mandatory
+toSpecPresence Presence.Optional = Presences.optional
 
 -- The parts of a row, a row, and the result of `row_of`.
 abbrev pub toSpecFormat : Format → Ieee.Format
@@ -20,6 +27,7 @@ toSpecFormat Format.Binary64 = Ieee.binary64
 abbrev pub toSpecKind : Kind → Rows.Kind
 toSpecKind Kind.Signed = Rows.signed
 toSpecKind Kind.Unsigned = Rows.unsigned
+toSpecKind Kind.Accumulator = Rows.accumulator
 toSpecKind (Kind.Float f) = Rows.float (toSpecFormat f)
 
 abbrev pub toSpecUnimplemented : Unimplemented → Rows.Unimplemented

@@ -1,11 +1,14 @@
-// The point types: the code's table of rows, proved to be that of specs/Rows.antt, and what is looked up in it.
+// The point types: the code's table of rows, proved to be that of specs/Rows.antt, and what is looked up in it; and
+// the presence of a point, which decides whether an accumulator's 0 is a value.
 // Every public call takes any arguments and carries an equation with the definitions of specs/.
 ghost use mathlib.Core.Path.{_≡_};
 ghost use mathlib.Core.Option.{some};
-ghost use Rattle.point_types.specs.Rows.{row, mayScale, registersOf, rowOf};
-ghost use Rattle.point_types.specs.CodeTypes.{toSpecCount, toSpecFound, toSpecKind, toSpecUnimplemented, toSpecRange};
+ghost use Rattle.point_types.specs.Presence.{presenceOf};
+ghost use Rattle.point_types.specs.Rows.{row, mayScale, registersOf, rowOf, isAccumulator, unimplementedFor};
+ghost use Rattle.point_types.specs.CodeTypes.{toSpecPresence, toSpecCount, toSpecFound, toSpecKind, toSpecUnimplemented, toSpecRange, toSpecRow};
 use crate::Format::Binary32;
 use crate::Format::Binary64;
+use crate::Kind::Accumulator;
 use crate::Kind::Float;
 use crate::Kind::Signed;
 use crate::Kind::Unsigned;
@@ -17,16 +20,23 @@ use crate::Range::Whole;
 use crate::Unimplemented::At;
 use crate::Unimplemented::Never;
 
+// Whether a model must have a point.
+pub enum Presence {
+    Mandatory,
+    Optional,
+}
+
 // The formats of IEEE 754 for float32 and float64.
 pub enum Format {
     Binary32,
     Binary64,
 }
 
-// How the bits of a value are read.
+// How the bits of a value are read; those of an accumulator as unsigned.
 pub enum Kind {
     Signed,
     Unsigned,
+    Accumulator,
     Float(Format),
 }
 
@@ -45,7 +55,8 @@ pub enum Range {
     NotNan,
 }
 
-// A type row. Its code is there for the proofs: by it they state that the row is one of the table.
+// A type row. Its code is there for the proofs: by it they state that the row is one of the table. Its unimplemented
+// pattern is that of an optional point.
 pub struct TypeRow {
     pub code: u16,
     pub fewest: u16,
@@ -83,7 +94,7 @@ pub fn row_of(type_code: u16) -> Found
     match type_code {
         1 => row_found(1, 1, 1, true, Signed, At(0x8000), Whole), // int16
         2 => row_found(2, 1, 1, true, Unsigned, At(0xFFFF), Whole), // uint16
-        3 => row_found(3, 1, 1, true, Unsigned, At(0), Whole), // acc16
+        3 => row_found(3, 1, 1, true, Accumulator, At(0), Whole), // acc16
         4 => row_found(4, 1, 1, false, Unsigned, At(0xFFFF), Whole), // enum16
         5 => row_found(5, 1, 1, false, Unsigned, At(0xFFFF), UpTo(0x7FFF)), // bitfield16
         6 => row_found(6, 1, 1, false, Unsigned, Never, Only(0x8000)), // pad
@@ -91,14 +102,14 @@ pub fn row_of(type_code: u16) -> Found
         8 => row_found(8, 1, 1, false, Signed, At(0x8000), ScaleFactor), // sunssf
         9 => row_found(9, 2, 2, true, Signed, At(0x80000000), Whole), // int32
         10 => row_found(10, 2, 2, true, Unsigned, At(0xFFFFFFFF), Whole), // uint32
-        11 => row_found(11, 2, 2, true, Unsigned, At(0), Whole), // acc32
+        11 => row_found(11, 2, 2, true, Accumulator, At(0), Whole), // acc32
         12 => row_found(12, 2, 2, false, Unsigned, At(0xFFFFFFFF), Whole), // enum32
         13 => row_found(13, 2, 2, false, Unsigned, At(0xFFFFFFFF), UpTo(0x7FFFFFFF)), // bitfield32
         14 => row_found(14, 2, 2, false, Float(Binary32), At(0x7FC00000), NotNan), // float32
         15 => row_found(15, 2, 2, false, Unsigned, At(0), Whole), // ipaddr
         16 => row_found(16, 4, 4, true, Signed, At(0x8000000000000000), Whole), // int64
         17 => row_found(17, 4, 4, true, Unsigned, At(ONES_64), Whole), // uint64
-        18 => row_found(18, 4, 4, true, Unsigned, At(0), UpTo(ONES_63)), // acc64
+        18 => row_found(18, 4, 4, true, Accumulator, At(0), UpTo(ONES_63)), // acc64
         19 => row_found(19, 1, 64, false, Unsigned, At(0), Whole), // string
         20 => row_found(20, 8, 8, false, Unsigned, At(0), Whole), // ipv6addr
         21 => row_found(21, 4, 4, false, Unsigned, At(ONES_64), UpTo(ONES_63)), // bitfield64
@@ -129,6 +140,45 @@ fn row_found(
         unimplemented,
         range,
     })
+}
+
+// The presence that word 6 of a point frame stands for: 1 is mandatory. (Checking refuses any other than 0 and 1.)
+pub fn presence_of(word: u16) -> Presence
+    ensures { λ r. ⌜ toSpecPresence r ≡ presenceOf word ⌝ }
+{
+    if word == 1 {
+        return Presence::Mandatory;
+    }
+    Presence::Optional
+}
+
+// The unimplemented pattern of a point of the row's type: a mandatory accumulator has none.
+pub fn unimplemented_for(row: TypeRow, presence: Presence) -> Unimplemented
+    ensures { λ r. ⌜ toSpecUnimplemented r ≡ unimplementedFor (toSpecRow row) (toSpecPresence presence) ⌝ }
+{
+    let kind = row.kind;
+    let unimplemented = row.unimplemented;
+    match presence {
+        Presence::Optional => unimplemented,
+        Presence::Mandatory => {
+            if is_accumulator(kind) {
+                return Never;
+            }
+            unimplemented
+        }
+    }
+}
+
+// Is it the kind of an accumulator?
+fn is_accumulator(kind: Kind) -> bool
+    ensures { λ r. ⌜ r ≡ isAccumulator (toSpecKind kind) ⌝ }
+{
+    match kind {
+        Kind::Signed => false,
+        Kind::Unsigned => false,
+        Kind::Accumulator => true,
+        Kind::Float(_) => false,
+    }
 }
 
 // The number of registers of a point of this type.

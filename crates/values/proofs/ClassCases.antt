@@ -8,14 +8,15 @@ use borrow.Author.Tests.{le-leb, lt-leb, leb-true}
 use lib.Dec.{leb}
 use Rattle.lists.proofs.TestOutcomes.{impossible, clash}
 use Rattle.registers.specs.Registers as registers
-use Rattle.point_types.specs.Rows.{TypeRow, rowOf}
+use Rattle.point_types.specs.Presence.{Presence}
+use Rattle.point_types.specs.Rows.{TypeRow, rowOf, unimplementedFor}
 use Rattle.values.specs.Classes.{isUnimplemented, inRange, value, unimplemented, outOfRange, classOf, Classified, classified, ofClass, tooWide, unknownType, isValue}
 use Rattle.values.specs.Decoding.{patternIn, valueOf, decodable, decoded, refused}
 
-pub in-range : (row : TypeRow) (raw : ℕ) → isUnimplemented (row .unimplemented) raw ≡ false → inRange row raw ≡ true
-    → classOf row raw ≡ value
+pub in-range : (row : TypeRow) (presence : Presence) (raw : ℕ) → isUnimplemented (unimplementedFor row presence) raw ≡ false
+    → inRange row raw ≡ true → classOf row presence raw ≡ value
 unfolding classOf
-in-range row raw m r = simp (classOf, m, r)
+in-range row presence raw m r = simp (classOf, m, r)
 
 -- A raw value that passes the test `isValue` is of the class of values.
 pub value-class : (c : Classified) → isValue c ≡ true → c ≡ ofClass value
@@ -25,27 +26,27 @@ value-class (ofClass outOfRange) e = clash (sym e)
 value-class tooWide e = clash (sym e)
 value-class unknownType e = clash (sym e)
 
-module _ (code raw : ℕ) where
-  pub too-wide : (row : TypeRow) → rowOf code ≡ some row → registers.tooWide (row .most) raw ≡ true → classified code raw ≡ tooWide
+module _ (code : ℕ) (presence : Presence) (raw : ℕ) where
+  pub too-wide : (row : TypeRow) → rowOf code ≡ some row → registers.tooWide (row .most) raw ≡ true → classified code presence raw ≡ tooWide
   unfolding classified
   too-wide row e w = simp (classified, e, w)
 
   pub of-class : (row : TypeRow) → rowOf code ≡ some row → registers.tooWide (row .most) raw ≡ false
-      → classified code raw ≡ ofClass (classOf row raw)
+      → classified code presence raw ≡ ofClass (classOf row presence raw)
   unfolding classified
   of-class row e w = simp (classified, e, w)
 
 -- `decoded`, by the code's row.
-module _ (code : ℕ) (registers : List ℕ) where
-  pub no-row : rowOf code ≡ none → decoded code registers ≡ refused 40 0
+module _ (code : ℕ) (presence : Presence) (registers : List ℕ) where
+  pub no-row : rowOf code ≡ none → decoded code presence registers ≡ refused 40 0
   unfolding decodable decoded
   no-row e = simp (decoded, decodable, e)
 
-  pub too-long : (row : TypeRow) → rowOf code ≡ some row → 4 < row .most → decoded code registers ≡ refused 40 0
+  pub too-long : (row : TypeRow) → rowOf code ≡ some row → 4 < row .most → decoded code presence registers ≡ refused 40 0
   unfolding decodable decoded
   too-long row e h = simp (decoded, decodable, e, lt-leb _ _ h)
 
-  pub by-row : (row : TypeRow) → decodable code ≡ some row → decoded code registers ≡ valueOf row (patternIn row registers)
+  pub by-row : (row : TypeRow) → decodable code ≡ some row → decoded code presence registers ≡ valueOf row presence (patternIn row registers)
   unfolding decoded
   by-row row e = simp (decoded, e)
 

@@ -1,30 +1,39 @@
--- The class of a raw value at each limit of each row of the table, computed together.
+-- The class of a raw value at each limit of each row of the table, of an optional and of a mandatory point, computed together.
 use mathlib.Core.Path.{_≡_, refl}
 use mathlib.Core.List.{List, [], _∷_, map}
 use Prim.Native.Nat.{ℕ, _-_, _^_}
 use lib.Ieee.{nanBits}
 use Rattle.registers.specs.Registers as registers
+use Rattle.point_types.specs.Presence.{mandatory, optional}
 use Rattle.point_types.specs.Rows.{rows, rowAmong}
 use Rattle.values.specs.Classes.{twosComplement, integer, inRange, classOf, Class, Classified, ofClass, tooWide, unknownType, classified}
 
--- A type code, a raw value, and its class.
+-- A type code, a raw value, its class if the point is optional, and if it is mandatory.
 abbrev pub Line : Type 0
-Line = ℕ × (ℕ × Classified)
+Line = ℕ × (ℕ × (Classified × Classified))
+
+-- The same class for both.
+abbrev either : Classified → ℕ → ℕ → Line
+either class code raw = (code, (raw, (class, class)))
 
 abbrev value : ℕ → ℕ → Line
-value code raw = (code, (raw, ofClass Class.value))
+value = either (ofClass Class.value)
 
 abbrev notGiven : ℕ → ℕ → Line
-notGiven code raw = (code, (raw, ofClass Class.unimplemented))
+notGiven = either (ofClass Class.unimplemented)
 
 abbrev out : ℕ → ℕ → Line
-out code raw = (code, (raw, ofClass Class.outOfRange))
+out = either (ofClass Class.outOfRange)
 
 abbrev wide : ℕ → ℕ → Line
-wide code raw = (code, (raw, tooWide))
+wide = either tooWide
 
 abbrev unknown : ℕ → ℕ → Line
-unknown code raw = (code, (raw, unknownType))
+unknown = either unknownType
+
+-- An accumulator at 0.
+abbrev zero : ℕ → Line
+zero code = (code, (0, (ofClass Class.unimplemented, ofClass Class.value)))
 
 unfoldable pub lines : List Line
 lines =
@@ -32,7 +41,7 @@ lines =
     -- int16, uint16, acc16, enum16
     ∷ value 1 0x7FFF ∷ notGiven 1 0x8000 ∷ value 1 0x8001 ∷ value 1 0xFFFF ∷ wide 1 0x10000
     ∷ value 2 0 ∷ value 2 0xFFFE ∷ notGiven 2 0xFFFF ∷ wide 2 0x10000
-    ∷ notGiven 3 0 ∷ value 3 1 ∷ value 3 0xFFFF ∷ wide 3 0x10000
+    ∷ zero 3 ∷ value 3 1 ∷ value 3 0xFFFF ∷ wide 3 0x10000
     ∷ value 4 0 ∷ value 4 0xFFFE ∷ notGiven 4 0xFFFF ∷ wide 4 0x10000
     -- bitfield16, pad, raw16, sunssf
     ∷ value 5 0 ∷ value 5 0x7FFF ∷ out 5 0x8000 ∷ out 5 0xFFFE ∷ notGiven 5 0xFFFF ∷ wide 5 0x10000
@@ -42,7 +51,7 @@ lines =
     -- int32, uint32, acc32, enum32, bitfield32
     ∷ value 9 0x7FFFFFFF ∷ notGiven 9 0x80000000 ∷ value 9 0x80000001 ∷ value 9 0xFFFFFFFF ∷ wide 9 0x100000000
     ∷ value 10 0 ∷ value 10 0xFFFFFFFE ∷ notGiven 10 0xFFFFFFFF ∷ wide 10 0x100000000
-    ∷ notGiven 11 0 ∷ value 11 1 ∷ value 11 0xFFFFFFFF ∷ wide 11 0x100000000
+    ∷ zero 11 ∷ value 11 1 ∷ value 11 0xFFFFFFFF ∷ wide 11 0x100000000
     ∷ value 12 0 ∷ value 12 0xFFFFFFFE ∷ notGiven 12 0xFFFFFFFF ∷ wide 12 0x100000000
     ∷ value 13 0 ∷ value 13 0x7FFFFFFF ∷ out 13 0x80000000 ∷ out 13 0xFFFFFFFE ∷ notGiven 13 0xFFFFFFFF ∷ wide 13 0x100000000
     -- float32: infinities and negative zero are values
@@ -52,7 +61,7 @@ lines =
     ∷ notGiven 15 0 ∷ value 15 1 ∷ value 15 0xFFFFFFFF ∷ wide 15 0x100000000
     ∷ value 16 0x7FFFFFFFFFFFFFFF ∷ notGiven 16 0x8000000000000000 ∷ value 16 0x8000000000000001 ∷ value 16 (2 ^ 64 - 1) ∷ wide 16 (2 ^ 64)
     ∷ value 17 0 ∷ value 17 (2 ^ 64 - 2) ∷ notGiven 17 (2 ^ 64 - 1) ∷ wide 17 (2 ^ 64)
-    ∷ notGiven 18 0 ∷ value 18 1 ∷ value 18 9223372036854775807 ∷ out 18 9223372036854775808 ∷ out 18 (2 ^ 64 - 1) ∷ wide 18 (2 ^ 64)
+    ∷ zero 18 ∷ value 18 1 ∷ value 18 9223372036854775807 ∷ out 18 9223372036854775808 ∷ out 18 (2 ^ 64 - 1) ∷ wide 18 (2 ^ 64)
     -- string at its longest, ipv6addr
     ∷ notGiven 19 0 ∷ value 19 1 ∷ value 19 (2 ^ 1024 - 1) ∷ wide 19 (2 ^ 1024)
     ∷ notGiven 20 0 ∷ value 20 1 ∷ value 20 (2 ^ 128 - 1) ∷ wide 20 (2 ^ 128)
@@ -65,6 +74,7 @@ lines =
     ∷ unknown 23 0
     ∷ []
 
-pub class-vectors : map (λ (l : Line). classified (l .0) (l .1 .0)) lines ≡ map (λ (l : Line). l .1 .1) lines
+pub class-vectors : map (λ (l : Line). (classified (l .0) optional (l .1 .0), classified (l .0) mandatory (l .1 .0))) lines
+    ≡ map (λ (l : Line). l .1 .1) lines
 unfolding lines rows rowAmong registers.tooWide twosComplement integer inRange classOf classified nanBits
 class-vectors = refl

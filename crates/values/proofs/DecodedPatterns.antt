@@ -10,6 +10,7 @@ use lib.Seq.{take-at}
 use Rattle.lists.proofs.EachLaws.{each-append}
 use Rattle.registers.specs.Registers.{AreRegisters, join, split, tooWide}
 use Rattle.registers.proofs.Splitting.{split-length, split-registers, join-split}
+use Rattle.point_types.specs.Presence.{Presence}
 use Rattle.point_types.specs.Rows.{TypeRow}
 use Rattle.values.specs.Classes.{Class, width, classOf}
 use Rattle.values.specs.Decoding.{Decoded, patternIn, numberOf, valueOf, decodable, decoded}
@@ -20,23 +21,23 @@ zeros : (n : ℕ) → AreRegisters (replicate n 0)
 zeros zero = tt
 zeros (suc n) = (omega arith, zeros n)
 
-module _ (code : ℕ) (row : TypeRow) (is : decodable code ≡ some row) (raw : ℕ) (fits : raw < 2 ^ width row) where
+module _ (code : ℕ) (presence : Presence) (row : TypeRow) (is : decodable code ≡ some row) (raw : ℕ) (fits : raw < 2 ^ width row) where
   abbrev first : List ℕ
   first = split (row .most) raw
 
   abbrev rest : List ℕ
   rest = replicate (4 - row .most) 0
 
-  result : classOf row raw ≡ Class.value → numberOf row raw ≡ decoded code (first ++ rest)
+  result : classOf row presence raw ≡ Class.value → numberOf row raw ≡ decoded code presence (first ++ rest)
   unfolding valueOf tooWide
   result v =
       let read : patternIn row (first ++ rest) ≡ raw =
       ap join (take-at first rest (row .most) (split-length (row .most) raw)) ∙ join-split (row .most) raw (lt-leb _ _ fits) in
-      let number : valueOf row raw ≡ numberOf row raw = simp (valueOf, v) in
-      sym (by-row code (first ++ rest) row is ∙ ap (valueOf row) read ∙ number)
+      let number : valueOf row presence raw ≡ numberOf row raw = simp (valueOf, v) in
+      sym (by-row code presence (first ++ rest) row is ∙ ap (valueOf row presence) read ∙ number)
 
   -- If `Is` holds of the number of a pattern that is a value, some registers are decoded to a result with `Is`.
-  pub from-pattern : (Is : Decoded → Type 0) → classOf row raw ≡ Class.value → Is (numberOf row raw) → DecodedFrom code Is
+  pub from-pattern : (Is : Decoded → Type 0) → classOf row presence raw ≡ Class.value → Is (numberOf row raw) → DecodedFrom code presence Is
   from-pattern Is v h =
       let most = decodable-most code row is in
       record {

@@ -1,4 +1,5 @@
--- What `decode` returns for floats of both formats and for bitfield64, at their limits, and codes that it refuses; computed.
+-- What `decode` returns for floats of both formats and for bitfield64, at their limits, for accumulators at 0, and codes that it
+-- refuses; computed.
 use mathlib.Core.Path.{_≡_, refl}
 use mathlib.Core.Bool.{true, false}
 use mathlib.Core.List.{List, [], _∷_, map}
@@ -7,16 +8,21 @@ use lib.Count.{trailingZeros}
 use lib.IntN.{pos, negsuc}
 use lib.Ieee.{binary32, binary64, inf, fin, nanBits, odd, ofFields, ofBits}
 use Rattle.registers.specs.Registers.{join}
+use Rattle.point_types.specs.Presence.{Presence, mandatory, optional}
 use Rattle.point_types.specs.Rows.{rows, rowAmong}
 use Rattle.values.specs.Classes.{integer, inRange, classOf}
 use Rattle.values.specs.Decoding.{Decoded, unsigned, float, unimplemented, outOfRange, refused, numberOf, valueOf, decodable, decoded}
 
--- A type code, four registers, and what they are decoded as.
+-- A type code, a presence, four registers, and what they are decoded as.
 abbrev pub Line : Type 0
-Line = ℕ × (List ℕ × Decoded)
+Line = ℕ × (Presence × (List ℕ × Decoded))
 
+abbrev of : Presence → ℕ → ℕ → ℕ → ℕ → ℕ → Decoded → Line
+of presence code a b c d result = (code, (presence, (a ∷ b ∷ c ∷ d ∷ [], result)))
+
+-- An optional point.
 abbrev from : ℕ → ℕ → ℕ → ℕ → ℕ → Decoded → Line
-from code a b c d result = (code, (a ∷ b ∷ c ∷ d ∷ [], result))
+from = of optional
 
 unfoldable pub lines : List Line
 lines =
@@ -41,6 +47,14 @@ lines =
     ∷ from 21 0x7FFF 0xFFFF 0xFFFF 0xFFFF (unsigned 0x7FFFFFFFFFFFFFFF)
     ∷ from 21 0x8000 0 0 0 outOfRange
     ∷ from 21 0xFFFF 0xFFFF 0xFFFF 0xFFFF unimplemented
+    -- a mandatory accumulator at 0 is a value, an optional one is unimplemented; a mandatory ipaddr at 0 is unimplemented
+    ∷ of mandatory 3 0 0xFFFF 0xFFFF 0xFFFF (unsigned 0)
+    ∷ of mandatory 11 0 0 0xFFFF 0xFFFF (unsigned 0)
+    ∷ of mandatory 18 0 0 0 0 (unsigned 0)
+    ∷ from 3 0 0xFFFF 0xFFFF 0xFFFF unimplemented
+    ∷ from 11 0 0 0xFFFF 0xFFFF unimplemented
+    ∷ from 18 0 0 0 0 unimplemented
+    ∷ of mandatory 15 0 0 0xFFFF 0xFFFF unimplemented
     -- 0, string, ipv6addr and an unknown type
     ∷ from 0 0 0 0 0 (refused 40 0)
     ∷ from 19 0x4142 0 0 0 (refused 40 0)
@@ -48,6 +62,6 @@ lines =
     ∷ from 23 0 0 0 1 (refused 40 0)
     ∷ []
 
-pub decoding-vectors : map (λ (l : Line). decoded (l .0) (l .1 .0)) lines ≡ map (λ (l : Line). l .1 .1) lines
+pub decoding-vectors : map (λ (l : Line). decoded (l .0) (l .1 .0) (l .1 .1 .0)) lines ≡ map (λ (l : Line). l .1 .1 .1) lines
 unfolding lines rows rowAmong join integer inRange classOf numberOf valueOf decodable decoded nanBits trailingZeros odd ofFields ofBits
 decoding-vectors = refl

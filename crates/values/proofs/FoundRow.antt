@@ -8,6 +8,7 @@ use lib.ListN.{length, take}
 use lib.Seq.{length-take-le}
 use Rattle.registers.specs.Registers.{shownRaw}
 use Rattle.registers.proofs.Joining.{shown, first-fit}
+use Rattle.point_types.specs.Presence.{Presence}
 use Rattle.point_types.specs.Rows.{TypeRow, rowOf}
 use Rattle.point_types.proofs.Table.{listed}
 use Rattle.values.specs.Classes.{PatternOf}
@@ -27,8 +28,9 @@ module _ (code : ℕ) (registers : List ℕ) (row : TypeRow) (four : length regi
   pub pattern-of : (raw : ℕ) → raw < 65536 ^ length (take (row .most) registers) → PatternOf row raw
   pattern-of raw h = record { listed = listed code row is; fits = first-fit registers (row .most) raw among-four h }
 
-  pub result-of : (raw : ℕ) → raw ≡ shownRaw (take (row .most) registers) → valueOf row raw ≡ decoded code registers
-  result-of raw e =
+  pub result-of : (presence : Presence) (raw : ℕ) → raw ≡ shownRaw (take (row .most) registers)
+      → valueOf row presence raw ≡ decoded code presence registers
+  result-of presence raw e =
       let l : length (take (row .most) registers) ≤ 4 = omega (arith, first-length, among-four, four) in
-      ap (valueOf row) (e ∙ shown (take (row .most) registers) l)
-      ∙ sym (by-row code registers row (decodes code row is most))
+      ap (valueOf row presence) (e ∙ shown (take (row .most) registers) l)
+      ∙ sym (by-row code presence registers row (decodes code row is most))

@@ -6,6 +6,7 @@ pub mod PrintedRanges
 pub mod PrintedFormats
 pub mod NoNaN
 pub mod RefusedCodes
+pub mod PresenceDecides
 pub mod UnscaledRange
 pub mod ClassVectors
 pub mod DecodingVectors

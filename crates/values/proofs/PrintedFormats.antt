@@ -1,5 +1,6 @@
--- The values of a float type are the numbers of its format of IEEE 754: no other float is decoded, and each of them is.
-use mathlib.Core.Path.{_≡_, refl, ap, subst, _∙_}
+-- The values of a float type are the numbers of its format of IEEE 754: no other float is decoded, and each of them is, of a
+-- mandatory or an optional point.
+use mathlib.Core.Path.{_≡_, refl, sym, ap, subst, _∙_}
 use mathlib.Core.Bool.{Bool, true, false, not}
 use mathlib.Core.List.{List}
 use mathlib.Core.Option.{some}
@@ -10,8 +11,9 @@ use lib.Ieee.{Format, Float, isNan, nanBits, ofBits, toBits}
 use lib.Ieee.Bits.{is-false, ofBits-fits, ofBits-toBits, toBits-lt, nanBits-is}
 use Rattle.lists.specs.Each.{Each}
 use Rattle.lists.proofs.EachLaws.{each-implied}
-use Rattle.lists.proofs.TestOutcomes.{impossible}
-use Rattle.point_types.specs.Rows.{TypeRow, Listed, float, Unimplemented, never, pattern, rows, rowAmong}
+use Rattle.lists.proofs.TestOutcomes.{impossible, clash}
+use Rattle.point_types.specs.Presence.{Presence, mandatory, optional}
+use Rattle.point_types.specs.Rows.{TypeRow, Listed, float, unimplementedFor, Unimplemented, never, pattern, rows, rowAmong}
 use Rattle.point_types.proofs.Table.{rowIn, listed, float-row}
 use Rattle.values.specs.Classes.{Class, width, isUnimplemented, inRange, classOf}
 use Rattle.values.specs.Decoding as decoding
@@ -21,6 +23,7 @@ use Rattle.values.proofs.ThreeClasses.{class-is-its-tests}
 use Rattle.values.proofs.ClassCases.{row-of-decodable}
 use Rattle.values.proofs.DecodedCases.{ResultOf, asSigned, asUnsigned, asFloat, asUnimplemented, asOutOfRange, result-by}
 use Rattle.values.proofs.DecodedPatterns.{from-pattern}
+use Rattle.values.proofs.Ranges.{isUnsigned}
 use Rattle.values.proofs.NoNaN.{float-in-range, no-nan}
 
 -- Is the unimplemented pattern, if there is one, a NaN's?
@@ -29,35 +32,40 @@ markIsNaN f never = true
 markIsNaN f (pattern p) = nanBits f p
 
 -- The row of a printed format: `decode` takes it, it is a float of the format, and its unimplemented pattern is a NaN's.
-record FormatRow (r : PrintedFormat) : Type 0 where
+record FormatRow (presence : Presence) (r : PrintedFormat) : Type 0 where
   pub row : TypeRow
   pub is : decodable (r .code) ≡ some row
   pub kind : row .kind ≡ float (r .format)
-  pub mark : T (markIsNaN (r .format) (row .unimplemented))
+  pub mark : T (markIsNaN (r .format) (unimplementedFor row presence))
 
--- Computed for both.
-format-rows : Each FormatRow printedFormats
+-- Computed for both types, by the presence.
+format-rows : (presence : Presence) → Each (FormatRow presence) printedFormats
 unfolding printedFormats rows rowAmong decodable nanBits
-format-rows = (
+format-rows mandatory = (
+  record { row = rowIn (decodable 14); is = refl; kind = refl; mark = tt },
+  (record { row = rowIn (decodable 22); is = refl; kind = refl; mark = tt }, tt),
+)
+format-rows optional = (
   record { row = rowIn (decodable 14); is = refl; kind = refl; mark = tt },
   (record { row = rowIn (decodable 22); is = refl; kind = refl; mark = tt }, tt),
 )
 
-module _ (r : PrintedFormat) (found : FormatRow r) where
+module _ (presence : Presence) (r : PrintedFormat) (found : FormatRow presence r) where
   abbrev f : Format
   f = r .format
 
   -- Any registers are decoded as a number of the format or as none.
-  within : (registers : List ℕ) → WithinFormat r (decoded (r .code) registers)
-  within registers = by-result refl (result-by (r .code) registers (found .row) (found .is))
+  within : (registers : List ℕ) → WithinFormat r (decoded (r .code) presence registers)
+  within registers = by-result refl (result-by (r .code) presence registers (found .row) (found .is))
     where
-      by-result : {d : Decoded} → decoded (r .code) registers ≡ d → ResultOf (found .row) (patternIn (found .row) registers) d → WithinFormat r d
+      by-result : {d : Decoded} → decoded (r .code) presence registers ≡ d → ResultOf (found .row) presence (patternIn (found .row) registers) d
+          → WithinFormat r d
       by-result q (asSigned k v) = let e = found .kind in impossible (cc)
-      by-result q (asUnsigned k v) = let e = found .kind in impossible (cc)
+      by-result q (asUnsigned k v) = clash (sym k ∙ ap isUnsigned (found .kind))
       by-result q (asFloat g k v) =
           let e = found .kind in
           let same : g ≡ r .format = cc in
-          (same, (ofBits-fits g (patternIn (found .row) registers), no-nan (r .code) registers g _ q))
+          (same, (ofBits-fits g (patternIn (found .row) registers), no-nan (r .code) presence registers g _ q))
       by-result q (asUnimplemented v) = tt
       by-result q (asOutOfRange v) = tt
 
@@ -85,27 +93,31 @@ module _ (r : PrintedFormat) (found : FormatRow r) where
     implemented never t = refl
     implemented (pattern p) t = ne-eqb raw p (λ e. rw (← e, no-nan-bits) at t)
 
-    is-value : classOf (found .row) raw ≡ Class.value
+    is-value : classOf (found .row) presence raw ≡ Class.value
     is-value =
         let range : inRange (found .row) raw ≡ true = float-in-range (found .row) raw f is-listed (found .kind) ∙ ap not no-nan-bits in
-        class-is-its-tests (found .row) raw Class.value .1 (implemented (found .row .unimplemented) (found .mark), range)
+        class-is-its-tests (found .row) presence raw Class.value .1 (implemented (unimplementedFor (found .row) presence) (found .mark), range)
 
-    decoded-there : DecodedFrom (r .code) (λ d. d ≡ decoding.float f x)
+    decoded-there : DecodedFrom (r .code) presence (λ d. d ≡ decoding.float f x)
     unfolding numberOf
     decoded-there =
         let number : numberOf (found .row) raw ≡ decoding.float f x = simp (numberOf, found .kind) (ap (decoding.float f) back) in
-        from-pattern (r .code) (found .row) (found .is) raw raw-fits (λ d. d ≡ decoding.float f x) is-value number
+        from-pattern (r .code) presence (found .row) (found .is) raw raw-fits (λ d. d ≡ decoding.float f x) is-value number
 
 -- ---- The claims
 
 -- A float is decoded from some registers if and only if it is a number of the format: for both types.
-pub decoded-as-format : Each DecodedAsFormat printedFormats
-decoded-as-format =
-    each-implied FormatRow DecodedAsFormat
-    (λ r found x. (λ d. decoded-number r found x (decoded (r .code) (d .registers)) (within r found (d .registers)) (d .is), decoded-there r found x))
-    printedFormats format-rows
+pub decoded-as-format : (presence : Presence) → Each (DecodedAsFormat presence) printedFormats
+decoded-as-format presence =
+    each-implied (FormatRow presence) (DecodedAsFormat presence)
+    (λ r found x. (
+      λ d. decoded-number presence r found x (decoded (r .code) presence (d .registers)) (within presence r found (d .registers)) (d .is),
+      decoded-there presence r found x,
+    ))
+    printedFormats (format-rows presence)
 
 -- Any registers are decoded as a number of the format, or as unimplemented or out of range.
-pub within-formats : (registers : List ℕ) → Each (λ r. WithinFormat r (decoded (r .code) registers)) printedFormats
-within-formats registers =
-    each-implied FormatRow (λ r. WithinFormat r (decoded (r .code) registers)) (λ r found. within r found registers) printedFormats format-rows
+pub within-formats : (presence : Presence) (registers : List ℕ) → Each (λ r. WithinFormat r (decoded (r .code) presence registers)) printedFormats
+within-formats presence registers =
+    each-implied (FormatRow presence) (λ r. WithinFormat r (decoded (r .code) presence registers)) (λ r found. within presence r found registers)
+    printedFormats (format-rows presence)

@@ -1,4 +1,5 @@
--- The values of a type are the integers of the table `printed`: no other integer is decoded, and each of them is.
+-- The values of a type are the integers of the table `printed`, of a mandatory or an optional point: no other integer is decoded, and
+-- each of them is.
 use mathlib.Core.Path.{_≡_, refl, sym, ap, subst, _∙_}
 use mathlib.Core.Bool.{Bool, true, false, not, _&&_, _||_}
 use mathlib.Core.List.{List, [], _∷_}
@@ -11,16 +12,17 @@ use lib.Dec.{T, ltb, le→leb, leb→le, ltb→lt}
 use lib.IntN.{ℤ, pos, negsuc, negℤ, sucℤ}
 use lib.Pow.{pow-pos}
 use lib.ListN.{length}
-use lib.Ieee.{Format}
+use lib.Ieee.{Format, ofBits}
 use lib.Ieee.Fits.{and-l, and-r}
 use lib.Signed.{leZ}
 use Rattle.lists.specs.Each.{Each}
 use Rattle.lists.specs.Tests.{every}
 use Rattle.lists.proofs.EachLaws.{each-implied}
 use Rattle.lists.proofs.EveryLaws.{every-each}
-use Rattle.lists.proofs.TestOutcomes.{impossible}
+use Rattle.lists.proofs.TestOutcomes.{impossible, clash}
 use Rattle.registers.specs.Registers.{AreRegisters}
-use Rattle.point_types.specs.Rows.{TypeRow, Kind, signed, unsigned, float, Unimplemented, never, pattern, Range, whole, between, notNaN, rows, rowAmong, Listed}
+use Rattle.point_types.specs.Presence.{Presence, mandatory, optional}
+use Rattle.point_types.specs.Rows.{TypeRow, Kind, signed, unsigned, accumulator, float, Unimplemented, unimplementedFor, never, pattern, Range, whole, between, notNaN, rows, rowAmong, Listed}
 use Rattle.point_types.proofs.Table.{listed, signed-width, only-float}
 use Rattle.values.specs.Classes as classes
 use Rattle.values.specs.Classes.{width, twosComplement, integer, isUnimplemented, isBetween, inRange, classOf, PatternOf}
@@ -30,7 +32,7 @@ use Rattle.values.specs.Encoding.{twosPattern}
 use Rattle.values.specs.Printed.{PrintedRange, printed, InPrinted, Within, decodedInteger, DecodedFrom, DecodedAsPrinted}
 use Rattle.values.proofs.IntegerOrder.{le-le, le-both, le-next, next-le, le-last, negative-le, negative-le-negative, negative-below}
 use Rattle.values.proofs.ThreeClasses.{class-is-its-tests}
-use Rattle.values.proofs.Ranges.{in-whole, in-between, signed-integer, unsigned-integer}
+use Rattle.values.proofs.Ranges.{isUnsigned, in-whole, in-between, signed-integer, unsigned-integer}
 use Rattle.values.proofs.TwosComplement.{by-half, lower-half, upper-half, pattern-back}
 use Rattle.values.proofs.MachineIntegers.{halves}
 use Rattle.values.proofs.ClassCases.{row-of-decodable}
@@ -45,6 +47,7 @@ abbrev lowest : Range → Kind → ℕ → ℤ
 lowest (between low high) k bits = low
 lowest whole signed bits = negℤ (pos (2 ^ (bits - 1)))
 lowest whole unsigned bits = pos 0
+lowest whole accumulator bits = pos 0
 lowest whole (float f) bits = pos 0
 lowest notNaN k bits = pos 0
 
@@ -52,8 +55,23 @@ abbrev highest : Range → Kind → ℕ → ℤ
 highest (between low high) k bits = high
 highest whole signed bits = pos (2 ^ (bits - 1) - 1)
 highest whole unsigned bits = pos (2 ^ bits - 1)
+highest whole accumulator bits = pos (2 ^ bits - 1)
 highest whole (float f) bits = pos 0
 highest notNaN k bits = pos 0
+
+-- An unsigned type, also an accumulator, has the patterns of its width from 0 on.
+unsigned-ends : (k : Kind) (bits : ℕ) → isUnsigned k ≡ true → (lowest whole k bits ≡ pos 0) × (highest whole k bits ≡ pos (2 ^ bits - 1))
+unsigned-ends signed bits u = clash (sym u)
+unsigned-ends unsigned bits u = (refl, refl)
+unsigned-ends accumulator bits u = (refl, refl)
+unsigned-ends (float f) bits u = clash (sym u)
+
+-- A type is signed or unsigned if it is no float.
+by-sign : {A : Type 0} (k : Kind) → ((f : Format) → k ≡ float f → ⊥) → (k ≡ signed → A) → (isUnsigned k ≡ true → A) → A
+by-sign signed n s u = s refl
+by-sign unsigned n s u = u refl
+by-sign accumulator n s u = u refl
+by-sign (float f) n s u = absurd (n f refl)
 
 abbrev Between : ℤ → ℤ → ℤ → Type 0
 Between low high z = T (leZ low z) × T (leZ z high)
@@ -72,18 +90,19 @@ between-test low high z = (
 module _ (row : TypeRow) (raw : ℕ) (p : PatternOf row raw) where
   -- The integer of a pattern lies between the ends of its width.
   of-width : ((f : Format) → row .kind ≡ float f → ⊥) → Between (lowest whole (row .kind) (width row)) (highest whole (row .kind) (width row)) (integer row raw)
-  of-width n = go (row .kind) refl
-    where
-      go : (k : Kind) → row .kind ≡ k → Between (lowest whole k (width row)) (highest whole k (width row)) (integer row raw)
-      go signed k =
-          let half = 2 ^ (width row - 1) in
-          let h = halves (width row) (omega (arith, signed-width row (p .listed) k)) in
-          rw (signed-integer row raw k)
-          (by-half (width row) raw (Between (negℤ (pos half)) (pos (half - 1))) (p .fits)
-          (λ l. (negative-le half raw, le→leb raw (half - 1) (omega arith)))
-          (λ u. (negative-le-negative half (2 ^ width row - suc raw) (omega (arith, h, p .fits)), tt)))
-      go unsigned k = rw (unsigned-integer row raw k) (le→leb 0 raw (omega arith), le→leb raw (2 ^ width row - 1) (omega (arith, p .fits)))
-      go (float f) k = absurd (n f k)
+  of-width n =
+      by-sign (row .kind) n
+      (λ k.
+      let half = 2 ^ (width row - 1) in
+      let h = halves (width row) (omega (arith, signed-width row (p .listed) k)) in
+      rw (signed-integer row raw k, k)
+      (by-half (width row) raw (Between (negℤ (pos half)) (pos (half - 1))) (p .fits)
+      (λ l. (negative-le half raw, le→leb raw (half - 1) (omega arith)))
+      (λ u. (negative-le-negative half (2 ^ width row - suc raw) (omega (arith, h, p .fits)), tt))))
+      (λ k.
+      let e = unsigned-ends (row .kind) (width row) k in
+      rw (unsigned-integer row raw k, e .0, e .1)
+      (le→leb 0 raw (omega arith), le→leb raw (2 ^ width row - 1) (omega (arith, p .fits))))
 
   -- A pattern is in its type's range if and only if its integer is between the ends.
   range-ends : ((f : Format) → row .kind ≡ float f → ⊥)
@@ -152,35 +171,37 @@ isOutside r row (pattern p) = ltb p (2 ^ width row) && not (isBetween (r .least)
 abbrev isIntegral : Kind → Bool
 isIntegral signed = true
 isIntegral unsigned = true
+isIntegral accumulator = true
 isIntegral (float f) = false
 
 -- The tests of a printed range: its ends agree with those of the row's range, and fit the row's width.
-abbrev endTests : PrintedRange → TypeRow → List Bool
-endTests r row =
+abbrev endTests : Presence → PrintedRange → TypeRow → List Bool
+endTests presence r row =
     let low = lowest (row .range) (row .kind) (width row) in
     let high = highest (row .range) (row .kind) (width row) in
     isIntegral (row .kind)
-    ∷ isOutside r row (row .unimplemented)
-    ∷ lowTest low (r .least) (marks row (row .unimplemented) low)
-    ∷ highTest high (r .greatest) (marks row (row .unimplemented) high)
+    ∷ isOutside r row (unimplementedFor row presence)
+    ∷ lowTest low (r .least) (marks row (unimplementedFor row presence) low)
+    ∷ highTest high (r .greatest) (marks row (unimplementedFor row presence) high)
     ∷ leZ (lowest whole (row .kind) (width row)) (r .least)
     ∷ leZ (r .greatest) (highest whole (row .kind) (width row))
     ∷ []
 
-abbrev agrees : PrintedRange → Option TypeRow → Bool
-agrees r none = false
-agrees r (some row) = every (λ t. t) (endTests r row)
+abbrev agrees : Presence → PrintedRange → Option TypeRow → Bool
+agrees presence r none = false
+agrees presence r (some row) = every (λ t. t) (endTests presence r row)
 
--- Computed for the whole printed table.
-all-agree : T (every (λ r. agrees r (decodable (r .code))) printed)
+-- Computed for the whole printed table, by the presence.
+all-agree : (presence : Presence) → T (every (λ r. agrees presence r (decodable (r .code))) (printed presence))
 unfolding printed rows rowAmong decodable integer twosComplement
-all-agree = tt
+all-agree mandatory = tt
+all-agree optional = tt
 
 -- The pattern of an integer.
 abbrev rawOf : TypeRow → ℤ → ℕ
 rawOf row z = twosPattern (width row) z
 
-module _ (r : PrintedRange) (row : TypeRow) (l : Listed row) (tests : Each T (endTests r row)) where
+module _ (presence : Presence) (r : PrintedRange) (row : TypeRow) (l : Listed row) (tests : Each T (endTests presence r row)) where
   abbrev low : ℤ
   low = lowest (row .range) (row .kind) (width row)
 
@@ -191,13 +212,8 @@ module _ (r : PrintedRange) (row : TypeRow) (l : Listed row) (tests : Each T (en
   not-float f k = rw k at (tests .0)
 
   -- The type is signed or unsigned.
-  by-kind : {A : Type 0} → (row .kind ≡ signed → A) → (row .kind ≡ unsigned → A) → A
-  by-kind {A} s u = go (row .kind) refl
-    where
-      go : (k : Kind) → row .kind ≡ k → A
-      go signed k = s k
-      go unsigned k = u k
-      go (float f) k = absurd (not-float f k)
+  by-kind : {A : Type 0} → (row .kind ≡ signed → A) → (isUnsigned (row .kind) ≡ true → A) → A
+  by-kind s u = by-sign (row .kind) not-float s u
 
   -- Patterns with the same integer are the same.
   same-pattern : (x y : ℕ) → x < 2 ^ width row → y < 2 ^ width row → integer row x ≡ integer row y → x ≡ y
@@ -230,20 +246,20 @@ module _ (r : PrintedRange) (row : TypeRow) (l : Listed row) (tests : Each T (en
         rw (← e, inside) at (and-r (ltb p (2 ^ width row)) (not (isBetween (r .least) (r .greatest) (integer row p))) o))
 
     -- The law: a pattern is a value if and only if its integer is in the printed range.
-    value-printed : (classOf row raw ≡ classes.value) ↔ Between (r .least) (r .greatest) z
+    value-printed : (classOf row presence raw ≡ classes.value) ↔ Between (r .least) (r .greatest) z
     value-printed =
-        let c = class-is-its-tests row raw classes.value in
+        let c = class-is-its-tests row presence raw classes.value in
         let b = range-ends row raw (record { listed = l; fits = fits }) not-float in
-        let start = low-end low (r .least) (marks row (row .unimplemented) low) (tests .1 .1 .0) in
-        let end = high-end high (r .greatest) (marks row (row .unimplemented) high) (tests .1 .1 .1 .0) in (
+        let start = low-end low (r .least) (marks row (unimplementedFor row presence) low) (tests .1 .1 .0) in
+        let end = high-end high (r .greatest) (marks row (unimplementedFor row presence) high) (tests .1 .1 .1 .0) in (
           λ v.
               let t = c .0 v in
               let e = b .0 (t .1) in
-              let other = apart (row .unimplemented) (t .0) (tests .1 .0) in
+              let other = apart (unimplementedFor row presence) (t .0) (tests .1 .0) in
               (start .1 z (other low) (e .0), end .1 z (other high) (e .1)),
           λ p.
               c .1 (
-                implemented (row .unimplemented) (tests .1 .0) p,
+                implemented (unimplementedFor row presence) (tests .1 .0) p,
                 b .1 (le-le low (r .least) z (start .0) (p .0), le-le z (r .greatest) high (p .1) (end .0)),
               ),
         )
@@ -264,7 +280,10 @@ module _ (r : PrintedRange) (row : TypeRow) (l : Listed row) (tests : Each T (en
         (λ s.
         let p = signed-pattern (width row) (omega (arith, signed-width row l s)) y (rw s at in-width) in
         (p .0, signed-integer row (rawOf row y) s ∙ p .1))
-        (λ u. let p = unsigned-pattern y (rw u at in-width) in (p .0, unsigned-integer row (rawOf row y) u ∙ p .1))
+        (λ u.
+        let e = unsigned-ends (row .kind) (width row) u in
+        let p = unsigned-pattern y (rw (e .0, e .1) at in-width) in
+        (p .0, unsigned-integer row (rawOf row y) u ∙ p .1))
       where
         signed-pattern : (bits : ℕ) → 1 ≤ bits → (x : ℤ) → Between (negℤ (pos (2 ^ (bits - 1)))) (pos (2 ^ (bits - 1) - 1)) x
             → (twosPattern bits x < 2 ^ bits) × (twosComplement bits (twosPattern bits x) ≡ x)
@@ -299,74 +318,92 @@ decoded-within r decoding.unimplemented z w e = impossible (cc)
 decoded-within r decoding.outOfRange z w e = impossible (cc)
 decoded-within r (decoding.refused n place) z w e = absurd w
 
-module _ (r : PrintedRange) (row : TypeRow) (is : decodable (r .code) ≡ some row) (t : T (agrees r (some row))) where
-  tests : Each T (endTests r row)
-  tests = every-each (λ b. b) (endTests r row) t
+module _ (presence : Presence) (r : PrintedRange) (row : TypeRow) (is : decodable (r .code) ≡ some row)
+    (t : T (agrees presence r (some row))) where
+  tests : Each T (endTests presence r row)
+  tests = every-each (λ b. b) (endTests presence r row) t
 
   is-listed : Listed row
   is-listed = listed (r .code) row (row-of-decodable (r .code) row is)
 
   -- Any registers are decoded as a printed integer or as none.
-  within : (registers : List ℕ) → length registers ≡ 4 → AreRegisters registers → Within r (decoded (r .code) registers)
-  within registers four all = by-result (result-by (r .code) registers row is)
+  within : (registers : List ℕ) → length registers ≡ 4 → AreRegisters registers → Within r (decoded (r .code) presence registers)
+  within registers four all = by-result (result-by (r .code) presence registers row is)
     where
-      at : (raw : ℕ) → PatternOf row raw → classOf row raw ≡ classes.value → (z : ℤ) → integer row raw ≡ z → InPrinted r z
-      at raw p v z e = subst (InPrinted r) e (in-order r (integer row raw) .0 (value-printed r row is-listed tests raw (p .fits) .0 v))
+      at : (raw : ℕ) → PatternOf row raw → classOf row presence raw ≡ classes.value → (z : ℤ) → integer row raw ≡ z → InPrinted r z
+      at raw p v z e = subst (InPrinted r) e (in-order r (integer row raw) .0 (value-printed presence r row is-listed tests raw (p .fits) .0 v))
 
-      by-result : {d : Decoded} → ResultOf row (patternIn row registers) d → Within r d
+      by-result : {d : Decoded} → ResultOf row presence (patternIn row registers) d → Within r d
       by-result (asSigned k v) =
           let raw = patternIn row registers in
           at raw (holds-pattern (r .code) registers four all row is) v (twosComplement (width row) raw) (signed-integer row raw k)
       by-result (asUnsigned k v) =
           let raw = patternIn row registers in
           at raw (holds-pattern (r .code) registers four all row is) v (pos raw) (unsigned-integer row raw k)
-      by-result (asFloat f k v) = absurd (not-float r row is-listed tests f k)
+      by-result (asFloat f k v) = absurd (not-float presence r row is-listed tests f k)
       by-result (asUnimplemented v) = tt
       by-result (asOutOfRange v) = tt
 
   -- A printed integer is decoded from the registers of its pattern.
   module _ (z : ℤ) (b : InPrinted r z) where
     there : (rawOf row z < 2 ^ width row) × (integer row (rawOf row z) ≡ z)
-    there = pattern-there r row is-listed tests z (in-order r z .1 b)
+    there = pattern-there presence r row is-listed tests z (in-order r z .1 b)
 
-    is-value : classOf row (rawOf row z) ≡ classes.value
+    is-value : classOf row presence (rawOf row z) ≡ classes.value
     is-value =
-        value-printed r row is-listed tests (rawOf row z) (there .0) .1
+        value-printed presence r row is-listed tests (rawOf row z) (there .0) .1
         (subst (Between (r .least) (r .greatest)) (sym (there .1)) (in-order r z .1 b))
 
     -- The decoded number is the pattern's integer, for both kinds.
     integer-of : decodedInteger (numberOf row (rawOf row z)) ≡ some (integer row (rawOf row z))
     unfolding numberOf integer
     integer-of =
-        by-kind r row is-listed tests (λ k. rw k) (λ k. rw k)
+        by-kind presence r row is-listed tests (λ k. rw k) (unsigned-number (row .kind))
+      where
+        unsigned-number : (k : Kind) → isUnsigned k ≡ true
+            → decodedInteger
+            (elim k [
+              | signed ↦ decoding.signed (twosComplement (width row) (rawOf row z))
+              | unsigned ↦ decoding.unsigned (rawOf row z)
+              | accumulator ↦ decoding.unsigned (rawOf row z)
+              | float f ↦ decoding.float f (ofBits f (rawOf row z))
+            ])
+            ≡ some
+            (elim k [ signed ↦ twosComplement (width row) (rawOf row z) | unsigned ↦ pos (rawOf row z) | accumulator ↦ pos (rawOf row z) | float f ↦ pos (rawOf row z) ])
+        unsigned-number signed u = clash (sym u)
+        unsigned-number unsigned u = refl
+        unsigned-number accumulator u = refl
+        unsigned-number (float f) u = clash (sym u)
 
-    decoded-there : DecodedFrom (r .code) (λ d. decodedInteger d ≡ some z)
+    decoded-there : DecodedFrom (r .code) presence (λ d. decodedInteger d ≡ some z)
     decoded-there =
-        from-pattern (r .code) row is (rawOf row z) (there .0) (λ d. decodedInteger d ≡ some z) is-value (integer-of ∙ ap some (there .1))
+        from-pattern (r .code) presence row is (rawOf row z) (there .0) (λ d. decodedInteger d ≡ some z) is-value (integer-of ∙ ap some (there .1))
 
-module _ (r : PrintedRange) where
-  by-agreement : (o : Option TypeRow) → decodable (r .code) ≡ o → T (agrees r o)
-      → DecodedAsPrinted r × ((registers : List ℕ) → length registers ≡ 4 → AreRegisters registers → Within r (decoded (r .code) registers))
+module _ (presence : Presence) (r : PrintedRange) where
+  by-agreement : (o : Option TypeRow) → decodable (r .code) ≡ o → T (agrees presence r o)
+      → DecodedAsPrinted presence r
+      × ((registers : List ℕ) → length registers ≡ 4 → AreRegisters registers → Within r (decoded (r .code) presence registers))
   by-agreement none e t = absurd t
   by-agreement (some row) e t = (
     λ z. (
-      λ d. decoded-within r (decoded (r .code) (d .registers)) z (within r row e t (d .registers) (d .four) (d .all)) (d .is),
-      decoded-there r row e t z,
+      λ d. decoded-within r (decoded (r .code) presence (d .registers)) z (within presence r row e t (d .registers) (d .four) (d .all)) (d .is),
+      decoded-there presence r row e t z,
     ),
-    within r row e t,
+    within presence r row e t,
   )
 
-each-agrees : Each (λ r. T (agrees r (decodable (r .code)))) printed
-each-agrees = every-each (λ r. agrees r (decodable (r .code))) printed all-agree
+each-agrees : (presence : Presence) → Each (λ r. T (agrees presence r (decodable (r .code)))) (printed presence)
+each-agrees presence = every-each (λ r. agrees presence r (decodable (r .code))) (printed presence) (all-agree presence)
 
 -- An integer is decoded from some registers if and only if it is in the type's range: for every type of the table.
-pub decoded-as-printed : Each DecodedAsPrinted printed
-decoded-as-printed =
-    each-implied (λ r. T (agrees r (decodable (r .code)))) DecodedAsPrinted (λ r t. by-agreement r (decodable (r .code)) refl t .0) printed each-agrees
+pub decoded-as-printed : (presence : Presence) → Each (DecodedAsPrinted presence) (printed presence)
+decoded-as-printed presence =
+    each-implied (λ r. T (agrees presence r (decodable (r .code)))) (DecodedAsPrinted presence)
+    (λ r t. by-agreement presence r (decodable (r .code)) refl t .0) (printed presence) (each-agrees presence)
 
 -- Any four registers are decoded as a printed integer, or as unimplemented or out of range.
-pub within-printed : (registers : List ℕ) → length registers ≡ 4 → AreRegisters registers
-    → Each (λ r. Within r (decoded (r .code) registers)) printed
-within-printed registers four all =
-    each-implied (λ r. T (agrees r (decodable (r .code)))) (λ r. Within r (decoded (r .code) registers))
-    (λ r t. by-agreement r (decodable (r .code)) refl t .1 registers four all) printed each-agrees
+pub within-printed : (presence : Presence) (registers : List ℕ) → length registers ≡ 4 → AreRegisters registers
+    → Each (λ r. Within r (decoded (r .code) presence registers)) (printed presence)
+within-printed presence registers four all =
+    each-implied (λ r. T (agrees presence r (decodable (r .code)))) (λ r. Within r (decoded (r .code) presence registers))
+    (λ r t. by-agreement presence r (decodable (r .code)) refl t .1 registers four all) (printed presence) (each-agrees presence)

@@ -1,6 +1,6 @@
 -- The code's tests of a range are those of the definition, for each row of the table.
-use mathlib.Core.Path.{_≡_, refl, ap, _∙_}
-use mathlib.Core.Bool.{true, not, _&&_}
+use mathlib.Core.Path.{_≡_, refl, sym, ap, _∙_}
+use mathlib.Core.Bool.{Bool, true, false, not, _&&_}
 use Prim.Native.Nat.{ℕ, _≤_, _<_, _^_, _*_}
 use native.Mathlib.Omega.{arith}
 use native.Mathlib.Decide.{decLe}
@@ -8,9 +8,17 @@ use borrow.Author.Tests.{le-leb, lt-leb, eq-eqb, ne-eqb}
 use lib.Dec.{leb, eqb, leb·zero}
 use lib.IntN.{ℤ, pos, negℤ}
 use lib.Ieee.{Format}
-use Rattle.point_types.specs.Rows.{TypeRow, Kind, signed, unsigned, float, whole, between, notNaN}
+use Rattle.lists.proofs.TestOutcomes.{impossible, clash}
+use Rattle.point_types.specs.Rows.{TypeRow, Kind, signed, unsigned, accumulator, float, whole, between, notNaN}
 use Rattle.point_types.proofs.Table.{counts-from-zero, signed-range}
-use Rattle.values.specs.Classes.{twosComplement, integer, isBetween, isScaleFactor, holdsNaN, inRange, PatternOf}
+use Rattle.values.specs.Classes.{width, twosComplement, integer, isBetween, isScaleFactor, holdsNaN, inRange, PatternOf}
+
+-- Is it a kind that is read as unsigned? That of an accumulator is.
+abbrev pub isUnsigned : Kind → Bool
+isUnsigned signed = false
+isUnsigned unsigned = true
+isUnsigned accumulator = true
+isUnsigned (float f) = false
 
 module _ (row : TypeRow) (raw : ℕ) where
   pub in-whole : row .range ≡ whole → inRange row raw ≡ true
@@ -29,21 +37,22 @@ module _ (row : TypeRow) (raw : ℕ) where
   unfolding integer
   signed-integer e = rw e
 
-  pub unsigned-integer : row .kind ≡ unsigned → integer row raw ≡ pos raw
-  unfolding integer
-  unsigned-integer e = rw e
-
-  pub float-integer : (f : Format) → row .kind ≡ float f → integer row raw ≡ pos raw
-  unfolding integer
-  float-integer f e = rw e
-
   pub plain-integer : (row .kind ≡ signed → ⊥) → integer row raw ≡ pos raw
+  unfolding integer
   plain-integer n = go (row .kind) refl
     where
-      go : (k : Kind) → row .kind ≡ k → integer row raw ≡ pos raw
+      go : (k : Kind) → row .kind ≡ k
+          → _≡_ {A = ℤ} (elim k [ signed ↦ twosComplement (width row) raw | unsigned ↦ pos raw | accumulator ↦ pos raw | float f ↦ pos raw ]) (pos raw)
       go signed e = absurd (n e)
-      go unsigned e = unsigned-integer e
-      go (float f) e = float-integer f e
+      go unsigned e = refl
+      go accumulator e = refl
+      go (float f) e = refl
+
+  pub unsigned-integer : isUnsigned (row .kind) ≡ true → integer row raw ≡ pos raw
+  unsigned-integer u = plain-integer (λ k. clash (sym u ∙ ap isUnsigned k))
+
+  pub float-integer : (f : Format) → row .kind ≡ float f → integer row raw ≡ pos raw
+  float-integer f e = plain-integer (λ k. impossible (cc))
 
   module _ (p : PatternOf row raw) where
     pub in-up-to : (n : ℕ) → row .range ≡ between (pos 0) (pos n) → inRange row raw ≡ leb raw n

@@ -11,6 +11,7 @@ use lib.ListN.{length, take}
 use Rattle.registers.specs.Registers.{AreRegisters, split}
 use Rattle.registers.proofs.RegisterParts.{first-registers}
 use Rattle.registers.proofs.Splitting.{join-bound, split-join}
+use Rattle.point_types.specs.Presence.{Presence}
 use Rattle.point_types.specs.Rows.{TypeRow}
 use Rattle.point_types.proofs.Table.{float-row, listed}
 use Rattle.values.specs.Classes.{Class, width, classOf, PatternOf}
@@ -23,16 +24,16 @@ use Rattle.values.proofs.FoundRow.{pattern-of, first-length}
 use Rattle.values.proofs.NoNaN.{no-nan-pattern}
 
 -- The raw value of a decoded number is the pattern.
-raw-back : (row : TypeRow) (raw : ℕ) (d : Decoded) → PatternOf row raw → ResultOf row raw d → classOf row raw ≡ Class.value
+raw-back : (row : TypeRow) (presence : Presence) (raw : ℕ) (d : Decoded) → PatternOf row raw → ResultOf row presence raw d → classOf row presence raw ≡ Class.value
     → rawValueOf row d ≡ some raw
-raw-back row raw d p (asSigned k v) e = ap some (pattern-back (width row) raw (p .fits))
-raw-back row raw d p (asUnsigned k v) e = refl
-raw-back row raw d p (asFloat f k v) e =
+raw-back row presence raw d p (asSigned k v) e = ap some (pattern-back (width row) raw (p .fits))
+raw-back row presence raw d p (asUnsigned k v) e = refl
+raw-back row presence raw d p (asFloat f k v) e =
     let h : raw < 2 * top f = rw (float-row row (p .listed) f k .0) at (p .fits) in
-    let n : T (not (isNan (ofBits f raw))) = rw (← nanBits-is f raw, no-nan-pattern row raw f (p .listed) k v) tt in
+    let n : T (not (isNan (ofBits f raw))) = rw (← nanBits-is f raw, no-nan-pattern row raw f (p .listed) k presence v) tt in
     ap some (toBits-ofBits f raw h n)
-raw-back row raw d p (asUnimplemented v) e = cc
-raw-back row raw d p (asOutOfRange v) e = cc
+raw-back row presence raw d p (asUnimplemented v) e = cc
+raw-back row presence raw d p (asOutOfRange v) e = cc
 
 module _ (code : ℕ) (registers : List ℕ) (four : length registers ≡ 4) (all : AreRegisters registers) where
   pub holds-pattern : (row : TypeRow) → decodable code ≡ some row → PatternOf row (patternIn row registers)
@@ -41,11 +42,11 @@ module _ (code : ℕ) (registers : List ℕ) (four : length registers ≡ 4) (al
       (join-bound (take (row .most) registers) (first-registers (row .most) registers all))
 
   -- The claim: if the registers hold a value, encoding the result gives the registers that were read.
-  pub round-trip : (row : TypeRow) → decodable code ≡ some row → classOf row (patternIn row registers) ≡ Class.value
-      → encoded row (decoded code registers) ≡ some (take (row .most) registers)
+  pub round-trip : (presence : Presence) (row : TypeRow) → decodable code ≡ some row
+      → classOf row presence (patternIn row registers) ≡ Class.value → encoded row (decoded code presence registers) ≡ some (take (row .most) registers)
   unfolding encoded
-  round-trip row e v =
-      simp (encoded, raw-back row (patternIn row registers) (decoded code registers) (holds-pattern row e) (result-by code registers row e) v)
+  round-trip presence row e v =
+      simp (encoded, raw-back row presence (patternIn row registers) (decoded code presence registers) (holds-pattern row e) (result-by code presence registers row e) v)
       (ap some back)
     where
       back : split (row .most) (patternIn row registers) ≡ take (row .most) registers

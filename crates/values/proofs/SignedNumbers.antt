@@ -10,6 +10,7 @@ use lib.Dec.{lt→ltb, ltb→lt}
 use lib.IntN.{ℤ, pos, negsuc, _+ℤ_, _-ℤ_, -ℤ-+ℤ-cancel, +ℤ-negℤ-cancel}
 use lib.ListN.{length}
 use Rattle.registers.specs.Registers.{AreRegisters}
+use Rattle.point_types.specs.Presence.{Presence}
 use Rattle.point_types.specs.Rows.{TypeRow}
 use Rattle.point_types.proofs.Table.{listed, signed-width}
 use Rattle.values.specs.Classes.{width, twosComplement}
@@ -67,11 +68,12 @@ module _ (width raw : ℕ) (wide : 1 ≤ width) where
           ∙ +ℤ-negℤ-cancel y (pos (2 ^ width))
 
 module _ (code : ℕ) (registers : List ℕ) (four : length registers ≡ 4) (all : AreRegisters registers) where
-  pub signed-number : (row : TypeRow) → decodable code ≡ some row → (z : ℤ) → decoded code registers ≡ signed z
+  pub signed-number : (presence : Presence) (row : TypeRow) → decodable code ≡ some row → (z : ℤ) → decoded code presence registers ≡ signed z
       → TwosComplementOf (width row) (patternIn row registers) z
-  signed-number row e z q = go z (subst (ResultOf row (patternIn row registers)) q (result-by code registers row e))
+  signed-number presence row e z q =
+      go z (subst (ResultOf row presence (patternIn row registers)) q (result-by code presence registers row e))
     where
-      go : (y : ℤ) → ResultOf row (patternIn row registers) (signed y) → TwosComplementOf (width row) (patternIn row registers) y
+      go : (y : ℤ) → ResultOf row presence (patternIn row registers) (signed y) → TwosComplementOf (width row) (patternIn row registers) y
       go y (asSigned k v) =
           twos-complement (width row) (patternIn row registers)
           (omega (arith, signed-width row (listed code row (row-of-decodable code row e)) k)) (holds-pattern code registers four all row e .fits)

@@ -10,6 +10,7 @@ use lib.Pow.{pow-pos}
 use lib.Signed.{nonNeg}
 use Rattle.lists.proofs.TestOutcomes.{impossible}
 use Rattle.registers.specs.Registers.{tooWide}
+use Rattle.point_types.specs.Presence.{Presence}
 use Rattle.point_types.specs.Rows.{TypeRow, rowOf}
 use Rattle.values.specs.Classes.{width, twosComplement, isValue, classified}
 use Rattle.values.specs.Unscaled.{Unscaled, number, noValue, notScalable}
@@ -20,13 +21,14 @@ use Rattle.values.proofs.TwosComplement.{lower-half, upper-half}
 use Rattle.values.proofs.MachineIntegers.{halves}
 
 -- A raw value that is a value of its type is not too wide for it.
-pub value-fits : (code raw : ℕ) (row : TypeRow) → rowOf code ≡ some row → isValue (classified code raw) ≡ true → raw < 2 ^ width row
+pub value-fits : (code : ℕ) (presence : Presence) (raw : ℕ) (row : TypeRow) → rowOf code ≡ some row
+    → isValue (classified code presence raw) ≡ true → raw < 2 ^ width row
 unfolding tooWide
-value-fits code raw row e v = go (tooWide (row .most) raw) refl
+value-fits code presence raw row e v = go (tooWide (row .most) raw) refl
   where
     go : (b : Bool) → tooWide (row .most) raw ≡ b → raw < 2 ^ width row
     go true w =
-        let f : isValue (classified code raw) ≡ false = ap isValue (too-wide code raw row e w) in
+        let f : isValue (classified code presence raw) ≡ false = ap isValue (too-wide code presence raw row e w) in
         impossible (cc)
     go false w = leb-false _ _ w
 

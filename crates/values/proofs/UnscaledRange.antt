@@ -6,7 +6,8 @@ use Prim.Native.Nat.{ℕ, _-_, _^_, _≤_, _<_}
 use native.Mathlib.Omega.{arith}
 use lib.IntN.{ℤ, pos}
 use lib.Pow.{pow-mono}
-use Rattle.point_types.specs.Rows.{TypeRow, Kind, signed, unsigned, float, rowOf, Listed}
+use Rattle.point_types.specs.Presence.{Presence}
+use Rattle.point_types.specs.Rows.{TypeRow, Kind, signed, unsigned, accumulator, float, rowOf, Listed}
 use Rattle.point_types.proofs.Table.{scalable-width, signed-width, listed}
 use Rattle.values.specs.Classes.{width, twosComplement, integer, isValue, classified}
 use Rattle.values.specs.Unscaled.{Unscaled, number, noValue, notScalable, unscaled, Within64}
@@ -30,9 +31,10 @@ module _ (row : TypeRow) (l : Listed row) (four : row .most ≤ 4) (raw : ℕ) (
   integer-within = go (row .kind) refl
     where
       go : (k : Kind) → row .kind ≡ k
-          → Within64 (elim k [ signed ↦ twosComplement (width row) raw | unsigned ↦ pos raw | float f ↦ pos raw ])
+          → Within64 (elim k [ signed ↦ twosComplement (width row) raw | unsigned ↦ pos raw | accumulator ↦ pos raw | float f ↦ pos raw ])
       go signed e = signed-within e
       go unsigned e = within
+      go accumulator e = within
       go (float f) e = within
 
 -- P holds of the unscaled integer, if there is one.
@@ -41,25 +43,25 @@ Holds P (number z) = P z
 Holds P noValue = Unit {0}
 Holds P notScalable = Unit {0}
 
-module _ (code raw : ℕ) where
-  all-within : Holds Within64 (unscaled code raw)
+module _ (code : ℕ) (presence : Presence) (raw : ℕ) where
+  all-within : Holds Within64 (unscaled code presence raw)
   unfolding unscaled
   all-within = by-found (rowOf code) refl
     where
-      by-class : (row : TypeRow) → rowOf code ≡ some row → row .scalable ≡ true → (b : Bool) → isValue (classified code raw) ≡ b
+      by-class : (row : TypeRow) → rowOf code ≡ some row → row .scalable ≡ true → (b : Bool) → isValue (classified code presence raw) ≡ b
           → Holds Within64 (elim b [ true ↦ number (integer row raw) | false ↦ noValue ])
       by-class row e s true v =
-          integer-within row (listed code row e) (scalable-width row (listed code row e) s) raw (value-fits code raw row e v)
+          integer-within row (listed code row e) (scalable-width row (listed code row e) s) raw (value-fits code presence raw row e v)
       by-class row e s false v = tt
 
       by-scale : (row : TypeRow) → rowOf code ≡ some row → (b : Bool) → row .scalable ≡ b
           → Holds Within64
           (elim b [
             | false ↦ notScalable
-            | true ↦ elim (isValue (classified code raw)) [ true ↦ number (integer row raw) | false ↦ noValue ]
+            | true ↦ elim (isValue (classified code presence raw)) [ true ↦ number (integer row raw) | false ↦ noValue ]
           ])
       by-scale row e false s = tt
-      by-scale row e true s = by-class row e s (isValue (classified code raw)) refl
+      by-scale row e true s = by-class row e s (isValue (classified code presence raw)) refl
 
       by-found : (o : Option TypeRow) → rowOf code ≡ o
           → Holds Within64
@@ -67,12 +69,12 @@ module _ (code raw : ℕ) where
             | none ↦ notScalable
             | some row ↦ elim (row .scalable) [
               | false ↦ notScalable
-              | true ↦ elim (isValue (classified code raw)) [ true ↦ number (integer row raw) | false ↦ noValue ]
+              | true ↦ elim (isValue (classified code presence raw)) [ true ↦ number (integer row raw) | false ↦ noValue ]
             ]
           ])
       by-found none e = tt
       by-found (some row) e = by-scale row e (row .scalable) refl
 
   -- The claim.
-  pub unscaled-range : (z : ℤ) → unscaled code raw ≡ number z → Within64 z
+  pub unscaled-range : (z : ℤ) → unscaled code presence raw ≡ number z → Within64 z
   unscaled-range z e = subst (Holds Within64) e all-within

@@ -1,4 +1,5 @@
--- The class of a raw value under its type (document 01, "The value rows"): a value, unimplemented or out of range.
+-- The class of a raw value under its type (document 01, "The value rows"), for a point that is mandatory or optional (change request
+-- 2): a value, unimplemented or out of range.
 use mathlib.Core.Bool.{Bool, true, false, not, _&&_}
 use mathlib.Core.Option.{none, some}
 use Prim.Native.Nat.{ℕ, _-_, _*_, _^_, _<_}
@@ -7,7 +8,8 @@ use lib.IntN.{ℤ, pos, negℤ, _-ℤ_}
 use lib.Signed.{leZ}
 use lib.Ieee.{nanBits}
 use Rattle.registers.specs.Registers as registers
-use Rattle.point_types.specs.Rows.{TypeRow, rowOf, Listed, Kind, signed, unsigned, float, Unimplemented, never, pattern, whole, between, notNaN}
+use Rattle.point_types.specs.Presence.{Presence}
+use Rattle.point_types.specs.Rows.{TypeRow, rowOf, Listed, Kind, signed, unsigned, accumulator, float, Unimplemented, never, pattern, unimplementedFor, whole, between, notNaN}
 
 -- The number of a pattern of `bits` bits in two's complement (document 000, 6.4).
 unfoldable pub twosComplement : ℕ → ℕ → ℤ
@@ -21,9 +23,9 @@ width row = 16 * row .most
 -- The integer of a pattern by its type's kind. (For a float the value here does not matter: its range is not one of integers.)
 unfoldable pub integer : TypeRow → ℕ → ℤ
 integer row raw =
-    elim (row .kind) [ signed ↦ twosComplement (width row) raw | unsigned ↦ pos raw | float f ↦ pos raw ]
+    elim (row .kind) [ signed ↦ twosComplement (width row) raw | unsigned ↦ pos raw | accumulator ↦ pos raw | float f ↦ pos raw ]
 
--- Is the raw value the type's unimplemented pattern (document 01: "not given")?
+-- Is the raw value the unimplemented pattern (document 01: "not given")?
 abbrev pub isUnimplemented : Unimplemented → ℕ → Bool
 isUnimplemented never raw = false
 isUnimplemented (pattern p) raw = eqb raw p
@@ -40,6 +42,7 @@ isScaleFactor z = isBetween (negℤ (pos 10)) (pos 10) z
 abbrev pub holdsNaN : Kind → ℕ → Bool
 holdsNaN signed raw = false
 holdsNaN unsigned raw = false
+holdsNaN accumulator raw = false
 holdsNaN (float f) raw = nanBits f raw
 
 -- Is the raw value in its type's range? For a float: every pattern but a NaN's, so infinities, negative zero and subnormals too.
@@ -55,10 +58,10 @@ inRange row raw =
 pub data Class : Type 0 where
   value unimplemented outOfRange : Class
 
--- The class of a raw value under a type: unimplemented wins over out of range.
-unfoldable pub classOf : TypeRow → ℕ → Class
-classOf row raw =
-    elim (isUnimplemented (row .unimplemented) raw) [
+-- The class of a raw value under a type, for a point of this presence: unimplemented wins over out of range.
+unfoldable pub classOf : TypeRow → Presence → ℕ → Class
+classOf row presence raw =
+    elim (isUnimplemented (unimplementedFor row presence) raw) [
       | true ↦ unimplemented
       | false ↦ elim (inRange row raw) [ true ↦ value | false ↦ outOfRange ]
     ]
@@ -75,11 +78,11 @@ pub data Classified : Type 0 where
   tooWide : Classified
   unknownType : Classified
 
-unfoldable pub classified : ℕ → ℕ → Classified
-classified code raw =
+unfoldable pub classified : ℕ → Presence → ℕ → Classified
+classified code presence raw =
     elim (rowOf code) [
       | none ↦ unknownType
-      | some row ↦ elim (registers.tooWide (row .most) raw) [ true ↦ tooWide | false ↦ ofClass (classOf row raw) ]
+      | some row ↦ elim (registers.tooWide (row .most) raw) [ true ↦ tooWide | false ↦ ofClass (classOf row presence raw) ]
     ]
 
 -- Is a raw value a value of its type? It is not if it is unimplemented, out of range or too wide, or if the type is unknown.

@@ -1,5 +1,5 @@
--- Document 01, "One value", with the types of change request 1: a type code and four registers give one result with data, or
--- refusal 40.
+-- Document 01, "One value", with the types of change request 1 and the presence of change request 2: a type code, whether the point
+-- is mandatory, and four registers give one result with data, or refusal 40.
 use mathlib.Core.Bool.{true, false}
 use mathlib.Core.List.{List}
 use mathlib.Core.Logic.{_⊎_}
@@ -11,6 +11,7 @@ use lib.IntN.{ℤ}
 use lib.Ieee.{Format, Float, ofBits}
 use lib.ListN.{take}
 use Rattle.registers.specs.Registers.{join}
+use Rattle.point_types.specs.Presence.{Presence}
 use Rattle.point_types.specs.Rows.{TypeRow, Kind, rowOf}
 use Rattle.values.specs.Classes.{Class, width, twosComplement, classOf}
 
@@ -30,13 +31,14 @@ numberOf row raw =
     elim (row .kind) [
       | Kind.signed ↦ signed (twosComplement (width row) raw)
       | Kind.unsigned ↦ unsigned raw
+      | Kind.accumulator ↦ unsigned raw
       | Kind.float f ↦ float f (ofBits f raw)
     ]
 
--- The result for a raw value under a type.
-unfoldable pub valueOf : TypeRow → ℕ → Decoded
-valueOf row raw =
-    elim (classOf row raw) [
+-- The result for a raw value under a type, for a point of this presence.
+unfoldable pub valueOf : TypeRow → Presence → ℕ → Decoded
+valueOf row presence raw =
+    elim (classOf row presence raw) [
       | Class.value ↦ numberOf row raw
       | Class.unimplemented ↦ unimplemented
       | Class.outOfRange ↦ outOfRange
@@ -57,6 +59,6 @@ decodable code =
     elim (rowOf code) [ none ↦ none | some row ↦ elim (leb (row .most) 4) [ true ↦ some row | false ↦ none ] ]
 
 -- One value from four registers, the first ones used. 40 at place 0: the code is not 1–18, 21 or 22.
-unfoldable pub decoded : ℕ → List ℕ → Decoded
-decoded code registers =
-    elim (decodable code) [ none ↦ refused 40 0 | some row ↦ valueOf row (patternIn row registers) ]
+unfoldable pub decoded : ℕ → Presence → List ℕ → Decoded
+decoded code presence registers =
+    elim (decodable code) [ none ↦ refused 40 0 | some row ↦ valueOf row presence (patternIn row registers) ]

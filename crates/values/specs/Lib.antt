@@ -6,3 +6,4 @@ pub mod CodeTypes
 pub mod Printed
 pub mod ThreeClasses
 pub mod SignedNumbers
+pub mod PresenceDecides

@@ -1,7 +1,8 @@
 -- The values of the types as document 000 prints them (6.4.1 to 6.4.3 and 6.4.6 to 6.4.8).
 -- Integers: the type's range without the value printed as not implemented or not accumulated. The range includes that value for
--- acc16, acc32 and acc64 (0) and for uint64 (its upper end; document 01: "not given wins"). One misprint is corrected: a digit is
--- missing from bitfield32's upper end. bitfield64 has no printed range: change request 1 gives it that of the narrower bitfields.
+-- acc16, acc32 and acc64 (0; a value of a mandatory one, by change request 2) and for uint64 (its upper end; document 01: "not given
+-- wins"). One misprint is corrected: a digit is missing from bitfield32's upper end. bitfield64 has no printed range: change request
+-- 1 gives it that of the narrower bitfields.
 -- Floats: the numbers of the type's format of IEEE 754. raw16 and ipaddr are in neither table: no range is printed for them.
 use mathlib.Core.Path.{_≡_}
 use mathlib.Core.Bool.{not}
@@ -15,6 +16,7 @@ use lib.IntN.{ℤ, pos, negℤ}
 use lib.ListN.{length}
 use lib.Signed.{_≤ℤ_}
 use Rattle.registers.specs.Registers.{AreRegisters}
+use Rattle.point_types.specs.Presence.{Presence, mandatory, optional}
 use Rattle.values.specs.Decoding.{Decoded, signed, unsigned, float, unimplemented, outOfRange, refused, decoded}
 
 -- A type's code, and the least and the greatest of its values.
@@ -30,24 +32,29 @@ fromTo c m n = record { code = c; least = pos m; greatest = pos n }
 abbrev around : ℕ → ℕ → PrintedRange
 around c n = record { code = c; least = negℤ (pos n); greatest = pos n }
 
--- The types by code, with their printed values.
-unfoldable pub printed : List PrintedRange
-printed =
+-- The least count of an accumulator: printed as 0, which is the value printed as not accumulated.
+abbrev pub leastCount : Presence → ℕ
+leastCount mandatory = 0
+leastCount optional = 1
+
+-- The types by code, with their printed values for a point of this presence.
+unfoldable pub printed : Presence → List PrintedRange
+printed presence =
     around 1 32767
     ∷ fromTo 2 0 65534
-    ∷ fromTo 3 1 65535  -- printed: 0 ... 65535, and 0 as not accumulated
+    ∷ fromTo 3 (leastCount presence) 65535
     ∷ fromTo 4 0 65534
     ∷ fromTo 5 0 0x7FFF
     ∷ fromTo 6 0x8000 0x8000
     ∷ around 8 10
     ∷ around 9 2147483647
     ∷ fromTo 10 0 4294967294
-    ∷ fromTo 11 1 4294967295  -- printed: 0 ... 4294967295, and 0 as not accumulated
+    ∷ fromTo 11 (leastCount presence) 4294967295
     ∷ fromTo 12 0 4294967294
     ∷ fromTo 13 0 0x7FFFFFFF  -- printed: 0x7FFFFFF
     ∷ around 16 9223372036854775807
     ∷ fromTo 17 0 18446744073709551614  -- printed: 18,446,744,073,709,551,615, the not-implemented value
-    ∷ fromTo 18 1 9223372036854775807  -- printed: 0 ... 9223372036854775807, and 0 as not accumulated
+    ∷ fromTo 18 (leastCount presence) 9223372036854775807
     ∷ fromTo 21 0 0x7FFFFFFFFFFFFFFF  -- not printed: change request 1
     ∷ []
 
@@ -73,16 +80,16 @@ decodedInteger unimplemented = none
 decodedInteger outOfRange = none
 decodedInteger (refused n place) = none
 
--- Four registers whose result under a type code satisfies `Is`.
-pub record DecodedFrom (code : ℕ) (Is : Decoded → Type 0) : Type 0 where
+-- Four registers whose result under a type code and a presence satisfies `Is`.
+pub record DecodedFrom (code : ℕ) (presence : Presence) (Is : Decoded → Type 0) : Type 0 where
   pub registers : List ℕ
   pub four : length registers ≡ 4
   pub all : AreRegisters registers
-  pub is : Is (decoded code registers)
+  pub is : Is (decoded code presence registers)
 
 -- The values of a type are the printed integers: z is decoded from some registers if and only if it is in the range.
-abbrev pub DecodedAsPrinted : PrintedRange → Type 0
-DecodedAsPrinted r = (z : ℤ) → DecodedFrom (r .code) (λ d. decodedInteger d ≡ some z) ↔ InPrinted r z
+abbrev pub DecodedAsPrinted : Presence → PrintedRange → Type 0
+DecodedAsPrinted presence r = (z : ℤ) → DecodedFrom (r .code) presence (λ d. decodedInteger d ≡ some z) ↔ InPrinted r z
 
 -- ---- Floats
 
@@ -108,5 +115,5 @@ WithinFormat r outOfRange = Unit {0}
 WithinFormat r (refused n place) = ⊥
 
 -- The values of a float type are the numbers of its format: x is decoded from some registers if and only if it is one.
-abbrev pub DecodedAsFormat : PrintedFormat → Type 0
-DecodedAsFormat r = (x : Float) → DecodedFrom (r .code) (λ d. d ≡ float (r .format) x) ↔ NumberIn (r .format) x
+abbrev pub DecodedAsFormat : Presence → PrintedFormat → Type 0
+DecodedAsFormat presence r = (x : Float) → DecodedFrom (r .code) presence (λ d. d ≡ float (r .format) x) ↔ NumberIn (r .format) x

@@ -1,8 +1,9 @@
--- The number that a scale factor multiplies (document 01, "Decimal" and "Worth"), from a type code and a raw value.
+-- The number that a scale factor multiplies (document 01, "Decimal" and "Worth"), from a type code, a presence and a raw value.
 use mathlib.Core.Bool.{true, false}
 use mathlib.Core.Option.{none, some}
 use Prim.Native.Nat.{ℕ, _^_, _<_}
 use lib.IntN.{ℤ, pos, negsuc}
+use Rattle.point_types.specs.Presence.{Presence}
 use Rattle.point_types.specs.Rows.{rowOf}
 use Rattle.values.specs.Classes.{integer, isValue, classified}
 
@@ -12,13 +13,13 @@ pub data Unscaled : Type 0 where
   noValue notScalable : Unscaled
 
 -- The type is tested before the value.
-unfoldable pub unscaled : ℕ → ℕ → Unscaled
-unscaled code raw =
+unfoldable pub unscaled : ℕ → Presence → ℕ → Unscaled
+unscaled code presence raw =
     elim (rowOf code) [
       | none ↦ notScalable
       | some row ↦ elim (row .scalable) [
         | false ↦ notScalable
-        | true ↦ elim (isValue (classified code raw)) [ true ↦ number (integer row raw) | false ↦ noValue ]
+        | true ↦ elim (isValue (classified code presence raw)) [ true ↦ number (integer row raw) | false ↦ noValue ]
       ]
     ]
 

@@ -2,7 +2,7 @@
 ghost use mathlib.Core.Path.{_≡_};
 ghost use lib.Ieee.{nanBits};
 ghost use Rattle.point_types.specs.Rows.{Listed};
-ghost use Rattle.point_types.specs.CodeTypes.{toSpecFormat, toSpecKind, toSpecUnimplemented, toSpecRow};
+ghost use Rattle.point_types.specs.CodeTypes.{toSpecPresence, toSpecFormat, toSpecKind, toSpecUnimplemented, toSpecRow};
 ghost use Rattle.values.specs.Classes.{PatternOf, ofClass, twosComplement, isUnimplemented, inRange, isScaleFactor, holdsNaN, isValue, classOf, classified};
 ghost use Rattle.values.specs.CodeTypes.{toSpecClass, toSpecClassified};
 use crate::Class;
@@ -10,39 +10,41 @@ use crate::Classified;
 use point_types::Format;
 use point_types::Found;
 use point_types::Kind;
+use point_types::Presence;
 use point_types::Range;
 use point_types::TypeRow;
 use point_types::Unimplemented;
 use point_types::row_of;
+use point_types::unimplemented_for;
 use registers::too_wide;
 
-// The class of a raw value under a type code.
-pub fn classify(type_code: u16, raw: u64) -> Classified
-    ensures { λ r. ⌜ toSpecClassified r ≡ classified «type_code» raw ⌝ }
+// The class of a raw value under a type code, for a point of this presence.
+pub fn classify(type_code: u16, presence: Presence, raw: u64) -> Classified
+    ensures { λ r. ⌜ toSpecClassified r ≡ classified «type_code» (toSpecPresence presence) raw ⌝ }
 {
     let found = row_of(type_code);
     match found {
-        Found::Row(row) => classified_in(row, raw),
+        Found::Row(row) => classified_in(row, presence, raw),
         Found::Nothing => Classified::UnknownType,
     }
 }
 
 // The class of a raw value under the row's type.
-pub(crate) fn classified_in(row: TypeRow, raw: u64) -> Classified
+pub(crate) fn classified_in(row: TypeRow, presence: Presence, raw: u64) -> Classified
     requires { ⌜ Listed (toSpecRow row) ⌝ }
-    ensures { λ r. ⌜ toSpecClassified r ≡ classified (row .code) raw ⌝ }
+    ensures { λ r. ⌜ toSpecClassified r ≡ classified (row .code) (toSpecPresence presence) raw ⌝ }
 {
     if too_wide(row.most, raw) {
         return Classified::TooWide;
     }
-    Classified::Of(class_in(row, raw))
+    Classified::Of(class_in(row, presence, raw))
 }
 
-// Is a raw value a value of its type?
-pub fn is_value(type_code: u16, raw: u64) -> bool
-    ensures { λ r. ⌜ r ≡ isValue (classified «type_code» raw) ⌝ }
+// Is a raw value a value of its type, for a point of this presence?
+pub fn is_value(type_code: u16, presence: Presence, raw: u64) -> bool
+    ensures { λ r. ⌜ r ≡ isValue (classified «type_code» (toSpecPresence presence) raw) ⌝ }
 {
-    is_value_in(classify(type_code, raw))
+    is_value_in(classify(type_code, presence, raw))
 }
 
 // Is it classified as a value?
@@ -68,11 +70,11 @@ fn is_value_class(class: Class) -> bool
 }
 
 // The class of a pattern of the row's type: unimplemented wins over out of range.
-pub(crate) fn class_in(row: TypeRow, raw: u64) -> Class
+pub(crate) fn class_in(row: TypeRow, presence: Presence, raw: u64) -> Class
     requires { ⌜ PatternOf (toSpecRow row) raw ⌝ }
-    ensures { λ r. ⌜ toSpecClass r ≡ classOf (toSpecRow row) raw ⌝ }
+    ensures { λ r. ⌜ toSpecClass r ≡ classOf (toSpecRow row) (toSpecPresence presence) raw ⌝ }
 {
-    let unimplemented = row.unimplemented;
+    let unimplemented = unimplemented_for(row, presence);
     if is_unimplemented(unimplemented, raw) {
         return Class::Unimplemented;
     }
@@ -82,7 +84,7 @@ pub(crate) fn class_in(row: TypeRow, raw: u64) -> Class
     Class::OutOfRange
 }
 
-// Is it the type's unimplemented pattern?
+// Is it the unimplemented pattern?
 fn is_unimplemented(unimplemented: Unimplemented, raw: u64) -> bool
     ensures { λ r. ⌜ r ≡ isUnimplemented (toSpecUnimplemented unimplemented) raw ⌝ }
 {
@@ -125,6 +127,7 @@ fn holds_nan(kind: Kind, raw: u64) -> bool
     match kind {
         Kind::Signed => false,
         Kind::Unsigned => false,
+        Kind::Accumulator => false,
         Kind::Float(format) => is_nan_pattern(format, raw),
     }
 }

@@ -11,17 +11,18 @@ pub use classes::scale_factor_in_range;
 use point_types::Format;
 use point_types::Found;
 use point_types::Kind;
+pub use point_types::Presence;
 use point_types::TypeRow;
 use point_types::row_of;
 use registers::all_ones;
 use registers::raw_value;
 pub use unscaled::unscaled_value;
 ghost use mathlib.Core.Path.{_≡_};
-ghost use mathlib.Core.Bool.{false};
+ghost use mathlib.Core.Bool.{true, false};
 ghost use Prim.Native.Nat.{_*_, _-_, _^_, _≤_, _<_};
 ghost use lib.Ieee.{top, nanBits, ofBits};
-ghost use Rattle.point_types.specs.CodeTypes.{toSpecFormat, toSpecRow};
-ghost use Rattle.values.specs.Classes.{PatternOf, twosComplement, classOf, value};
+ghost use Rattle.point_types.specs.CodeTypes.{toSpecPresence, toSpecFormat, toSpecRow};
+ghost use Rattle.values.specs.Classes.{PatternOf, twosComplement, inRange};
 ghost use Rattle.values.specs.Decoding.{float, numberOf, valueOf, decoded};
 ghost use Rattle.values.specs.CodeTypes.{toSpecValue};
 
@@ -60,9 +61,9 @@ pub enum UnscaledValue {
     NotScalable,
 }
 
-// The value in the first registers; the type decides how many are read.
-pub fn decode(type_code: u16, registers: [u16; 4]) -> Value
-    ensures { λ r. ⌜ toSpecValue r ≡ decoded «type_code» registers ⌝ }
+// The value in the first registers, for a point of this presence; the type decides how many are read.
+pub fn decode(type_code: u16, presence: Presence, registers: [u16; 4]) -> Value
+    ensures { λ r. ⌜ toSpecValue r ≡ decoded «type_code» (toSpecPresence presence) registers ⌝ }
 {
     let found = row_of(type_code);
     match found {
@@ -72,18 +73,18 @@ pub fn decode(type_code: u16, registers: [u16; 4]) -> Value
             }
             let count = row.most as usize;
             let raw = raw_value(&registers[..count]);
-            value_of(row, raw)
+            value_of(row, presence, raw)
         }
         Found::Nothing => Value::NotDecodable,
     }
 }
 
 // The result for a pattern of the row's type.
-fn value_of(row: TypeRow, raw: u64) -> Value
+fn value_of(row: TypeRow, presence: Presence, raw: u64) -> Value
     requires { ⌜ PatternOf (toSpecRow row) raw ⌝ }
-    ensures { λ r. ⌜ toSpecValue r ≡ valueOf (toSpecRow row) raw ⌝ }
+    ensures { λ r. ⌜ toSpecValue r ≡ valueOf (toSpecRow row) (toSpecPresence presence) raw ⌝ }
 {
-    let class = class_in(row, raw);
+    let class = class_in(row, presence, raw);
     match class {
         Class::Value => number_of(row, raw),
         Class::Unimplemented => Value::Unimplemented,
@@ -91,16 +92,17 @@ fn value_of(row: TypeRow, raw: u64) -> Value
     }
 }
 
-// The number of a pattern that is a value.
+// The number of a pattern in its type's range.
 fn number_of(row: TypeRow, raw: u64) -> Value
     requires { ⌜ PatternOf (toSpecRow row) raw ⌝ }
-    requires { ⌜ classOf (toSpecRow row) raw ≡ value ⌝ }
+    requires { ⌜ inRange (toSpecRow row) raw ≡ true ⌝ }
     ensures { λ r. ⌜ toSpecValue r ≡ numberOf (toSpecRow row) raw ⌝ }
 {
     let kind = row.kind;
     match kind {
         Kind::Signed => Value::Signed(twos_complement(row.most, raw)),
         Kind::Unsigned => Value::Unsigned(raw),
+        Kind::Accumulator => Value::Unsigned(raw),
         Kind::Float(format) => float_of(format, raw),
     }
 }

@@ -1,7 +1,7 @@
 // The integer of a raw value, not scaled.
 ghost use mathlib.Core.Path.{_≡_};
 ghost use Prim.Native.Nat.{_*_, _^_, _≤_, _<_};
-ghost use Rattle.point_types.specs.CodeTypes.{toSpecRow};
+ghost use Rattle.point_types.specs.CodeTypes.{toSpecPresence, toSpecRow};
 ghost use Rattle.values.specs.Classes.{PatternOf, integer, twosComplement};
 ghost use Rattle.values.specs.Unscaled.{unscaled};
 ghost use Rattle.values.specs.CodeTypes.{toCodeUnscaled, toCodeInteger};
@@ -10,13 +10,14 @@ use crate::classes::classified_in;
 use crate::classes::is_value_in;
 use point_types::Found;
 use point_types::Kind;
+use point_types::Presence;
 use point_types::TypeRow;
 use point_types::row_of;
 use registers::all_ones;
 
-// The integer that a scale factor multiplies, for a type code and a raw value.
-pub fn unscaled_value(type_code: u16, raw: u64) -> UnscaledValue
-    ensures { λ r. ⌜ r ≡ toCodeUnscaled (unscaled «type_code» raw) ⌝ }
+// The integer that a scale factor multiplies, for a type code, the point's presence and a raw value.
+pub fn unscaled_value(type_code: u16, presence: Presence, raw: u64) -> UnscaledValue
+    ensures { λ r. ⌜ r ≡ toCodeUnscaled (unscaled «type_code» (toSpecPresence presence) raw) ⌝ }
 {
     let found = row_of(type_code);
     match found {
@@ -24,7 +25,7 @@ pub fn unscaled_value(type_code: u16, raw: u64) -> UnscaledValue
             if !row.scalable {
                 return UnscaledValue::NotScalable;
             }
-            if !is_value_in(classified_in(row, raw)) {
+            if !is_value_in(classified_in(row, presence, raw)) {
                 return UnscaledValue::NoValue;
             }
             integer_by_sign(row, raw)
@@ -42,6 +43,10 @@ fn integer_by_sign(row: TypeRow, raw: u64) -> UnscaledValue
     match kind {
         Kind::Signed => twos_complement_by_sign(row.most, raw),
         Kind::Unsigned => UnscaledValue::Of {
+            negative: false,
+            magnitude: raw,
+        },
+        Kind::Accumulator => UnscaledValue::Of {
             negative: false,
             magnitude: raw,
         },

@@ -7,7 +7,7 @@ use Rattle.point_types.specs.CodeTypes.{toSpecFormat, toSpecKind, toSpecRow}
 use Rattle.point_types.proofs.Table.{signed-width, float-row}
 use Rattle.values.specs.Decoding as decoding
 use Rattle.values.specs.Decoding.{numberOf}
-use Rattle.values.proofs.NoNaN.{no-nan-pattern}
+use Rattle.values.proofs.NoNaN.{no-nan-in-range}
 use Rattle.values.proofs.number_of.Statement.{statement}
 use Rattle.values.proofs.number_of.Tie as tie
 
@@ -22,7 +22,7 @@ float-of-requires c κs =
     let f = toSpecFormat (c .before .kind .given .0 .0) in
     let row = toSpecRow (s .args .row) in
     let k = ap toSpecKind (c .before .kind .given .1) in
-    (rw (float-row row (s .pre .0 .listed) f k .0) at (s .pre .0 .fits), no-nan-pattern row (s .args .raw) f (s .pre .0 .listed) k (s .pre .1))
+    (rw (float-row row (s .pre .0 .listed) f k .0) at (s .pre .0 .fits), no-nan-in-range row (s .args .raw) f (s .pre .0 .listed) k (s .pre .1))
 
 returns : tie.Need-returns
 unfolding numberOf
@@ -34,7 +34,8 @@ pub number-of-spec : {M : Type 1} → statement M
 unfolding numberOf
 number-of-spec =
     tie.close
-    (tie.spec (λ c. search needs) twos-complement-requires (λ c. search needs) (λ c. search needs) float-of-requires
+    (tie.spec (λ c. search needs) twos-complement-requires (λ c. search needs) (λ c. search needs) (λ c. search needs) float-of-requires
     returns
     (λ c. simp (numberOf, ap toSpecKind (c .enum-told2 .given .1)))
+    (λ c. simp (numberOf, ap toSpecKind (c .enum-told3 .given .1)))
     (λ c. c .float-of .ensures ∙ simp (numberOf, ap toSpecKind (c .before .before .kind .given .1))))

@@ -1,15 +1,19 @@
 -- `value_of` returns the result for the pattern's class.
 use mathlib.Core.Path.{sym, ap, _∙_}
 use borrow.Author.Needs.{needs}
+use Rattle.point_types.specs.CodeTypes.{toSpecPresence, toSpecRow}
 use Rattle.values.specs.CodeTypes.{toSpecClass}
 use Rattle.values.specs.Decoding.{valueOf}
+use Rattle.values.proofs.ThreeClasses.{value-in-range}
 use Rattle.values.proofs.value_of.Statement.{statement}
 use Rattle.values.proofs.value_of.Tie as tie
 
 number-of-requires : tie.Need-number-of-requires
 number-of-requires c κs =
     let k = c .before .before in
-    (k .before .pre, sym (k .class-in .ensures) ∙ ap toSpecClass (c .enum-told .given .1))
+    let a = k .before .args in
+    let v = sym (k .class-in .ensures) ∙ ap toSpecClass (c .enum-told .given .1) in
+    (k .before .pre, value-in-range (toSpecRow (a .row)) (toSpecPresence (a .presence)) (a .raw) v)
 
 returns : tie.Need-returns
 unfolding valueOf

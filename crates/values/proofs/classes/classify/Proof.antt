@@ -4,7 +4,7 @@ use mathlib.Core.Option.{some}
 use Prim.Native.Nat.{ℕ}
 use borrow.Author.Needs.{needs}
 use Rattle.point_types.specs.Rows.{rowOf}
-use Rattle.point_types.specs.CodeTypes.{toSpecFound, toSpecRow}
+use Rattle.point_types.specs.CodeTypes.{toSpecPresence, toSpecFound, toSpecRow}
 use Rattle.point_types.proofs.Table.{own-code, listed}
 use Rattle.values.specs.Classes.{classified}
 use Rattle.values.proofs.classes.classify.Statement.{statement}
@@ -24,7 +24,7 @@ returns c =
     let f = c .before .before in
     let a = f .before .before .before .args in
     c .classified-in .ensures
-    ∙ ap (λ (code : ℕ). classified code (a .raw)) (sym (own-code (a .type-code) (toSpecRow (f .found .given .0 .0)) (at f)))
+    ∙ ap (λ (code : ℕ). classified code (toSpecPresence (a .presence)) (a .raw)) (sym (own-code (a .type-code) (toSpecRow (f .found .given .0 .0)) (at f)))
 
 pub classify-spec : {M : Type 1} → statement M
 unfolding classified

@@ -6,13 +6,14 @@ use Rattle.values.specs.Classes.{holdsNaN}
 use Rattle.values.proofs.classes.holds_nan.Statement.{statement}
 use Rattle.values.proofs.classes.holds_nan.Tie as tie
 
-returns-3 : tie.Need-returns-3
-returns-3 c =
+returns-4 : tie.Need-returns-4
+returns-4 c =
     let k = c .before .before in
     c .is-nan-pattern .ensures ∙ sym (ap (λ x. holdsNaN (toSpecKind x) (k .before .before .args .raw)) (k .kind .given .1))
 
 pub holds-nan-spec : {M : Type 1} → statement M
 holds-nan-spec =
     tie.close
-    (tie.spec (λ c. search needs) (λ c. search needs) (λ c. search needs) (λ c κs. search needs) (λ c. search needs) (λ c. search needs)
-    returns-3)
+    (tie.spec (λ c. search needs) (λ c. search needs) (λ c. search needs) (λ c. search needs) (λ c κs. search needs) (λ c. search needs)
+    (λ c. search needs) (λ c. search needs)
+    returns-4)

@@ -6,7 +6,7 @@ use Prim.Native.Nat.{ℕ}
 use borrow.Author.Needs.{needs}
 use borrow.Author.Tests.{not-true, not-false}
 use Rattle.point_types.specs.Rows.{rowOf}
-use Rattle.point_types.specs.CodeTypes.{toSpecFound, toSpecRow}
+use Rattle.point_types.specs.CodeTypes.{toSpecPresence, toSpecFound, toSpecRow}
 use Rattle.point_types.proofs.Table.{own-code, listed}
 use Rattle.values.specs.Classes.{isValue, classified}
 use Rattle.values.specs.Unscaled.{unscaled}
@@ -28,12 +28,13 @@ value : (c : tie.After-is-value-in)
     → isValue
     (classified
     (c .before .before .before .before .before .before .before .before .args .type-code)
+    (toSpecPresence (c .before .before .before .before .before .before .before .before .args .presence))
     (c .before .before .before .before .before .before .before .before .args .raw))
     ≡ c .is-value-in .result
 value c =
     let f = c .before .before .before .before .before in
     let a = f .before .before .before .args in
-    ap (λ (code : ℕ). isValue (classified code (a .raw))) (own-code (a .type-code) (toSpecRow (f .found .given .0 .0)) (at f))
+    ap (λ (code : ℕ). isValue (classified code (toSpecPresence (a .presence)) (a .raw))) (own-code (a .type-code) (toSpecRow (f .found .given .0 .0)) (at f))
     ∙ sym (ap isValue (c .before .classified-in .ensures))
     ∙ sym (c .is-value-in .ensures)
 
@@ -52,7 +53,7 @@ integer-by-sign-requires c κs =
     let r = toSpecRow (f .found .given .0 .0) in
     record {
       listed = listed (a .type-code) r (at f);
-      fits = value-fits (a .type-code) (a .raw) r (at f) (value (c .before) ∙ not-false _ (c .if2 .left));
+      fits = value-fits (a .type-code) (toSpecPresence (a .presence)) (a .raw) r (at f) (value (c .before) ∙ not-false _ (c .if2 .left));
     }
 
 returns-3 : tie.Need-returns-3
