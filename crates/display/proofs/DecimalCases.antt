@@ -7,6 +7,7 @@ use native.Mathlib.Nat.{div-one, mul-one}
 use native.Mathlib.Omega.{arith}
 use borrow.Author.Tests.{le-ltb}
 use lib.IntN.{ℤ}
+use Rattle.point_types.specs.Presence.{Presence}
 use Rattle.display.specs.Amounts.{amountOf}
 use Rattle.display.specs.Decimals.{decimalPoint, lastDigits, digitsOf, sign, unsignedText, text, decimalOf}
 use Rattle.display.specs.InternalParts.{TenAtMost, partsText}
@@ -14,10 +15,10 @@ use Rattle.display.specs.declared.quantities.ScaledNumber.{ScaledNumber}
 use Rattle.display.proofs.AmountCases.{WasAmount}
 
 -- The text, if the buffer is long enough.
-pub long-buffer : (code raw : ℕ) (scale : ℤ) (capacity : ℕ) (parts : ScaledNumber) → WasAmount (amountOf code raw scale) parts
-    → 32 ≤ capacity → decimalOf code raw scale capacity ≡ text (partsText parts)
+pub long-buffer : (code : ℕ) (presence : Presence) (raw : ℕ) (scale : ℤ) (capacity : ℕ) (parts : ScaledNumber)
+    → WasAmount (amountOf code presence raw scale) parts → 32 ≤ capacity → decimalOf code presence raw scale capacity ≡ text (partsText parts)
 unfolding decimalOf
-long-buffer code raw scale capacity parts was h =
+long-buffer code presence raw scale capacity parts was h =
     simp (decimalOf, was .is, le-ltb _ _ h) (ap (λ (p : ScaledNumber). text (partsText p)) (sym (was .form)))
 
 -- Without places the text is the whole number.

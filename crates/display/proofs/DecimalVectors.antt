@@ -7,7 +7,9 @@ use Prim.Native.String.{String}
 use lib.ListN.{replicate}
 use Rattle.lists.specs.Ascii.{ascii}
 use Rattle.registers.specs.Registers.{tooWide}
+use Rattle.point_types.specs.Presence.{Presence, mandatory, optional}
 use Rattle.point_types.specs.Rows.{rows, rowAmong}
+use Rattle.point_types.specs.declared.Presence as declared
 use Rattle.values.specs.Classes.{twosComplement, integer, inRange, classOf, classified}
 use Rattle.values.specs.Unscaled.{unscaled}
 use Rattle.display.specs.Amounts.{amountOf}
@@ -16,20 +18,25 @@ use Rattle.display.specs.Equality as equality
 use Rattle.display.specs.CodeTypes.{quantityAmount, decimalInto}
 use Rattle.display.specs.declared.Quantity.{Quantity}
 
--- A type code, a raw value, a scale factor as a register, the length of the buffer; and the result.
+-- A type code, a presence, a raw value, a scale factor as a register, the length of the buffer; and the result.
 pub record Line : Type 0 where
   pub code : ℕ
+  pub presence : Presence
   pub raw : ℕ
   pub scale : ℕ
   pub buffer : ℕ
   pub result : Decimal
 
+abbrev pub lineOf : Presence → Decimal → ℕ → ℕ → ℕ → ℕ → Line
+lineOf presence result code raw scale buffer =
+    record { code = code; presence = presence; raw = raw; scale = scale; buffer = buffer; result = result }
+
+-- Of an optional point.
 abbrev pub reads : ℕ → ℕ → ℕ → ℕ → String → Line
-reads code raw scale buffer t = record { code = code; raw = raw; scale = scale; buffer = buffer; result = text (ascii t) }
+reads code raw scale buffer t = lineOf optional (text (ascii t)) code raw scale buffer
 
 abbrev pub refuses : ℕ → ℕ → ℕ → ℕ → ℕ → Line
-refuses code raw scale buffer number =
-    record { code = code; raw = raw; scale = scale; buffer = buffer; result = refused number 0 }
+refuses code raw scale buffer number = lineOf optional (refused number 0) code raw scale buffer
 
 unfoldable pub lines : List Line
 lines =
@@ -61,21 +68,29 @@ lines =
     ∷ refuses 1 0x10000 0 32 44
     ∷ refuses 18 (2 ^ 63) 0 32 44
     ∷ refuses 1 1 11 31 45
+    -- an accumulator at 0: a value of a mandatory point, none of an optional one
+    ∷ lineOf mandatory (text (ascii "0")) 3 0 2 32
+    ∷ lineOf mandatory (text (ascii "0.0000000000")) 18 0 0xFFF6 32
+    ∷ lineOf mandatory (refused 45 0) 11 0 11 31
+    ∷ refuses 11 0 11 31 44
     ∷ []
 
-pub decimal-vectors : map (λ (l : Line). decimalInto (l .code) (l .raw) (l .scale) (replicate (l .buffer) 0)) lines
+pub decimal-vectors : map (λ (l : Line). decimalInto (l .code) (l .presence) (l .raw) (l .scale) (replicate (l .buffer) 0)) lines
     ≡ map (λ (l : Line). l .result) lines
 unfolding lines rows rowAmong tooWide twosComplement integer inRange classOf classified unscaled amountOf decimalOf lastDigits digitCountWithin unsignedText
 decimal-vectors = refl
 
 -- The text is stored at the start of the buffer, and the later bytes stay.
-pub later-bytes-stay : stored (decimalInto 1 230 0xFFFF (replicate 33 7)) (replicate 33 7) ≡ ascii "23.0" ++ replicate 29 7
+pub later-bytes-stay : stored (decimalInto 1 optional 230 0xFFFF (replicate 33 7)) (replicate 33 7) ≡ ascii "23.0" ++ replicate 29 7
 unfolding rows rowAmong tooWide twosComplement integer inRange classOf classified unscaled amountOf decimalOf lastDigits digitCountWithin unsignedText
 later-bytes-stay = refl
 
 -- Two quantities, and how they compare.
 abbrev quantity : ℕ → ℕ → ℕ → Quantity
-quantity code raw scale = record { «type_code» = code; raw = raw; scale = scale }
+quantity code raw scale = record { «type_code» = code; presence = declared.Presence.Optional; raw = raw; scale = scale }
+
+abbrev ofMandatory : ℕ → ℕ → ℕ → Quantity
+ofMandatory code raw scale = record { «type_code» = code; presence = declared.Presence.Mandatory; raw = raw; scale = scale }
 
 abbrev pub Comparison : Type 0
 Comparison = Quantity × (Quantity × equality.Equality)
@@ -94,6 +109,11 @@ comparisons =
     ∷ (quantity 1 1 10, (quantity 4 1 0, equality.refused 43 0))
     ∷ (quantity 1 1 0, (quantity 1 0x8000 11, equality.refused 44 0))
     ∷ (quantity 1 1 0, (quantity 1 1 0xFFF5, equality.refused 45 0))
+    -- each quantity has its own presence
+    ∷ (ofMandatory 18 0 0, (ofMandatory 3 0 10, equality.equal))
+    ∷ (ofMandatory 18 0 0, (quantity 3 0 10, equality.refused 44 0))
+    ∷ (quantity 18 0 0, (ofMandatory 3 0 11, equality.refused 44 0))
+    ∷ (quantity 11 5 0, (ofMandatory 11 5 0, equality.equal))
     ∷ []
 
 pub comparison-vectors : map (λ (c : Comparison). equality.equality (quantityAmount (c .0)) (quantityAmount (c .1 .0))) comparisons

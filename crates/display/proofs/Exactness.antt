@@ -10,6 +10,7 @@ use lib.Dec.{ltb}
 use lib.IntN.{ℤ, pos, negsuc, negℤ}
 use lib.ListN.{length, length-append}
 use lib.Pow.{pow-add}
+use Rattle.point_types.specs.Presence.{Presence}
 use Rattle.lists.proofs.TestOutcomes.{impossible}
 use Rattle.values.specs.Unscaled.{Within64}
 use Rattle.display.specs.Amounts.{Amount, amount, amountOf, fractionOf, zeros, places}
@@ -63,29 +64,30 @@ text-bound (pos a) scale w t = number-bound a 20 (omega arith) (omega arith) sca
 text-bound (negsuc a) scale w t = omega (arith, number-bound (suc a) 19 (omega arith) (omega arith) scale t)
 
 -- The claim.
-pub exactness : (code raw : ℕ) (scale : ℤ) (capacity : ℕ) (t : List ℕ) → decimalOf code raw scale capacity ≡ text t → Exact code raw scale t
+pub exactness : (code : ℕ) (presence : Presence) (raw : ℕ) (scale : ℤ) (capacity : ℕ) (t : List ℕ)
+    → decimalOf code presence raw scale capacity ≡ text t → Exact code presence raw scale t
 unfolding decimalOf
-exactness code raw scale capacity t e = by-amount (amountOf code raw scale) refl e
+exactness code presence raw scale capacity t e = by-amount (amountOf code presence raw scale) refl e
   where
-    by-capacity : (value s : ℤ) → amountOf code raw scale ≡ amount value s → (b : Bool)
-        → _≡_ {A = Decimal} (elim b [ true ↦ Decimal.refused 46 0 | false ↦ text (decimalText value s) ]) (text t) → Exact code raw scale t
+    by-capacity : (value s : ℤ) → amountOf code presence raw scale ≡ amount value s → (b : Bool)
+        → _≡_ {A = Decimal} (elim b [ true ↦ Decimal.refused 46 0 | false ↦ text (decimalText value s) ]) (text t) → Exact code presence raw scale t
     by-capacity value s a true q = impossible (cc)
     by-capacity value s a false q =
-        let o = amount-of code raw scale value s a in
+        let o = amount-of code presence raw scale value s a in
         let u : t ≡ decimalText value scale = cc in
         record {
           value = value;
           is = o .is;
           reads-back = rw u (read-back value scale);
-          thirty = rw (u, o .same-scale) (text-bound value s (value-within code raw scale value s a) (scale-within code raw scale value s a));
+          thirty = rw (u, o .same-scale) (text-bound value s (value-within code presence raw scale value s a) (scale-within code presence raw scale value s a));
         }
 
-    by-amount : (a : Amount) → amountOf code raw scale ≡ a
+    by-amount : (a : Amount) → amountOf code presence raw scale ≡ a
         → _≡_ {A = Decimal}
         (elim a [
           | Amount.refused n place ↦ Decimal.refused n place
           | amount value s ↦ elim (ltb capacity 32) [ true ↦ Decimal.refused 46 0 | false ↦ text (decimalText value s) ]
         ])
-        (text t) → Exact code raw scale t
+        (text t) → Exact code presence raw scale t
     by-amount (Amount.refused n place) a q = impossible (cc)
     by-amount (amount value s) a q = by-capacity value s a (ltb capacity 32) q

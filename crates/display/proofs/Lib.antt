@@ -3,6 +3,7 @@ pub mod TwelveVectors
 pub mod DecimalVectors
 pub mod EventVectors
 pub mod Exactness
+pub mod PresenceAmounts
 pub mod LeadingDigit
 pub mod Equivalence
 -- Laws of the definitions, and what the proofs of the functions cite

@@ -1,6 +1,6 @@
--- Document 01, "Cases and mistakes": the twelve cases for the proved table, in the document's order. One equation over the whole list
--- compares them with the definitions that the contracts cite; the checker computes it. Values and scale factors are registers, as the
--- calls take them: FFFF for −1.
+-- Document 01, "Cases and mistakes": the twelve cases for the proved table, in the document's order, for optional points; and after
+-- them the mandatory accumulators at 0 of change request 2. One equation over each list compares it with the definitions that the
+-- contracts cite; the checker computes it. Values and scale factors are registers, as the calls take them: FFFF for −1.
 use mathlib.Core.Path.{_≡_, refl}
 use mathlib.Core.List.{List, [], _∷_, map}
 use Prim.Native.Nat.{ℕ}
@@ -10,7 +10,9 @@ use lib.Ieee.{nanBits}
 use lib.ListN.{length, replicate}
 use Rattle.lists.specs.Ascii.{ascii}
 use Rattle.registers.specs.Registers.{join, tooWide}
+use Rattle.point_types.specs.Presence.{Presence, mandatory, optional}
 use Rattle.point_types.specs.Rows.{rows, rowAmong}
+use Rattle.point_types.specs.declared.Presence as declared
 use Rattle.values.specs.Classes.{twosComplement, integer, inRange, classOf, classified}
 use Rattle.values.specs.Decoding.{Decoded, signed, unsigned, unimplemented, outOfRange, numberOf, valueOf, decodable, decoded}
 use Rattle.values.specs.Unscaled.{unscaled}
@@ -39,6 +41,12 @@ int16 = 1
 abbrev acc16 : ℕ
 acc16 = 3
 
+abbrev acc32 : ℕ
+acc32 = 11
+
+abbrev acc64 : ℕ
+acc64 = 18
+
 abbrev bitfield16 : ℕ
 bitfield16 = 5
 
@@ -48,17 +56,20 @@ sunssf = 8
 abbrev float32 : ℕ
 float32 = 14
 
--- The value of a type whose first registers are these two.
+-- The value of a type whose first registers are these two, for a point of this presence; and for an optional one.
+abbrev decodesFor : Presence → ℕ → ℕ → ℕ → Decoded → Line
+decodesFor presence type first second result = (value (decoded type presence (first ∷ second ∷ 0 ∷ 0 ∷ [])), value result)
+
 abbrev decodes : ℕ → ℕ → ℕ → Decoded → Line
-decodes type first second result = (value (decoded type (first ∷ second ∷ 0 ∷ 0 ∷ [])), value result)
+decodes = decodesFor optional
 
 -- The text of an int16 with a scale factor, both as registers, in a buffer of 32 bytes.
 abbrev reads : ℕ → ℕ → String → Line
-reads raw scale t = (shown (decimalInto int16 raw scale (replicate 32 0)), shown (text (ascii t)))
+reads raw scale t = (shown (decimalInto int16 optional raw scale (replicate 32 0)), shown (text (ascii t)))
 
 -- An int16 with a scale factor, both as registers.
 abbrev quantity : ℕ → ℕ → Quantity
-quantity raw scale = record { «type_code» = int16; raw = raw; scale = scale }
+quantity raw scale = record { «type_code» = int16; presence = declared.Presence.Optional; raw = raw; scale = scale }
 
 abbrev equals : Quantity → Quantity → Line
 equals a b = (compared (equality (quantityAmount a) (quantityAmount b)), compared equal)
@@ -90,3 +101,24 @@ there-are-twelve = refl
 pub twelve-cases : map (map (λ (l : Line). l .0)) cases ≡ map (map (λ (l : Line). l .1)) cases
 unfolding cases rows rowAmong join tooWide twosComplement integer inRange classOf classified numberOf valueOf decodable decoded unscaled amountOf decimalOf lastDigits digitCountWithin unsignedText equality nanBits
 twelve-cases = refl
+
+-- Change request 2: a mandatory acc16, acc32 or acc64 at 0 is a value like any other, also as a decimal and compared with an int16's 0.
+unfoldable pub mandatoryCases : List Case
+mandatoryCases =
+    (decodesFor mandatory acc16 0 0 (unsigned 0) ∷ [])
+    ∷ (decodesFor mandatory acc32 0 0 (unsigned 0) ∷ [])
+    ∷ (decodesFor mandatory acc64 0 0 (unsigned 0) ∷ [])
+    ∷ (map counter (acc16 ∷ acc32 ∷ acc64 ∷ []))
+    ∷ (map (λ (type : ℕ). equals (count type 0xFFFE) (quantity 0 0)) (acc16 ∷ acc32 ∷ acc64 ∷ []))
+    ∷ []
+  where
+    -- A counter at 0 with the scale factor −2.
+    count : ℕ → ℕ → Quantity
+    count type scale = record { «type_code» = type; presence = declared.Presence.Mandatory; raw = 0; scale = scale }
+
+    counter : ℕ → Line
+    counter type = (shown (decimalInto type mandatory 0 0xFFFE (replicate 32 0)), shown (text (ascii "0.00")))
+
+pub mandatory-cases : map (map (λ (l : Line). l .0)) mandatoryCases ≡ map (map (λ (l : Line). l .1)) mandatoryCases
+unfolding mandatoryCases rows rowAmong join tooWide twosComplement integer inRange classOf classified numberOf valueOf decodable decoded unscaled amountOf decimalOf lastDigits digitCountWithin unsignedText equality nanBits
+mandatory-cases = refl

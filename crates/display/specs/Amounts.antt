@@ -1,9 +1,11 @@
--- A quantity: a type code, a raw value and a scale factor (document 01, "Decimal" and "Worth"). Its amount is value × 10 ^ scale.
+-- A quantity: a type code, a raw value and a scale factor (document 01, "Decimal" and "Worth"), and whether its point is mandatory
+-- (change request 2). Its amount is value × 10 ^ scale.
 use mathlib.Core.Bool.{true, false}
 use Prim.Native.Nat.{ℕ, suc, _^_}
 use lib.IntN.{ℤ, pos, negsuc, _*ℤ_}
+use Rattle.point_types.specs.Presence.{Presence}
 use Rattle.values.specs.Classes.{isScaleFactor}
-use Rattle.values.specs.Unscaled.{number, noValue, notScalable, unscaled}
+use Rattle.values.specs.Unscaled.{Unscaled, number, noValue, notScalable, unscaled}
 
 -- An integer and a scale factor; or a refusal by its number and place.
 pub data Amount : Type 0 where
@@ -11,13 +13,14 @@ pub data Amount : Type 0 where
   refused : (number place : ℕ) → Amount
 
 -- 43: a type without s. 44: unimplemented, out of range or too wide. 45: a scale factor outside −10..10. All have place 0.
-unfoldable pub amountOf : ℕ → ℕ → ℤ → Amount
-amountOf code raw scale =
-    elim (unscaled code raw) [
-      | notScalable ↦ refused 43 0
-      | noValue ↦ refused 44 0
-      | number value ↦ elim (isScaleFactor scale) [ true ↦ amount value scale | false ↦ refused 45 0 ]
-    ]
+abbrev pub amountFrom : Unscaled → ℤ → Amount
+amountFrom notScalable scale = refused 43 0
+amountFrom noValue scale = refused 44 0
+amountFrom (number value) scale = elim (isScaleFactor scale) [ true ↦ amount value scale | false ↦ refused 45 0 ]
+
+-- The amount of a quantity, or its refusal.
+unfoldable pub amountOf : ℕ → Presence → ℕ → ℤ → Amount
+amountOf code presence raw scale = amountFrom (unscaled code presence raw) scale
 
 -- A scale factor k from 0 on multiplies by 10 ^ k: it appends k zeros. (negsuc k is −(k + 1).)
 abbrev pub zeros : ℤ → ℕ

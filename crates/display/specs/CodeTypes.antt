@@ -3,6 +3,8 @@ use mathlib.Core.List.{List, _++_}
 use Prim.Native.Nat.{ℕ, _-_, _≤_}
 use lib.IntN.{ℤ}
 use lib.ListN.{length, replicate}
+use Rattle.point_types.specs.Presence.{Presence}
+use Rattle.point_types.specs.CodeTypes.{toSpecPresence}
 use Rattle.values.specs.Classes.{twosComplement}
 use Rattle.display.specs.Amounts as Amounts
 use Rattle.display.specs.Decimals as Decimals
@@ -18,11 +20,11 @@ scaleFactor register = twosComplement 16 register
 
 -- The amount of a quantity, or its refusal.
 abbrev pub quantityAmount : Quantity → Amounts.Amount
-quantityAmount q = Amounts.amountOf (q .«type_code») (q .raw) (scaleFactor (q .scale))
+quantityAmount q = Amounts.amountOf (q .«type_code») (toSpecPresence (q .presence)) (q .raw) (scaleFactor (q .scale))
 
 -- The text or refusal of a call of `decimal`: its scale factor is a register, and its capacity is the buffer's length.
-abbrev pub decimalInto : ℕ → ℕ → ℕ → List ℕ → Decimals.Decimal
-decimalInto code raw scale buffer = Decimals.decimalOf code raw (scaleFactor scale) (length buffer)
+abbrev pub decimalInto : ℕ → Presence → ℕ → ℕ → List ℕ → Decimals.Decimal
+decimalInto code presence raw scale buffer = Decimals.decimalOf code presence raw (scaleFactor scale) (length buffer)
 
 -- The result of `decimal`: the length of the text, or a refusal by its number and place.
 pub data Length : Type 0 where

@@ -6,6 +6,7 @@ use lib.Dec.{ltb}
 use lib.IntN.{ℤ, natAbs}
 use lib.ListN.{length, drop}
 use lib.Signed.{nonNeg}
+use Rattle.point_types.specs.Presence.{Presence}
 use Rattle.display.specs.Amounts.{Amount, amount, amountOf, zeros, places}
 
 -- The bytes of a text: the minus, the decimal point and the digits (48 is 0).
@@ -70,9 +71,9 @@ pub data Decimal : Type 0 where
   refused : (number place : ℕ) → Decimal
 
 -- 43–45 as for the amount; 46: the buffer has under 32 bytes (place 0).
-unfoldable pub decimalOf : ℕ → ℕ → ℤ → ℕ → Decimal
-decimalOf code raw scale bufferLength =
-    elim (amountOf code raw scale) [
+unfoldable pub decimalOf : ℕ → Presence → ℕ → ℤ → ℕ → Decimal
+decimalOf code presence raw scale bufferLength =
+    elim (amountOf code presence raw scale) [
       | Amount.refused n place ↦ Decimal.refused n place
       | amount value s ↦ elim (ltb bufferLength 32) [ true ↦ Decimal.refused 46 0 | false ↦ text (decimalText value s) ]
     ]

@@ -7,6 +7,7 @@ use Prim.Native.Nat.{ℕ, _+_, _-_, _*_, _≤_}
 use lib.Dec.{eqb, leb}
 use lib.IntN.{ℤ, pos, negℤ}
 use lib.ListN.{length}
+use Rattle.point_types.specs.Presence.{Presence}
 use Rattle.values.specs.Unscaled.{number, unscaled}
 use Rattle.display.specs.Amounts.{Fraction, fractionOf}
 use Rattle.display.specs.Decimals.{minusSign, decimalPoint, digitZero}
@@ -51,8 +52,8 @@ readDecimal (b ∷ bs) =
     elim (eqb b minusSign) [ true ↦ signed (λ n. negℤ (pos n)) (readUnsigned bs) | false ↦ signed pos (readUnsigned (b ∷ bs)) ]
 
 -- The claim for a text that `decimal` writes: it reads back as value × 10 ^ scale, and has at most 30 bytes.
-pub record Exact (code raw : ℕ) (scale : ℤ) (t : List ℕ) : Type 0 where
+pub record Exact (code : ℕ) (presence : Presence) (raw : ℕ) (scale : ℤ) (t : List ℕ) : Type 0 where
   pub value : ℤ
-  pub is : unscaled code raw ≡ number value
+  pub is : unscaled code presence raw ≡ number value
   pub reads-back : readDecimal t ≡ some (fractionOf value scale)
   pub thirty : length t ≤ 30

@@ -2,12 +2,14 @@
 ghost use mathlib.Core.Path.{_≡_};
 ghost use Prim.Native.Nat.{_+_, _*_, _^_, _≤_, _<_};
 ghost use lib.ListN.{length};
+ghost use Rattle.point_types.specs.CodeTypes.{toSpecPresence};
 ghost use Rattle.display.specs.Decimals.{digitAt, lastDigits, digitCount, digitsOf, sign, unsignedText, stored};
 ghost use Rattle.display.specs.CodeTypes.{decimalInto, lengthOf, toSpecDecimal, LengthFits, toCodeDigits};
 ghost use Rattle.display.specs.InternalParts.{TenAtMost, partsText, Put};
 use crate::DecimalText;
 use crate::Digits;
 use crate::MOST_DIGITS;
+use crate::Presence;
 use crate::Quantity;
 use crate::powers::POWERS;
 use crate::powers::power_of_ten;
@@ -20,13 +22,20 @@ const LEAST_BUFFER: usize = 32;
 
 // Writes value × 10 ^ scale, exact, at the start of `out`, and returns the length of the text. On a refusal it
 // writes nothing.
-pub fn decimal(type_code: u16, raw: u64, scale: u16, out: &mut [u8]) -> DecimalText
-    ensures { λ r. ⌜ toSpecDecimal r ≡ lengthOf (decimalInto «type_code» raw scale (now (out .entry))) ⌝ }
-    ensures { λ _. ⌜ now (out .exit) ≡ stored (decimalInto «type_code» raw scale (now (out .entry))) (now (out .entry)) ⌝ }
+pub fn decimal(
+    type_code: u16,
+    presence: Presence,
+    raw: u64,
+    scale: u16,
+    out: &mut [u8],
+) -> DecimalText
+    ensures { λ r. ⌜ toSpecDecimal r ≡ lengthOf (decimalInto «type_code» (toSpecPresence presence) raw scale (now (out .entry))) ⌝ }
+    ensures { λ _. ⌜ now (out .exit) ≡ stored (decimalInto «type_code» (toSpecPresence presence) raw scale (now (out .entry))) (now (out .entry)) ⌝ }
     ensures { λ r. ⌜ LengthFits (now (out .exit)) r ⌝ }
 {
     let accepted = accept(Quantity {
         type_code,
+        presence,
         raw,
         scale,
     });

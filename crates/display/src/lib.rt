@@ -12,6 +12,7 @@ pub use decimals::digits_of;
 pub use event_fields::EventBits;
 pub use event_fields::event_bits;
 pub use strings::text;
+pub use values::Presence;
 
 // The length of the text that was written. Refused: 43 to 46, at place 0.
 pub enum DecimalText {
@@ -28,9 +29,11 @@ pub struct Digits {
     pub count: usize,
 }
 
-// A raw value under its type, and its scale factor as a register: in two's complement.
+// A raw value under its type, of a mandatory or an optional point, and its scale factor as a register: in two's
+// complement.
 pub struct Quantity {
     pub type_code: u16,
+    pub presence: Presence,
     pub raw: u64,
     pub scale: u16,
 }

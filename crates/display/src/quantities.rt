@@ -26,7 +26,8 @@ pub(crate) enum Accepted {
 pub(crate) fn accept(quantity: Quantity) -> Accepted
     ensures { λ r. ⌜ r ≡ toCodeAccepted (quantityAmount quantity) ⌝ }
 {
-    let unscaled = values::unscaled_value(quantity.type_code, quantity.raw);
+    let presence = quantity.presence;
+    let unscaled = values::unscaled_value(quantity.type_code, presence, quantity.raw);
     let in_range = values::scale_factor_in_range(quantity.scale);
     match unscaled {
         UnscaledValue::NotScalable => Accepted::Refused { number: 43 },

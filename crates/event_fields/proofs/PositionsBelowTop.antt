@@ -19,6 +19,7 @@ use Rattle.lists.proofs.TestOutcomes.{impossible}
 use Rattle.registers.specs.Registers.{tooWide}
 use Rattle.point_types.specs.Rows.{TypeRow, between, rows, rowAmong, rowOf}
 use Rattle.point_types.proofs.Table.{rowIn, listed}
+use Rattle.point_types.specs.Presence.{optional}
 use Rattle.values.specs.Classes.{width, value, classOf, PatternOf, isValue, classified}
 use Rattle.values.proofs.ClassCases.{value-class, of-class}
 use Rattle.values.proofs.Ranges.{in-up-to}
@@ -50,29 +51,29 @@ all-below (suc count) first n width h = go (isSet n first) refl (all-below count
 
 module _ (code raw : ℕ) (row : TypeRow) (is : rowOf code ≡ some row) where
   -- A value of a type with a range from 0 to `high` is at most `high`.
-  value-below : (high : ℕ) → row .range ≡ between (pos 0) (pos high) → isValue (classified code raw) ≡ true → raw ≤ high
+  value-below : (high : ℕ) → row .range ≡ between (pos 0) (pos high) → isValue (classified code optional raw) ≡ true → raw ≤ high
   unfolding tooWide
   value-below high e v =
-      let fits = value-fits code raw row is v in
+      let fits = value-fits code optional raw row is v in
       let p : PatternOf row raw = record { listed = listed code row is; fits = fits } in
-      let c = of-class code raw row is (lt-leb (2 ^ width row) raw fits) in
-      let d = value-class (classified code raw) v in
-      let class : classOf row raw ≡ value = cc in
-      leb-true raw high (sym (in-up-to row raw p high e) ∙ class-is-its-tests row raw value .0 class .1)
+      let c = of-class code optional raw row is (lt-leb (2 ^ width row) raw fits) in
+      let d = value-class (classified code optional raw) v in
+      let class : classOf row optional raw ≡ value = cc in
+      leb-true raw high (sym (in-up-to row raw p high e) ∙ class-is-its-tests row optional raw value .0 class .1)
 
   -- What `event_bits` accepts is a bitfield's code and a value; the lowest position is the first one.
   accepted : (count lowest : ℕ) → eventBits code raw ≡ bits count lowest
-      → (isBitfield code ≡ true) × (isValue (classified code raw) ≡ true) × (firstOr 64 (setPositions raw) ≡ lowest)
+      → (isBitfield code ≡ true) × (isValue (classified code optional raw) ≡ true) × (firstOr 64 (setPositions raw) ≡ lowest)
   unfolding eventBits
-  accepted count lowest = go (isBitfield code) refl (isValue (classified code raw)) refl
+  accepted count lowest = go (isBitfield code) refl (isValue (classified code optional raw)) refl
     where
-      go : (b : Bool) → isBitfield code ≡ b → (v : Bool) → isValue (classified code raw) ≡ v
+      go : (b : Bool) → isBitfield code ≡ b → (v : Bool) → isValue (classified code optional raw) ≡ v
           → elim b [
             | false ↦ refused 41 0
             | true ↦ elim v [ true ↦ bits (length (setPositions raw)) (firstOr 64 (setPositions raw)) | false ↦ refused 42 0 ]
           ]
           ≡ bits count lowest
-          → (isBitfield code ≡ true) × (isValue (classified code raw) ≡ true) × (firstOr 64 (setPositions raw) ≡ lowest)
+          → (isBitfield code ≡ true) × (isValue (classified code optional raw) ≡ true) × (firstOr 64 (setPositions raw) ≡ lowest)
       go true b true v q = (b, v, cc)
       go true b false v q = impossible (cc)
       go false b v t q = impossible (cc)
@@ -95,7 +96,7 @@ module _ (code raw : ℕ) (row : TypeRow) (is : rowOf code ≡ some row) where
       by-code (a .0) (at 5 0x7FFF refl refl refl (a .1)) (at 13 0x7FFFFFFF refl refl refl (a .1)) (at 21 0x7FFFFFFFFFFFFFFF refl refl refl (a .1))
     where
       at : (k high : ℕ) → rowOf k ≡ some (rowIn (rowOf k)) → rowIn (rowOf k) .range ≡ between (pos 0) (pos high)
-          → 2 ^ (width (rowIn (rowOf k)) - 1) ≡ suc high → isValue (classified code raw) ≡ true → code ≡ k
+          → 2 ^ (width (rowIn (rowOf k)) - 1) ≡ suc high → isValue (classified code optional raw) ≡ true → code ≡ k
           → Each (λ p. suc p < width row) (setPositions raw)
       at k high found range half v e =
           let s : row ≡ rowIn (rowOf k) = cc in

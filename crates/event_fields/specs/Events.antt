@@ -4,6 +4,7 @@ use mathlib.Core.List.{List, [], _∷_}
 use Prim.Native.Nat.{ℕ, zero, suc, _/_, _%_, _^_}
 use lib.Dec.{eqb}
 use lib.ListN.{length}
+use Rattle.point_types.specs.Presence.{optional}
 use Rattle.values.specs.Classes.{isValue, classified}
 
 -- Is the bit of n at this position set?
@@ -34,12 +35,13 @@ pub data EventBits : Type 0 where
   bits : (count lowest : ℕ) → EventBits
   refused : (number place : ℕ) → EventBits
 
--- 41: the type is not 5, 13 or 21. 42: unimplemented, out of range or too wide. Both have place 0.
+-- 41: the type is not 5, 13 or 21. 42: unimplemented, out of range or too wide. Both have place 0. (Mandatory or optional is the same
+-- here: proofs/AnyPresence.antt.)
 unfoldable pub eventBits : ℕ → ℕ → EventBits
 eventBits code raw =
     elim (isBitfield code) [
       | false ↦ refused 41 0
-      | true ↦ elim (isValue (classified code raw)) [
+      | true ↦ elim (isValue (classified code optional raw)) [
         | true ↦ bits (length (setPositions raw)) (firstOr 64 (setPositions raw))
         | false ↦ refused 42 0
       ]

@@ -1,4 +1,5 @@
 // The bits of an event field.
+use values::Presence;
 ghost use mathlib.Core.Path.{_≡_};
 ghost use Rattle.event_fields.specs.Events.{isBitfield, eventBits};
 ghost use Rattle.event_fields.specs.CodeTypes.{toSpecEventBits};
@@ -9,14 +10,14 @@ pub enum EventBits {
     Refused { number: u16 },
 }
 
-// The bits that are set in a bitfield's value.
+// The bits that are set in a bitfield's value, of a mandatory or an optional point.
 pub fn event_bits(type_code: u16, raw: u64) -> EventBits
     ensures { λ r. ⌜ toSpecEventBits r ≡ eventBits «type_code» raw ⌝ }
 {
     if !is_bitfield(type_code) {
         return EventBits::Refused { number: 41 };
     }
-    if !values::is_value(type_code, raw) {
+    if !values::is_value(type_code, Presence::Optional, raw) {
         return EventBits::Refused { number: 42 };
     }
     EventBits::Of {

@@ -6,16 +6,17 @@ use mathlib.Core.Logic.{inl, inr}
 use mathlib.Core.Option.{Option, none, some}
 use Prim.Native.Nat.{ℕ}
 use borrow.Author.Tests.{ne-eqb}
+use lib.IntN.{pos}
 use Rattle.registers.specs.Registers.{tooWide}
 use Rattle.point_types.specs.Presence.{Presence, mandatory, optional}
 use Rattle.point_types.specs.Rows.{TypeRow, Unimplemented, never, rows, rowAmong, rowOf, isAccumulator, unimplementedFor, AccumulatorCode}
 use Rattle.point_types.proofs.Table.{rowIn, accumulator-codes, accumulator-at-0}
 use Rattle.values.specs.Classes as classes
-use Rattle.values.specs.Classes.{integer, isUnimplemented, inRange, Class, classOf, classified, Classified, ofClass}
+use Rattle.values.specs.Classes.{integer, isUnimplemented, inRange, Class, classOf, classified, Classified, ofClass, isValue}
 use Rattle.values.specs.Decoding as decoding
 use Rattle.values.specs.Decoding.{numberOf, patternIn, valueOf, decodable, decoded}
-use Rattle.values.specs.Unscaled.{unscaled}
-use Rattle.values.specs.PresenceDecides.{CountsZero, PresenceDecides, PresenceDecodes, classBefore, classifiedBefore, decodedBefore, unscaledBefore}
+use Rattle.values.specs.Unscaled.{Unscaled, number, noValue, notScalable, unscaled}
+use Rattle.values.specs.PresenceDecides.{CountsZero, PresenceDecides, PresenceDecodes, PresenceUnscales, classBefore, classifiedBefore, decodedBefore, unscaledBefore}
 use Rattle.values.proofs.ClassCases.{too-wide, of-class, by-row, row-of-decodable}
 
 -- The unimplemented pattern differs by the presence for an accumulator only, and that pattern is 0.
@@ -93,6 +94,36 @@ presence-decodes code registers row is =
           let class = same-class code (patternIn row registers) row (row-of-decodable code row is) n in
           let result : valueOf row mandatory (patternIn row registers) ≡ valueOf row optional (patternIn row registers) = simp (valueOf, class) in
           by-row code mandatory registers row is ∙ result ∙ sym (by-row code optional registers row is);
+    }
+
+unscaled-by-class : (code raw : ℕ) → classified code mandatory raw ≡ classified code optional raw
+    → unscaled code mandatory raw ≡ unscaled code optional raw
+unfolding unscaled
+unscaled-by-class code raw e = ap by e
+  where
+    by : Classified → Unscaled
+    by c =
+        elim (rowOf code) [
+          | none ↦ notScalable
+          | some row ↦ elim (row .scalable) [
+            | false ↦ notScalable
+            | true ↦ elim (isValue c) [ true ↦ number (integer row raw) | false ↦ noValue ]
+          ]
+        ]
+
+unscaled-zero : (code : ℕ) → AccumulatorCode code → (unscaled code mandatory 0 ≡ number (pos 0)) × (unscaled code optional 0 ≡ noValue)
+unfolding rows rowAmong tooWide integer inRange classOf classified unscaled
+unscaled-zero code (inl e) = rw e (refl, refl)
+unscaled-zero code (inr (inl e)) = rw e (refl, refl)
+unscaled-zero code (inr (inr e)) = rw e (refl, refl)
+
+-- For every code and raw value.
+pub presence-unscales : (code raw : ℕ) → PresenceUnscales code raw
+presence-unscales code raw =
+    record {
+      mandatoryZero = λ z. ap (unscaled code mandatory) (z .1) ∙ unscaled-zero code (z .0) .0;
+      optionalZero = λ z. ap (unscaled code optional) (z .1) ∙ unscaled-zero code (z .0) .1;
+      elsewhere = λ n. unscaled-by-class code raw (presence-decides code raw .elsewhere n);
     }
 
 -- An optional point: the class, the decoded value and the number that a scale factor multiplies.

@@ -5,13 +5,14 @@ use mathlib.Core.Bool.{true, false}
 use mathlib.Core.List.{List}
 use mathlib.Core.Option.{none, some}
 use Prim.Native.Nat.{ℕ}
+use lib.IntN.{pos}
 use Rattle.registers.specs.Registers as registers
 use Rattle.point_types.specs.Presence.{mandatory, optional}
 use Rattle.point_types.specs.Rows.{TypeRow, rowOf, AccumulatorCode}
 use Rattle.values.specs.Classes.{integer, isUnimplemented, inRange, Class, value, unimplemented, outOfRange, Classified, ofClass, tooWide, unknownType, classified, isValue}
 use Rattle.values.specs.Decoding as decoding
 use Rattle.values.specs.Decoding.{Decoded, numberOf, patternIn, decodable, decoded}
-use Rattle.values.specs.Unscaled.{Unscaled, number, noValue, notScalable}
+use Rattle.values.specs.Unscaled.{Unscaled, number, noValue, notScalable, unscaled}
 
 -- ---- Where the presence decides
 
@@ -31,6 +32,12 @@ pub record PresenceDecodes (code : ℕ) (registers : List ℕ) (row : TypeRow) :
   pub mandatoryZero : CountsZero code (patternIn row registers) → decoded code mandatory registers ≡ decoding.unsigned 0
   pub optionalZero : CountsZero code (patternIn row registers) → decoded code optional registers ≡ decoding.unimplemented
   pub elsewhere : (CountsZero code (patternIn row registers) → ⊥) → decoded code mandatory registers ≡ decoded code optional registers
+
+-- The same for the integer that a scale factor multiplies.
+pub record PresenceUnscales (code raw : ℕ) : Type 0 where
+  pub mandatoryZero : CountsZero code raw → unscaled code mandatory raw ≡ number (pos 0)
+  pub optionalZero : CountsZero code raw → unscaled code optional raw ≡ noValue
+  pub elsewhere : (CountsZero code raw → ⊥) → unscaled code mandatory raw ≡ unscaled code optional raw
 
 -- ---- The definitions as they were before change request 2, without a presence
 

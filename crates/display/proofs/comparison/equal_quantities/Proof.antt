@@ -1,6 +1,7 @@
 -- `equal_quantities` tests the first quantity, then the second, then compares the amounts.
 use mathlib.Core.Path.{sym, ap, _∙_}
 use borrow.Author.Needs.{needs}
+use Rattle.point_types.specs.CodeTypes.{toSpecPresence}
 use Rattle.display.specs.CodeTypes.{scaleFactor, quantityAmount}
 use Rattle.display.specs.Equality.{equalIf, equality}
 use Rattle.display.proofs.AmountCases.{was-refused, was-amount, parts-within}
@@ -16,8 +17,8 @@ is-same-requires c κs =
     let a = b .before in
     let p = a .before .args .a in
     let q = a .before .args .b in (
-      parts-within (p .«type_code») (p .raw) (scaleFactor (p .scale)) (x .first2 .given .0 .0) (sym (x .first2 .given .1) ∙ a .accept .ensures),
-      parts-within (q .«type_code») (q .raw) (scaleFactor (q .scale)) (y .second2 .given .0 .0) (sym (y .second2 .given .1) ∙ b .accept2 .ensures),
+      parts-within (p .«type_code») (toSpecPresence (p .presence)) (p .raw) (scaleFactor (p .scale)) (x .first2 .given .0 .0) (sym (x .first2 .given .1) ∙ a .accept .ensures),
+      parts-within (q .«type_code») (toSpecPresence (q .presence)) (q .raw) (scaleFactor (q .scale)) (y .second2 .given .0 .0) (sym (y .second2 .given .1) ∙ b .accept2 .ensures),
     )
 
 returns : tie.Need-returns
@@ -26,7 +27,7 @@ returns c =
     let f = c .before in
     let a = f .before .before .before in
     let p = a .before .args .a in
-    rw (was-refused (p .«type_code») (p .raw) (scaleFactor (p .scale)) (f .first .given .0 .0) (sym (f .first .given .1) ∙ a .accept .ensures))
+    rw (was-refused (p .«type_code») (toSpecPresence (p .presence)) (p .raw) (scaleFactor (p .scale)) (f .first .given .0 .0) (sym (f .first .given .1) ∙ a .accept .ensures))
 
 returns-2 : tie.Need-returns-2
 unfolding equality
@@ -39,7 +40,7 @@ returns-2 c =
     let q = a .before .args .b in
     let w = was-amount p (x .first2 .given .0 .0) (sym (x .first2 .given .1) ∙ a .accept .ensures) in
     let r =
-    was-refused (q .«type_code») (q .raw) (scaleFactor (q .scale)) (y .second .given .0 .0) (sym (y .second .given .1) ∙ b .accept2 .ensures) in
+    was-refused (q .«type_code») (toSpecPresence (q .presence)) (q .raw) (scaleFactor (q .scale)) (y .second .given .0 .0) (sym (y .second .given .1) ∙ b .accept2 .ensures) in
     rw (w .is, r)
 
 returns-3 : tie.Need-returns-3

@@ -4,6 +4,7 @@ use native.Mathlib.Omega.{arith}
 use borrow.Author.Needs.{needs}
 use borrow.Author.Tests.{lt-ltb}
 use lib.ListN.{length}
+use Rattle.point_types.specs.CodeTypes.{toSpecPresence}
 use Rattle.display.specs.Amounts.{amountOf}
 use Rattle.display.specs.Decimals.{Decimal, decimalOf, stored}
 use Rattle.display.specs.CodeTypes.{scaleFactor, bytes, lengthOf}
@@ -18,12 +19,13 @@ accepted : (c : tie.After-accepted2)
     → WasAmount
     (amountOf
     (c .before .before .before .before .args .type-code)
+    (toSpecPresence (c .before .before .before .before .args .presence))
     (c .before .before .before .before .args .raw)
     (scaleFactor (c .before .before .before .before .args .scale)))
     (c .accepted2 .given .0 .0)
 accepted c =
     let a = c .before .before .before .before .args in
-    was-amount (amountOf (a .type-code) (a .raw) (scaleFactor (a .scale))) (c .accepted2 .given .0 .0)
+    was-amount (amountOf (a .type-code) (toSpecPresence (a .presence)) (a .raw) (scaleFactor (a .scale))) (c .accepted2 .given .0 .0)
     (sym (c .accepted2 .given .1) ∙ c .before .before .accept .ensures)
 
 returns : tie.Need-returns
@@ -38,7 +40,7 @@ put-amount-requires c κs =
     let o = c .before .before .before in
     let a = o .before .before .before .before .args in (
       omega (arith, c .before .if1 .left),
-      parts-within (a .type-code) (a .raw) (scaleFactor (a .scale)) (o .accepted2 .given .0 .0)
+      parts-within (a .type-code) (toSpecPresence (a .presence)) (a .raw) (scaleFactor (a .scale)) (o .accepted2 .given .0 .0)
           (sym (o .accepted2 .given .1) ∙ o .before .before .accept .ensures),
     )
 
@@ -48,7 +50,7 @@ returns-2 c =
     let o = c .before in
     let a = o .before .before .before .before .args in
     let r =
-    was-refused (a .type-code) (a .raw) (scaleFactor (a .scale)) (o .accepted .given .0 .0)
+    was-refused (a .type-code) (toSpecPresence (a .presence)) (a .raw) (scaleFactor (a .scale)) (o .accepted .given .0 .0)
     (sym (o .accepted .given .1) ∙ o .before .before .accept .ensures) in
     (simp (decimalOf, r), (simp (decimalOf, r), tt))
 
@@ -60,7 +62,7 @@ returns-3 c =
     let a = o .before .before .before .before .args in
     let parts = o .accepted2 .given .0 .0 in
     let s = scaleFactor (a .scale) in
-    let e = long-buffer (a .type-code) (a .raw) s (length (a .out .now)) parts (accepted o) (omega (arith, i .if1 .left)) in
+    let e = long-buffer (a .type-code) (toSpecPresence (a .presence)) (a .raw) s (length (a .out .now)) parts (accepted o) (omega (arith, i .if1 .left)) in
     let put = p .put-amount .ensures .0 in (
       ap bytes (put .ends ∙ omega arith) ∙ ap lengthOf (sym e),
       (put-start put (omega arith) ∙ ap (λ (d : Decimal). stored d (a .out .now)) (sym e), omega (arith, put-length put)),

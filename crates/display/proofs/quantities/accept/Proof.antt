@@ -2,9 +2,10 @@
 use mathlib.Core.Path.{sym, ap, _∙_}
 use borrow.Author.Needs.{needs}
 use borrow.Author.Tests.{not-true, not-false}
+use Rattle.point_types.specs.CodeTypes.{toSpecPresence}
 use Rattle.values.specs.Unscaled.{unscaled}
 use Rattle.values.proofs.UnscaledCases.{NumberOf, was-not-scalable, was-no-value, was-number}
-use Rattle.display.specs.Amounts.{amountOf}
+use Rattle.display.specs.Amounts.{amountFrom, amountOf}
 use Rattle.display.specs.CodeTypes.{scaleFactor}
 use Rattle.display.specs.declared.quantities.Accepted.{Accepted}
 use Rattle.display.proofs.AmountCases.{same-parts}
@@ -14,20 +15,23 @@ use Rattle.display.proofs.quantities.accept.Tie as tie
 -- The number that `unscaled_value` returned.
 found : (c : tie.After-unscaled)
     → NumberOf
-    (unscaled (c .before .before .before .before .args .quantity .«type_code») (c .before .before .before .before .args .quantity .raw))
+    (unscaled
+    (c .before .before .before .before .args .quantity .«type_code»)
+    (toSpecPresence (c .before .before .before .before .args .quantity .presence))
+    (c .before .before .before .before .args .quantity .raw))
     (c .unscaled .given .0 .0)
     (c .unscaled .given .0 .1 .0)
 found c =
     let v = c .before .before .before in
     let q = v .before .args .quantity in
-    was-number (unscaled (q .«type_code») (q .raw)) (c .unscaled .given .0 .0) (c .unscaled .given .0 .1 .0)
+    was-number (unscaled (q .«type_code») (toSpecPresence (q .presence)) (q .raw)) (c .unscaled .given .0 .0) (c .unscaled .given .0 .1 .0)
     (sym (v .unscaled-value .ensures) ∙ c .unscaled .given .1)
 
 returns : tie.Need-returns
 unfolding amountOf
 returns c =
     let u = c .before .before in
-    simp (amountOf, found u .is, sym (u .before .before .scale-factor-in-range .ensures) ∙ not-true _ (c .if1 .taken))
+    simp (amountOf, amountFrom, found u .is, sym (u .before .before .scale-factor-in-range .ensures) ∙ not-true _ (c .if1 .taken))
 
 scaled-requires : tie.Need-scaled-requires
 scaled-requires c κs =
@@ -40,7 +44,7 @@ returns-2 c =
     let v = c .before .before .before in
     let q = v .before .args .quantity in
     let e = sym (v .unscaled-value .ensures) ∙ c .enum-told .given .1 in
-    simp (amountOf, was-not-scalable (unscaled (q .«type_code») (q .raw)) e)
+    simp (amountOf, was-not-scalable (unscaled (q .«type_code») (toSpecPresence (q .presence)) (q .raw)) e)
 
 returns-3 : tie.Need-returns-3
 unfolding amountOf
@@ -48,7 +52,7 @@ returns-3 c =
     let v = c .before .before .before in
     let q = v .before .args .quantity in
     let e = sym (v .unscaled-value .ensures) ∙ c .enum-told2 .given .1 in
-    simp (amountOf, was-no-value (unscaled (q .«type_code») (q .raw)) e)
+    simp (amountOf, was-no-value (unscaled (q .«type_code») (toSpecPresence (q .presence)) (q .raw)) e)
 
 returns-4 : tie.Need-returns-4
 unfolding amountOf
@@ -60,7 +64,7 @@ returns-4 c =
     let n = found u in
     let p = c .scaled .ensures in
     ap Accepted.Of (same-parts (n .value) scale (c .scaled .result) (p .0 .0 ∙ n .sign) (p .0 .1 ∙ n .size) (p .1 .0) (p .1 .1))
-    ∙ simp (amountOf, n .is, sym (s .scale-factor-in-range .ensures) ∙ not-false _ (i .if1 .left))
+    ∙ simp (amountOf, amountFrom, n .is, sym (s .scale-factor-in-range .ensures) ∙ not-false _ (i .if1 .left))
 
 pub accept-spec : {M : Type 1} → statement M
 accept-spec =
