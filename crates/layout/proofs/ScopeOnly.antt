@@ -12,13 +12,13 @@ use Rattle.lists.specs.Members.{among, In}
 use Rattle.lists.proofs.TestOutcomes.{clash}
 use Rattle.lists.proofs.InLaws.{in-either}
 use Rattle.registers.specs.Registers.{join, shownRaw}
-use Rattle.values.specs.Classes.{value, unimplemented, outOfRange, Classified, ofClass, tooWide, unknownType, classified}
-use Rattle.catalog_frames.specs.Frames.{Point, Head, fixedScale, scaleByPoint, sunssf}
+use Rattle.values.specs.Classes.{value, unimplemented, outOfRange, Classified, ofClass, tooWide, unknownType}
+use Rattle.catalog_frames.specs.Frames.{Point, Head, fixedScale, scaleByPoint}
 use Rattle.model_definitions.specs.Definitions.{Groups, noGroup, group, pointsSize, pointFrames}
 use Rattle.model_definitions.specs.Soundness.{numbersOf, SoundGroups, ScaleResolves}
 use Rattle.model_definitions.proofs.References.{points-resolve}
 use Rattle.model_definitions.proofs.GroupNumbers.{point-among}
-use Rattle.layout.specs.Points.{ModelPoint, Scope, Instance, statusOf, scaleOf, scaleStatus, registersAt, pointAt}
+use Rattle.layout.specs.Points.{ModelPoint, Scope, Instance, pointClass, scaleClass, statusOf, scaleOf, scaleStatus, registersAt, pointAt}
 use Rattle.layout.specs.Layout.{withPoint, within, countOf, groupsSize, pointsAt, entered, groupsBy, groupsAt}
 use Rattle.layout.proofs.CountsAgree.{count-agrees, measures-agree}
 use Rattle.layout.proofs.InstanceLaws.{instances-agree}
@@ -64,9 +64,9 @@ module _ (p : Point) (r s : ℕ) (same : p .scaleKind ≡ scaleByPoint → r ≡
   same-status (ofClass value) = go (eqb (p .scaleKind) scaleByPoint) refl
     where
       go : (b : Bool) → eqb (p .scaleKind) scaleByPoint ≡ b
-          → _≡_ {A = ℕ} (elim b [ true ↦ scaleStatus (classified sunssf r) | false ↦ 0 ])
-          (elim b [ true ↦ scaleStatus (classified sunssf s) | false ↦ 0 ])
-      go true e = ap (λ (x : ℕ). scaleStatus (classified sunssf x)) (same (eqb-true (p .scaleKind) scaleByPoint e))
+          → _≡_ {A = ℕ} (elim b [ true ↦ scaleStatus (scaleClass r) | false ↦ 0 ])
+          (elim b [ true ↦ scaleStatus (scaleClass s) | false ↦ 0 ])
+      go true e = ap (λ (x : ℕ). scaleStatus (scaleClass x)) (same (eqb-true (p .scaleKind) scaleByPoint e))
       go false e = refl
   same-status (ofClass unimplemented) = refl
   same-status (ofClass outOfRange) = refl
@@ -90,7 +90,7 @@ module _ (p : Point) (r s : ℕ) (same : p .scaleKind ≡ scaleByPoint → r ≡
 -- point.
 abbrev pub shownAs : List ℕ → ℕ → Point → ℕ → ℕ → ℕ → ModelPoint
 shownAs path offset p whole raw register =
-    let status = statusOf p (classified (p .typeCode) whole) register in
+    let status = statusOf p (pointClass p whole) register in
     record {
       offset = offset;
       definition = p;
@@ -106,7 +106,7 @@ shownAs path offset p whole raw register =
 pub shown-same : (path : List ℕ) (offset : ℕ) (p : Point) (whole raw r s : ℕ) → (p .scaleKind ≡ scaleByPoint → r ≡ s)
     → shownAs path offset p whole raw r ≡ shownAs path offset p whole raw s
 shown-same path offset p whole raw r s same =
-    let c = classified (p .typeCode) whole in
+    let c = pointClass p whole in
     let show : ℕ → ℕ → ModelPoint = λ status scale. record {
       offset = offset;
       definition = p;

@@ -5,6 +5,7 @@ use Prim.Native.Nat.{ℕ}
 use lib.Dec.{eqb}
 use lib.ListN.{take, drop, getD}
 use Rattle.registers.specs.Registers.{join, shownRaw}
+use Rattle.point_types.specs.Presence.{Presence, mandatory, optional, presenceOf}
 use Rattle.values.specs.Classes.{value, unimplemented, outOfRange, Classified, ofClass, tooWide, unknownType, classified}
 use Rattle.catalog_frames.specs.Frames.{Point, fixedScale, scaleByPoint, sunssf}
 
@@ -31,6 +32,14 @@ pub record Instance : Type 0 where
   pub scope : Scope
   pub path : List ℕ
 
+-- The class of a raw value of point p: by its type, and by whether it is mandatory (change request 2).
+abbrev pub pointClass : Point → ℕ → Classified
+pointClass p raw = classified (p .typeCode) (presenceOf (p .mandatory)) raw
+
+-- The class of the register of a scale point. (Mandatory or optional is the same here: sunssf is no accumulator.)
+abbrev pub scaleClass : ℕ → Classified
+scaleClass register = classified sunssf optional register
+
 -- The status of a value by the class of its scale point: 3 if that is unimplemented, 4 if it is out of range, else 0.
 abbrev pub scaleStatus : Classified → ℕ
 scaleStatus (ofClass value) = 0
@@ -39,16 +48,21 @@ scaleStatus (ofClass outOfRange) = 4
 scaleStatus tooWide = 4
 scaleStatus unknownType = 4
 
+-- The status of an unimplemented point: mandatory 2, optional 1.
+abbrev pub unimplementedStatus : Presence → ℕ
+unimplementedStatus mandatory = 2
+unimplementedStatus optional = 1
+
 -- The status of a point by the class of its registers and the register of its scale point, the first that applies:
 -- unimplemented and mandatory 2, unimplemented 1; out of range 5; then by the scale point, if it has one. (By an accepted
 -- catalog, 16-bit registers are never too wide or of an unknown type: `shown_points/proofs/PointClasses.antt`.)
 abbrev pub statusOf : Point → Classified → ℕ → ℕ
-statusOf p (ofClass unimplemented) register = elim (eqb (p .mandatory) 1) [ true ↦ 2 | false ↦ 1 ]
+statusOf p (ofClass unimplemented) register = unimplementedStatus (presenceOf (p .mandatory))
 statusOf p (ofClass outOfRange) register = 5
 statusOf p tooWide register = 5
 statusOf p unknownType register = 5
 statusOf p (ofClass value) register =
-    elim (eqb (p .scaleKind) scaleByPoint) [ true ↦ scaleStatus (classified sunssf register) | false ↦ 0 ]
+    elim (eqb (p .scaleKind) scaleByPoint) [ true ↦ scaleStatus (scaleClass register) | false ↦ 0 ]
 
 -- The scale shown, as 16-bit two's complement: the fixed scale or the scale point's register; 0 unless the status is 0 and the
 -- point has a scale.
@@ -69,7 +83,7 @@ registersAt body offset p = take (p .size) (drop offset body)
 -- The status of a point at an offset of the body.
 abbrev pub statusAt : List ℕ → Scope → ℕ → Point → ℕ
 statusAt body scope offset p =
-    statusOf p (classified (p .typeCode) (join (registersAt body offset p))) (scope (p .scale))
+    statusOf p (pointClass p (join (registersAt body offset p))) (scope (p .scale))
 
 -- A point of instance `i`, at an offset of the body.
 unfoldable pub pointAt : List ℕ → Instance → ℕ → Point → ModelPoint

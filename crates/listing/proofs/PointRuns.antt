@@ -8,11 +8,10 @@ use native.Mathlib.Omega.{arith}
 use lib.ListN.{length, getD}
 use Rattle.lists.specs.Each.{Each}
 use Rattle.registers.specs.Registers.{join}
-use Rattle.values.specs.Classes.{classified}
 use Rattle.catalog_frames.specs.Frames.{Point, frameIn}
 use Rattle.frame_rules.specs.FrameTests.{isSizeOf}
 use Rattle.model_definitions.specs.Definitions.{pointsSize}
-use Rattle.layout.specs.Points.{ModelPoint, registersAt, pointAt}
+use Rattle.layout.specs.Points.{ModelPoint, pointClass, registersAt, pointAt}
 use Rattle.layout.specs.Layout.{pointsAt}
 use Rattle.layout.specs.FrameWalk.{pointOf}
 use Rattle.layout.specs.PointTables.{scopeIn, presentWithin}
@@ -30,7 +29,7 @@ use Rattle.listing.proofs.WrittenRecords.{written-none, written-length,
 -- The ten numbers that the code computes from a shown point are those of its record.
 pub shown-numbers : (visit : Visit) (body table path : List ℕ) (offset address : ℕ) (p : Point) (shown : Shown)
     → address ≡ visit .address + 2 + offset
-    → toSpecShown shown ≡ shownBy p (classified (p .typeCode) (join (registersAt body offset p))) (registersAt body offset p)
+    → toSpecShown shown ≡ shownBy p (pointClass p (join (registersAt body offset p))) (registersAt body offset p)
     (scopeIn table (p .scale))
     → visit .index ∷ visit .id ∷ p .number ∷ getD path 0 0 ∷ getD path 1 0 ∷ getD path 2 0 ∷ address
     ∷ shown .status ∷ shown .raw ∷ shown .scale ∷ []

@@ -18,13 +18,15 @@ use Rattle.registers.specs.Registers.{AreRegisters, join, allZero, tooWide}
 use Rattle.registers.proofs.Joining.{sixteen-each}
 use Rattle.registers.proofs.RegisterParts.{zero-joined}
 use Rattle.registers.proofs.Splitting.{join-bound}
+use Rattle.point_types.specs.Presence.{Presence, optional, presenceOf}
 use Rattle.point_types.specs.Rows.{TypeRow, rowOf, registersOf}
 use Rattle.point_types.proofs.Table.{wide-row}
 use Rattle.values.specs.Classes.{Class, value, isUnimplemented, inRange, classOf, Classified, ofClass, classified}
 use Rattle.values.proofs.ClassCases.{in-range, of-class}
+use Rattle.values.proofs.PresenceDecides.{not-zero}
 use Rattle.catalog_frames.specs.Frames.{Point}
 use Rattle.frame_rules.specs.FrameTests.{isSizeOf}
-use Rattle.layout.specs.Points.{registersAt}
+use Rattle.layout.specs.Points.{pointClass, registersAt}
 use Rattle.shown_points.specs.CodeTypes.{registersClass, toSpecShown, shownBy}
 use Rattle.shown_points.specs.declared.Shown.{Shown}
 
@@ -46,14 +48,16 @@ row-of-size code size = go (rowOf code) refl
         (r, q, leb-true size (r .most) (s .1))
 
 -- Any pattern but 0 is a value of a type of more than four registers.
-wide-class : (code raw : ℕ) (r : TypeRow) → rowOf code ≡ some r → 4 < r .most → raw < 2 ^ (16 * r .most) → (raw ≡ 0 → ⊥)
-    → classified code raw ≡ ofClass value
+wide-class : (code : ℕ) (presence : Presence) (raw : ℕ) (r : TypeRow) → rowOf code ≡ some r → 4 < r .most → raw < 2 ^ (16 * r .most)
+    → (raw ≡ 0 → ⊥) → classified code presence raw ≡ ofClass value
 unfolding tooWide inRange
-wide-class code raw r e w fits n =
+wide-class code presence raw r e w fits n =
     let row = wide-row code r e w in
     let given : isUnimplemented (r .unimplemented) raw ≡ false = rw (row .0) (ne-eqb raw 0 n) in
     let range : inRange r raw ≡ true = simp (inRange, row .1) in
-    of-class code raw r e (lt-leb (2 ^ (16 * r .most)) raw fits) ∙ ap ofClass (in-range r raw given range)
+    not-zero code presence raw n
+    ∙ of-class code optional raw r e (lt-leb (2 ^ (16 * r .most)) raw fits)
+    ∙ ap ofClass (in-range r optional raw given range)
 
 -- A list whose elements are all below 65,536 is a list of registers.
 each-register : (rs : List ℕ) → ((k : ℕ) → getD rs k 0 < 65536) → AreRegisters rs
@@ -67,61 +71,66 @@ fits-type rs r a most =
     (omega (arith, join-bound rs a, pow-le-pow-right {n = 65536} (omega arith) {i = length rs} {j = r .most} most))
 
 -- So they have a class: they are not too wide, and the type is known.
-pub always-classed : (code : ℕ) (rs : List ℕ) → isSizeOf code (length rs) ≡ true → AreRegisters rs
-    → (c : Class) × (classified code (join rs) ≡ ofClass c)
+pub always-classed : (p : Point) (rs : List ℕ) → isSizeOf (p .typeCode) (length rs) ≡ true → AreRegisters rs
+    → (c : Class) × (pointClass p (join rs) ≡ ofClass c)
 unfolding tooWide
-always-classed code rs s a =
-    let row = row-of-size code (length rs) s in
+always-classed p rs s a =
+    let row = row-of-size (p .typeCode) (length rs) s in
     let r = row .0 in
-    (classOf r (join rs), of-class code (join rs) r (row .1) (lt-leb (2 ^ (16 * r .most)) (join rs) (fits-type rs r a (row .2))))
+    let presence = presenceOf (p .mandatory) in
+    let fits = lt-leb (2 ^ (16 * r .most)) (join rs) (fits-type rs r a (row .2)) in
+    (classOf r presence (join rs), of-class (p .typeCode) presence (join rs) r (row .1) fits)
 
 -- More than four registers that are not all 0 have the class of 1.
-wide-value : (code : ℕ) (rs : List ℕ) → isSizeOf code (length rs) ≡ true → 4 < length rs → AreRegisters rs → (join rs ≡ 0 → ⊥)
-    → classified code 1 ≡ classified code (join rs)
-wide-value code rs s w a n =
+wide-value : (p : Point) (rs : List ℕ) → isSizeOf (p .typeCode) (length rs) ≡ true → 4 < length rs → AreRegisters rs
+    → (join rs ≡ 0 → ⊥) → pointClass p 1 ≡ pointClass p (join rs)
+wide-value p rs s w a n =
+    let code = p .typeCode in
+    let presence = presenceOf (p .mandatory) in
     let row = row-of-size code (length rs) s in
     let r = row .0 in
     let most = row .2 in
     let e = row .1 in
     let bound = fits-type rs r a most in
     let one : 1 < 2 ^ (16 * r .most) = omega (arith, bound) in
-    wide-class code 1 r e (omega arith) one (λ q. omega arith) ∙ sym (wide-class code (join rs) r e (omega arith) bound n)
+    wide-class code presence 1 r e (omega arith) one (λ q. omega arith)
+    ∙ sym (wide-class code presence (join rs) r e (omega arith) bound n)
 
 -- ---- The class that `show` gives any registers
 
-module _ (code : ℕ) (rs : List ℕ) where
+module _ (p : Point) (rs : List ℕ) where
   -- Up to four registers.
-  pub few-class : length rs ≤ 4 → registersClass code rs ≡ classified code (join rs)
+  pub few-class : length rs ≤ 4 → registersClass p rs ≡ pointClass p (join rs)
   unfolding registersClass
   few-class few = simp (registersClass, le-leb (length rs) 4 few)
 
   -- More than four registers, all 0 or not.
-  pub zero-class : 4 < length rs → allZero rs ≡ true → registersClass code rs ≡ classified code 0
+  pub zero-class : 4 < length rs → allZero rs ≡ true → registersClass p rs ≡ pointClass p 0
   unfolding registersClass
   zero-class many e = simp (registersClass, lt-leb (length rs) 4 many, e)
 
-  pub other-class : 4 < length rs → allZero rs ≡ false → registersClass code rs ≡ classified code 1
+  pub other-class : 4 < length rs → allZero rs ≡ false → registersClass p rs ≡ pointClass p 1
   unfolding registersClass
   other-class many e = simp (registersClass, lt-leb (length rs) 4 many, e)
 
   -- For registers of a size that the type may have, it is the class of their raw value.
-  pub sized-class : isSizeOf code (length rs) ≡ true → AreRegisters rs → registersClass code rs ≡ classified code (join rs)
+  pub sized-class : isSizeOf (p .typeCode) (length rs) ≡ true → AreRegisters rs → registersClass p rs ≡ pointClass p (join rs)
   sized-class s a = go (decLe (length rs) 4) (allZero rs) refl
     where
-      go : Dec (length rs ≤ 4) → (b : Bool) → allZero rs ≡ b → registersClass code rs ≡ classified code (join rs)
+      go : Dec (length rs ≤ 4) → (b : Bool) → allZero rs ≡ b → registersClass p rs ≡ pointClass p (join rs)
       go (yes few) b e = few-class few
       go (no n) true e =
-          zero-class (omega arith) e ∙ ap (classified code) (sym (eqb-true (join rs) 0 (sym (zero-joined rs) ∙ e)))
+          zero-class (omega arith) e ∙ ap (pointClass p) (sym (eqb-true (join rs) 0 (sym (zero-joined rs) ∙ e)))
       go (no n) false e =
           other-class (omega arith) e
-          ∙ wide-value code rs s (omega arith) a (eqb-false (join rs) 0 (sym (zero-joined rs) ∙ e))
+          ∙ wide-value p rs s (omega arith) a (eqb-false (join rs) 0 (sym (zero-joined rs) ∙ e))
 
 -- What is shown of a point's registers in a body is by the class of their raw value.
 pub shown-at : (p : Point) (body : List ℕ) (offset : ℕ) → ((k : ℕ) → getD body k 0 < 65536)
     → isSizeOf (p .typeCode) (p .size) ≡ true → offset + p .size ≤ length body
     → (rs : List ℕ) → rs ≡ registersAt body offset p → (register : ℕ) (r : Shown)
-    → toSpecShown r ≡ shownBy p (registersClass (p .typeCode) rs) rs register
-    → toSpecShown r ≡ shownBy p (classified (p .typeCode) (join (registersAt body offset p))) (registersAt body offset p) register
+    → toSpecShown r ≡ shownBy p (registersClass p rs) rs register
+    → toSpecShown r ≡ shownBy p (pointClass p (join (registersAt body offset p))) (registersAt body offset p) register
 shown-at p body offset words sized inside rs e register r shown =
     let Is16 : ℕ → Type 0 = λ n. n < 65536 in
     let rest = drop offset body in
@@ -131,7 +140,7 @@ shown-at p body offset words sized inside rs e register r shown =
     let after = each-drop Is16 offset body (each-register body words) in
     let parts = subst AreRegisters (sym (take-append-drop (p .size) rest)) after in
     let own = each-parts Is16 (take (p .size) rest) (drop (p .size) rest) parts .0 in
-    let class = sized-class (p .typeCode) (registersAt body offset p) size own in
+    let class = sized-class p (registersAt body offset p) size own in
     shown
-    ∙ ap (λ (qs : List ℕ). shownBy p (registersClass (p .typeCode) qs) qs register) e
+    ∙ ap (λ (qs : List ℕ). shownBy p (registersClass p qs) qs register) e
     ∙ ap (λ (x : Classified). shownBy p x (registersAt body offset p) register) class

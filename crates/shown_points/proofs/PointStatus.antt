@@ -3,9 +3,9 @@ use mathlib.Core.Path.{_≡_}
 use Prim.Native.Nat.{ℕ}
 use native.Mathlib.Omega.{arith}
 use borrow.Author.Tests.{eq-eqb, ne-eqb}
-use Rattle.values.specs.Classes.{value, unimplemented, ofClass, classified}
-use Rattle.catalog_frames.specs.Frames.{Point, fixedScale, scaleByPoint, sunssf}
-use Rattle.layout.specs.Points.{scaleStatus, statusOf, scaleOf}
+use Rattle.values.specs.Classes.{value, ofClass}
+use Rattle.catalog_frames.specs.Frames.{Point, fixedScale, scaleByPoint}
+use Rattle.layout.specs.Points.{scaleClass, scaleStatus, statusOf, scaleOf}
 
 module _ (p : Point) (register : ℕ) where
   -- A value without a scale point.
@@ -13,15 +13,8 @@ module _ (p : Point) (register : ℕ) where
   value-alone n = simp (statusOf, ne-eqb (p .scaleKind) scaleByPoint n)
 
   -- A value with a scale point.
-  pub value-scaled : p .scaleKind ≡ scaleByPoint → statusOf p (ofClass value) register ≡ scaleStatus (classified sunssf register)
+  pub value-scaled : p .scaleKind ≡ scaleByPoint → statusOf p (ofClass value) register ≡ scaleStatus (scaleClass register)
   value-scaled e = simp (statusOf, eq-eqb (p .scaleKind) scaleByPoint e)
-
-  -- An unimplemented point, mandatory or not.
-  pub missing-mandatory : p .mandatory ≡ 1 → statusOf p (ofClass unimplemented) register ≡ 2
-  missing-mandatory e = simp (statusOf, eq-eqb (p .mandatory) 1 e)
-
-  pub missing-optional : (p .mandatory ≡ 1 → ⊥) → statusOf p (ofClass unimplemented) register ≡ 1
-  missing-optional n = simp (statusOf, ne-eqb (p .mandatory) 1 n)
 
   -- Where the status is not 0, the scale is 0.
   pub no-value : (status : ℕ) → (status ≡ 0 → ⊥) → scaleOf p status register ≡ 0

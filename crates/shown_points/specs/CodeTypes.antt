@@ -5,19 +5,19 @@ use Prim.Native.Nat.{ℕ}
 use lib.Dec.{leb}
 use lib.ListN.{length}
 use Rattle.registers.specs.Registers.{join, allZero, shownRaw}
-use Rattle.values.specs.Classes.{Classified, classified}
+use Rattle.values.specs.Classes.{Classified}
 use Rattle.catalog_frames.specs.Frames as Frames
-use Rattle.layout.specs.Points.{statusOf, scaleOf}
+use Rattle.layout.specs.Points.{pointClass, statusOf, scaleOf}
 use Rattle.shown_points.specs.declared.Shown.{Shown}
 
--- The class that `show` gives any registers: up to four, the class of their raw value; more than four, the class of 0 if all
+-- The class that `show` gives any registers of a point: up to four, the class of their raw value; more than four, the class of 0 if all
 -- are 0, else the class of 1. (It is the class of the raw value for any size that the type may have:
 -- `proofs/PointClasses.antt`.)
-unfoldable pub registersClass : ℕ → List ℕ → Classified
-registersClass code rs =
+unfoldable pub registersClass : Frames.Point → List ℕ → Classified
+registersClass p rs =
     elim (leb (length rs) 4) [
-      | true ↦ classified code (join rs)
-      | false ↦ elim (allZero rs) [ true ↦ classified code 0 | false ↦ classified code 1 ]
+      | true ↦ pointClass p (join rs)
+      | false ↦ elim (allZero rs) [ true ↦ pointClass p 0 | false ↦ pointClass p 1 ]
     ]
 
 -- What is shown of a point: its status, raw value and scale.

@@ -3,17 +3,19 @@ use catalog::FIXED_SCALE;
 use catalog::Point;
 use catalog::SCALE_BY_POINT;
 use catalog::SUNSSF;
+use point_types::presence_of;
 use registers::all_zero;
 use registers::raw_value;
 use values::Class;
 use values::Classified;
+use values::Presence;
 use values::classify;
 ghost use mathlib.Core.Path.{_≡_};
-ghost use Rattle.values.specs.Classes.{ofClass, classified};
+ghost use Rattle.values.specs.Classes.{ofClass};
+ghost use Rattle.point_types.specs.CodeTypes.{toSpecPresence};
 ghost use Rattle.values.specs.CodeTypes.{toSpecClass, toSpecClassified};
-ghost use Rattle.catalog_frames.specs.Frames.{sunssf};
 ghost use Rattle.catalog_frames.specs.CodeTypes.{toSpecPoint};
-ghost use Rattle.layout.specs.Points.{scaleStatus, statusOf, scaleOf};
+ghost use Rattle.layout.specs.Points.{pointClass, scaleClass, scaleStatus, unimplementedStatus, statusOf, scaleOf};
 ghost use Rattle.shown_points.specs.CodeTypes.{registersClass, toSpecShown, shownBy};
 
 // The status, raw value and scale of a point.
@@ -26,9 +28,9 @@ pub struct Shown {
 // What is shown of a point, by its registers and the register of its scale point.
 pub fn show(point: Point, registers: &[u16], scale_register: u16) -> Shown
     ensures { λ r. ⌜ toSpecShown r
-        ≡ shownBy (toSpecPoint point) (registersClass (toSpecPoint point .typeCode) (now (registers .entry))) (now (registers .entry)) «scale_register» ⌝ }
+        ≡ shownBy (toSpecPoint point) (registersClass (toSpecPoint point) (now (registers .entry))) (now (registers .entry)) «scale_register» ⌝ }
 {
-    let class = class_of(point.type_code, registers);
+    let class = class_of(point, registers);
     let status = status_of(point, class, scale_register);
     Shown {
         status,
@@ -39,16 +41,24 @@ pub fn show(point: Point, registers: &[u16], scale_register: u16) -> Shown
 
 // The class of a point's registers. A type of more than four registers is unimplemented if all are 0, and has a value
 // otherwise, so 0 or 1 replaces the raw value, which may not fit 64 bits.
-fn class_of(type_code: u16, registers: &[u16]) -> Classified
-    ensures { λ r. ⌜ toSpecClassified r ≡ registersClass «type_code» (now (registers .entry)) ⌝ }
+fn class_of(point: Point, registers: &[u16]) -> Classified
+    ensures { λ r. ⌜ toSpecClassified r ≡ registersClass (toSpecPoint point) (now (registers .entry)) ⌝ }
 {
     if registers.len() <= 4 {
-        return classify(type_code, raw_value(registers));
+        return point_class(point, raw_value(registers));
     }
     if all_zero(registers) {
-        return classify(type_code, 0);
+        return point_class(point, 0);
     }
-    classify(type_code, 1)
+    point_class(point, 1)
+}
+
+// The class of a raw value of a point: by its type, and by whether it is mandatory.
+pub fn point_class(point: Point, raw: u64) -> Classified
+    ensures { λ r. ⌜ toSpecClassified r ≡ pointClass (toSpecPoint point) raw ⌝ }
+{
+    let presence = presence_of(point.mandatory);
+    classify(point.type_code, presence, raw)
 }
 
 // The status of a point, the first that applies.
@@ -73,21 +83,26 @@ fn status_of_class(point: Point, class: Class, scale_register: u16) -> u64
             }
             scale_status(scale_register)
         }
-        Class::Unimplemented => {
-            if point.mandatory == 1 {
-                return 2;
-            }
-            1
-        }
+        Class::Unimplemented => unimplemented_status(presence_of(point.mandatory)),
         Class::OutOfRange => 5,
+    }
+}
+
+// The status of an unimplemented point.
+fn unimplemented_status(presence: Presence) -> u64
+    ensures { λ r. ⌜ r ≡ unimplementedStatus (toSpecPresence presence) ⌝ }
+{
+    match presence {
+        Presence::Mandatory => 2,
+        Presence::Optional => 1,
     }
 }
 
 // The status of a value by the register of its scale point.
 fn scale_status(register: u16) -> u64
-    ensures { λ r. ⌜ r ≡ scaleStatus (classified sunssf register) ⌝ }
+    ensures { λ r. ⌜ r ≡ scaleStatus (scaleClass register) ⌝ }
 {
-    let class = classify(SUNSSF, register as u64);
+    let class = classify(SUNSSF, Presence::Optional, register as u64);
     match class {
         Classified::Of(class) => match class {
             Class::Value => 0,

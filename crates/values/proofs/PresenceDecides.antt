@@ -81,6 +81,11 @@ presence-decides code raw =
     by-found none e n = simp (classified, e)
     by-found (some row) e n = same-classified code raw row e n
 
+-- So any raw value but 0 has the class that it has under an optional point.
+pub not-zero : (code : ℕ) (presence : Presence) (raw : ℕ) → (raw ≡ 0 → ⊥) → classified code presence raw ≡ classified code optional raw
+not-zero code mandatory raw n = presence-decides code raw .elsewhere (λ z. n (z .1))
+not-zero code optional raw n = refl
+
 -- For every code that `decode` takes, and any registers.
 pub presence-decodes : (code : ℕ) (registers : List ℕ) (row : TypeRow) → decodable code ≡ some row → PresenceDecodes code registers row
 unfolding valueOf

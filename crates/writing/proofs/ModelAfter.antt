@@ -14,13 +14,13 @@ use Rattle.lists.proofs.TestOutcomes.{both, fails}
 use Rattle.lists.proofs.EachLaws.{each-one, each-parts}
 use Rattle.lists.proofs.InLaws.{in-append-left}
 use Rattle.registers.specs.Registers.{split}
-use Rattle.values.specs.Classes.{classified, isUnimplementedClass}
+use Rattle.values.specs.Classes.{isUnimplementedClass}
 use Rattle.catalog_frames.specs.Frames.{Point, readOnly}
 use Rattle.frame_rules.specs.FrameTests.{isSizeOf}
 use Rattle.model_definitions.specs.Definitions.{Definition, pointsSize}
 use Rattle.model_definitions.specs.Soundness.{SoundPoint, SoundDefinition, ScaleResolves}
 use Rattle.model_definitions.proofs.References.{points-resolve}
-use Rattle.layout.specs.Points.{ModelPoint, Scope}
+use Rattle.layout.specs.Points.{ModelPoint, Scope, pointClass}
 use Rattle.layout.specs.Layout.{nothing, topScope, countsOf, noInstance, pointsAt, groupsAt, contentAt, topInstance}
 use Rattle.layout.specs.Reading.{points, allButLast, padLeftOut, readBy}
 use Rattle.layout.specs.Tiling.{lowerPoints, definedPoints}
@@ -46,7 +46,7 @@ module _ (d : Definition) (sound : SoundDefinition d) (body : List ℕ) (ps : Li
     (read : readBy (d .id) (d .top) body ≡ points ps)
     (w : ModelPoint) (there : In w ps) (raw : ℕ)
     (writable : w .definition .access ≡ readOnly → ⊥) (small : w .definition .size ≤ 4)
-    (implemented : isUnimplementedClass (classified (w .definition .typeCode) (w .raw)) ≡ false)
+    (implemented : isUnimplementedClass (pointClass (w .definition) (w .raw)) ≡ false)
     (holds : canHold (w .definition) raw ≡ true) where
   -- The body after the write.
   abbrev new : List ℕ

@@ -16,13 +16,13 @@ use Rattle.registers.proofs.Joining.{shown}
 use Rattle.registers.proofs.Splitting.{split-length, join-split, one-register}
 use Rattle.registers.proofs.StoredRegisters.{stored-outside, run-stored, first-stored, part-stays}
 use Rattle.point_types.specs.Rows.{mayScale}
-use Rattle.values.specs.Classes.{value, ofClass, classified, isValue, isUnimplementedClass}
+use Rattle.values.specs.Classes.{value, ofClass, isValue, isUnimplementedClass}
 use Rattle.values.proofs.ClassCases.{value-class}
 use Rattle.catalog_frames.specs.Frames.{Point, scaleByPoint, sunssf}
 use Rattle.frame_rules.specs.FrameTests.{isSizeOf}
 use Rattle.model_definitions.specs.Definitions.{Content}
 use Rattle.model_definitions.specs.Soundness.{SoundPoint, ScaleResolves}
-use Rattle.layout.specs.Points.{ModelPoint, Scope, statusOf, scaleOf, registersAt, pointAt}
+use Rattle.layout.specs.Points.{ModelPoint, Scope, pointClass, statusOf, scaleOf, registersAt, pointAt}
 use Rattle.layout.specs.Paths.{depthIn, agreeTo, pathOf}
 use Rattle.layout.proofs.ScopeOnly.{same-status, same-scale, shownAs, shown-same}
 use Rattle.layout.proofs.Places.{Place}
@@ -39,7 +39,7 @@ pub record Write (defined : List Point) (w : ModelPoint) (raw : ℕ) (body : Lis
   pub sized : isSizeOf (w .definition .typeCode) (w .definition .size) ≡ true
   pub small : w .definition .size ≤ 4
   pub inside : w .offset + w .definition .size ≤ length body
-  pub implemented : isUnimplementedClass (classified (w .definition .typeCode) (w .raw)) ≡ false
+  pub implemented : isUnimplementedClass (pointClass (w .definition) (w .raw)) ≡ false
   pub holds : canHold (w .definition) raw ≡ true
 
 module _ (top : Content) (w : ModelPoint) (raw : ℕ) (body : List ℕ) where
@@ -131,7 +131,7 @@ module _ (top : Content) (w : ModelPoint) (raw : ℕ) (body : List ℕ) where
       narrow : tooWide (w .definition .size) raw ≡ false
       narrow =
           not-true (tooWide (w .definition .size) raw)
-          (both (isValue (classified (w .definition .typeCode) raw)) (not (tooWide (w .definition .size) raw)) (x .holds) .1)
+          (both (isValue (pointClass (w .definition) raw)) (not (tooWide (w .definition .size) raw)) (x .holds) .1)
 
       -- If the scale point is the point written, its register is the raw value.
       factor-written : p .scaleKind ≡ scaleByPoint → isWritten path (p .scale) ≡ true → t (p .scale) ≡ raw
@@ -213,25 +213,25 @@ module _ (top : Content) (w : ModelPoint) (raw : ℕ) (body : List ℕ) where
             sym may ∙ ap mayScale code ∙ status.scale-factor-unscaled))
 
         -- What it held was implemented,
-        was-implemented : a ≡ w .offset → isUnimplementedClass (classified (p .typeCode) (join (registersAt body a p))) ≡ false
+        was-implemented : a ≡ w .offset → isUnimplementedClass (pointClass p (join (registersAt body a p))) ≡ false
         unfolding pointAt
         was-implemented here =
             let point = same-point here in
             let shownOld : shownRaw (registersAt body a p) ≡ w .raw = ap (λ (x : ModelPoint). x .raw) (place .same here) in
             let size = ap (λ (x : Point). x .size) point in
             let few : length (registersAt body a p) ≤ 4 = omega (arith, length-take (p .size) (drop a body), size, x .small) in
-            ap (λ (x : Point). isUnimplementedClass (classified (x .typeCode) (join (registersAt body a p)))) point
-            ∙ ap (λ (x : ℕ). isUnimplementedClass (classified (w .definition .typeCode) x))
+            ap (λ (x : Point). isUnimplementedClass (pointClass x (join (registersAt body a p)))) point
+            ∙ ap (λ (x : ℕ). isUnimplementedClass (pointClass (w .definition) x))
             (sym (shown (registersAt body a p) few) ∙ shownOld)
             ∙ x .implemented
 
         -- and what it holds is a value.
-        now-value : a ≡ w .offset → classified (p .typeCode) (join (registersAt new a p)) ≡ ofClass value
+        now-value : a ≡ w .offset → pointClass p (join (registersAt new a p)) ≡ ofClass value
         now-value here =
-            ap (λ (x : Point). classified (x .typeCode) (join (registersAt new a p))) (same-point here)
-            ∙ ap (classified (w .definition .typeCode)) (ap join (holding here) ∙ join-split (w .definition .size) raw narrow)
-            ∙ value-class (classified (w .definition .typeCode) raw)
-            (both (isValue (classified (w .definition .typeCode) raw)) (not (tooWide (w .definition .size) raw)) (x .holds) .0)
+            ap (λ (x : Point). pointClass x (join (registersAt new a p))) (same-point here)
+            ∙ ap (pointClass (w .definition)) (ap join (holding here) ∙ join-split (w .definition .size) raw narrow)
+            ∙ value-class (pointClass (w .definition) raw)
+            (both (isValue (pointClass (w .definition) raw)) (not (tooWide (w .definition .size) raw)) (x .holds) .0)
 
         -- So the point written holds the raw value.
         written : a ≡ w .offset → Holds raw old after
@@ -243,7 +243,7 @@ module _ (top : Content) (w : ModelPoint) (raw : ℕ) (body : List ℕ) where
             let now : after .status ≡ statusOf p (ofClass value) r′ = ap (λ c. statusOf p c r′) (now-value here) in
             let grade = subst (λ (x : ℕ). status.OfValue x) (sym now) (status.value-status p r′) in
             let kept : (old .status ≡ 5 → ⊥) → after .status ≡ old .status = λ f.
-            let was = status.was-value p (classified (p .typeCode) (join (registersAt body a p))) r (was-implemented here) f in
+            let was = status.was-value p (pointClass p (join (registersAt body a p))) r (was-implemented here) f in
             now ∙ same-status p r′ r (own-factor here) (ofClass value) ∙ sym (ap (λ c. statusOf p c r) was) in
             record {
               offset = refl;

@@ -17,11 +17,11 @@ use Rattle.lists.proofs.PairwiseLaws.{pairwise-length, pairwise-found, pairwise
 use Rattle.registers.specs.Registers.{split, tooWide}
 use Rattle.registers.proofs.Splitting.{split-length}
 use Rattle.registers.proofs.StoredRegisters.{stored-outside}
-use Rattle.values.specs.Classes.{value, Classified, ofClass, classified, isValue}
+use Rattle.values.specs.Classes.{value, Classified, ofClass, isValue}
 use Rattle.values.proofs.ClassCases.{value-class}
 use Rattle.catalog_frames.specs.Frames.{Point, scaleByPoint}
 use Rattle.model_definitions.specs.Definitions.{Content, definitions}
-use Rattle.layout.specs.Points.{ModelPoint, statusOf, scaleOf}
+use Rattle.layout.specs.Points.{ModelPoint, pointClass, statusOf, scaleOf}
 use Rattle.layout.specs.Reading.{topOf}
 use Rattle.layout.proofs.ScopeOnly.{same-scale}
 use Rattle.listing.specs.Listing.{Record, listed, allRecords, withCapacity, listing}
@@ -72,9 +72,9 @@ module _ (catalog map new : List ℕ) (before after : List Record) (headers : �
     held = after-written (definitions catalog) w raw s becomes
 
     -- The raw value is a value of the point's type.
-    value-written : classified (w .point .definition .typeCode) raw ≡ ofClass value
+    value-written : pointClass (w .point .definition) raw ≡ ofClass value
     value-written =
-        let c = classified (w .point .definition .typeCode) raw in
+        let c = pointClass (w .point .definition) raw in
         value-class c (both (isValue c) (not (tooWide (w .point .definition .size) raw)) (can .holds) .0)
 
     module _ (f : Record) (i : In f before) (e : IsFactor top f w) where
@@ -110,8 +110,8 @@ module _ (catalog map new : List ℕ) (before after : List Record) (headers : �
           let h = held in
           let r = f .point .raw in
           ap (λ (p : ModelPoint). p .status) gives
-          ∙ ap (λ (p : Point). statusOf p (classified (p .typeCode) (s .point .raw)) r) (h .definition)
-          ∙ ap (λ (x : ℕ). statusOf (w .point .definition) (classified (w .point .definition .typeCode) x) r) (h .holds)
+          ∙ ap (λ (p : Point). statusOf p (pointClass p (s .point .raw)) r) (h .definition)
+          ∙ ap (λ (x : ℕ). statusOf (w .point .definition) (pointClass (w .point .definition) x) r) (h .holds)
           ∙ ap (λ (c : Classified). statusOf (w .point .definition) c r) value-written
 
       -- and the scale.

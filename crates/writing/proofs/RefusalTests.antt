@@ -4,8 +4,9 @@ use mathlib.Core.Bool.{Bool, true, false}
 use mathlib.Core.Option.{Option, none, some}
 use Prim.Native.Nat.{ℕ}
 use lib.Dec.{eqb, ltb}
-use Rattle.values.specs.Classes.{classified, isUnimplementedClass}
+use Rattle.values.specs.Classes.{isUnimplementedClass}
 use Rattle.catalog_frames.specs.Frames.{readOnly}
+use Rattle.layout.specs.Points.{pointClass}
 use Rattle.listing.specs.Finding.{Target}
 use Rattle.writing.specs.Writing.{canHold, refusal}
 
@@ -31,7 +32,7 @@ module _ (t : Target) (raw : ℕ) where
 
   -- 34: are its present registers unimplemented?
   abbrev isUnimplemented : Bool
-  isUnimplemented = isUnimplementedClass (classified (t .definition .typeCode) (t .raw))
+  isUnimplemented = isUnimplementedClass (pointClass (t .definition) (t .raw))
 
   -- 35 unless this holds: can it hold the raw value?
   abbrev holds : Bool

@@ -7,10 +7,10 @@ use lib.Dec.{eqb}
 use Rattle.lists.proofs.TestOutcomes.{clash}
 use Rattle.point_types.specs.Rows.{rows, rowAmong, mayScale, registersOf}
 use Rattle.point_types.proofs.Table.{listed, scalable-width}
-use Rattle.values.specs.Classes.{value, unimplemented, outOfRange, Classified, ofClass, tooWide, unknownType, classified, isUnimplementedClass}
+use Rattle.values.specs.Classes.{value, unimplemented, outOfRange, Classified, ofClass, tooWide, unknownType, isUnimplementedClass}
 use Rattle.catalog_frames.specs.Frames.{Point, scaleByPoint, sunssf}
 use Rattle.frame_rules.specs.FrameTests.{isSizeOf}
-use Rattle.layout.specs.Points.{statusOf, scaleStatus}
+use Rattle.layout.specs.Points.{scaleClass, statusOf, scaleStatus}
 use Rattle.layout.proofs.LeftOutPad.{one-register-size}
 use Rattle.shown_points.proofs.PointClasses.{row-of-size}
 
@@ -56,8 +56,8 @@ scale-status unknownType = of-value 4 refl
 pub value-status : (p : Point) (register : ℕ) → OfValue (statusOf p (ofClass value) register)
 value-status p register = go (eqb (p .scaleKind) scaleByPoint)
   where
-    go : (b : Bool) → OfValue (elim b [ true ↦ scaleStatus (classified sunssf register) | false ↦ 0 ])
-    go true = scale-status (classified sunssf register)
+    go : (b : Bool) → OfValue (elim b [ true ↦ scaleStatus (scaleClass register) | false ↦ 0 ])
+    go true = scale-status (scaleClass register)
     go false = of-value 0 refl
 
 -- ---- Types

@@ -9,8 +9,9 @@ use borrow.Author.Tests.{eqb-false, ltb-false}
 use lib.Dec.{eqb, ltb}
 use Rattle.lists.specs.Tests.{firstWith}
 use Rattle.lists.proofs.TestOutcomes.{impossible, by-test}
-use Rattle.values.specs.Classes.{classified, isUnimplementedClass}
+use Rattle.values.specs.Classes.{isUnimplementedClass}
 use Rattle.catalog_frames.specs.Frames.{readOnly}
+use Rattle.layout.specs.Points.{pointClass}
 use Rattle.listing.specs.Listing.{Record, allRecords, withCapacity, listing}
 use Rattle.listing.specs.Listing as Listing
 use Rattle.listing.specs.Finding.{isRecord, finding, Target, targetOf}
@@ -129,7 +130,7 @@ module _ (catalog map : List ℕ) where
 pub record Writable (t : Target) (raw : ℕ) : Type 0 where
   pub access : t .definition .access ≡ readOnly → ⊥
   pub small : t .definition .size ≤ 4
-  pub implemented : isUnimplementedClass (classified (t .definition .typeCode) (t .raw)) ≡ false
+  pub implemented : isUnimplementedClass (pointClass (t .definition) (t .raw)) ≡ false
   pub holds : canHold (t .definition) raw ≡ true
 
 module _ (t : Target) (raw : ℕ) where
@@ -144,7 +145,7 @@ module _ (t : Target) (raw : ℕ) where
   outcome =
       by-test Outcome (eqb (t .definition .access) readOnly) (λ _. (omega arith, omega arith)) (λ a.
       by-test Outcome (ltb 4 (t .definition .size)) (λ _. (omega arith, omega arith)) (λ s.
-      by-test Outcome (isUnimplementedClass (classified (t .definition .typeCode) (t .raw))) (λ _. (omega arith, omega arith)) (λ g.
+      by-test Outcome (isUnimplementedClass (pointClass (t .definition) (t .raw))) (λ _. (omega arith, omega arith)) (λ g.
       by-test Outcome (canHold (t .definition) raw) (λ h. record {
         access = eqb-false (t .definition .access) readOnly a;
         small = ltb-false 4 (t .definition .size) s;

@@ -5,10 +5,10 @@ use mathlib.Core.List.{List}
 use mathlib.Core.Option.{Option, none, some}
 use Prim.Native.Nat.{ℕ}
 use lib.Dec.{eqb}
-use Rattle.values.specs.Classes.{value, ofClass, classified}
+use Rattle.values.specs.Classes.{value, ofClass}
 use Rattle.catalog_frames.specs.Frames.{scaleByPoint}
 use Rattle.model_definitions.specs.Definitions.{Content, Definition}
-use Rattle.layout.specs.Points.{ModelPoint, statusOf, scaleOf}
+use Rattle.layout.specs.Points.{ModelPoint, pointClass, statusOf, scaleOf}
 use Rattle.layout.specs.Paths.{depthIn, agreeTo, pathOf}
 use Rattle.layout.specs.Reading.{topOf}
 use Rattle.listing.specs.Listing.{Record}
@@ -47,7 +47,7 @@ pub record Holds (raw : ℕ) (p q : ModelPoint) : Type 0 where
 -- Point p with the status and the scale that `raw` gives, as the raw value of its scale factor; all else as before.
 abbrev pub rescaled : ℕ → ModelPoint → ModelPoint
 rescaled raw p =
-    let status = statusOf (p .definition) (classified (p .definition .typeCode) (p .raw)) raw in
+    let status = statusOf (p .definition) (pointClass (p .definition) (p .raw)) raw in
     record {
       offset = p .offset;
       definition = p .definition;

@@ -6,14 +6,15 @@ use Prim.Native.Nat.{ℕ}
 use lib.Dec.{eqb, ltb}
 use lib.Seq.{sets}
 use Rattle.registers.specs.Registers.{split, tooWide}
-use Rattle.values.specs.Classes.{classified, isValue, isUnimplementedClass}
+use Rattle.values.specs.Classes.{isValue, isUnimplementedClass}
 use Rattle.catalog_frames.specs.Frames.{Point, readOnly}
+use Rattle.layout.specs.Points.{pointClass}
 use Rattle.listing.specs.Finding as Finding
 use Rattle.listing.specs.Finding.{finding, Target, targetOf}
 
 -- Can point p hold `raw`? It must be a value of p's type, and not too wide for p's registers.
 abbrev pub canHold : Point → ℕ → Bool
-canHold p raw = isValue (classified (p .typeCode) raw) && not (tooWide (p .size) raw)
+canHold p raw = isValue (pointClass p raw) && not (tooWide (p .size) raw)
 
 -- The refusal of a write to the target t, if there is one: the first that applies. 32: its access is R. 33: it takes over four
 -- registers. 34: its present registers, joined, are unimplemented. 35: the new value is unimplemented, out of range or too wide.
@@ -23,7 +24,7 @@ refusal t raw =
       | true ↦ some 32
       | false ↦ elim (ltb 4 (t .definition .size)) [
         | true ↦ some 33
-        | false ↦ elim (isUnimplementedClass (classified (t .definition .typeCode) (t .raw))) [
+        | false ↦ elim (isUnimplementedClass (pointClass (t .definition) (t .raw))) [
           | true ↦ some 34
           | false ↦ elim (canHold (t .definition) raw) [ true ↦ none | false ↦ some 35 ]
         ]

@@ -5,18 +5,20 @@ use listing::Finding;
 use listing::InstancePath;
 use listing::Target;
 use listing::find;
+use point_types::presence_of;
 use registers::too_wide;
+use shown_points::point_class;
 use values::Class;
 use values::Classified;
-use values::classify;
 use values::is_value;
 ghost use mathlib.Core.Path.{_≡_};
 ghost use Prim.Native.Nat.{_+_, _/_, _%_, _^_, _≤_};
 ghost use lib.ListN.{length};
 ghost use lib.Seq.{sets};
 ghost use Rattle.registers.specs.Registers.{split};
-ghost use Rattle.values.specs.Classes.{classified, isUnimplementedClass};
+ghost use Rattle.values.specs.Classes.{isUnimplementedClass};
 ghost use Rattle.catalog_frames.specs.CodeTypes.{toSpecPoint};
+ghost use Rattle.layout.specs.Points.{pointClass};
 ghost use Rattle.listing.specs.CodeTypes.{toSpecTarget};
 ghost use Rattle.writing.specs.Writing as Writings;
 ghost use Rattle.writing.specs.CodeTypes.{toSpecWritten};
@@ -84,7 +86,7 @@ fn judge(target: Target, raw: u64) -> Verdict
 {
     let point = target.point;
     let read_only = point.access == READ_ONLY;
-    let unimplemented = is_unimplemented(point.type_code, target.raw);
+    let unimplemented = is_unimplemented(point, target.raw);
     if read_only {
         return Verdict::Refuses(32);
     }
@@ -100,11 +102,11 @@ fn judge(target: Target, raw: u64) -> Verdict
     Verdict::Takes
 }
 
-// Is `raw` the unimplemented pattern of a type?
-fn is_unimplemented(type_code: u16, raw: u64) -> bool
-    ensures { λ r. ⌜ r ≡ isUnimplementedClass (classified «type_code» raw) ⌝ }
+// Is `raw` the unimplemented pattern of `point`?
+fn is_unimplemented(point: Point, raw: u64) -> bool
+    ensures { λ r. ⌜ r ≡ isUnimplementedClass (pointClass (toSpecPoint point) raw) ⌝ }
 {
-    let class = classify(type_code, raw);
+    let class = point_class(point, raw);
     match class {
         Classified::Of(class) => match class {
             Class::Value => false,
@@ -120,7 +122,8 @@ fn is_unimplemented(type_code: u16, raw: u64) -> bool
 fn can_hold(point: Point, raw: u64) -> bool
     ensures { λ r. ⌜ r ≡ Writings.canHold (toSpecPoint point) raw ⌝ }
 {
-    is_value(point.type_code, raw) && !too_wide(point.size, raw)
+    let presence = presence_of(point.mandatory);
+    is_value(point.type_code, presence, raw) && !too_wide(point.size, raw)
 }
 
 // Writes the `size` registers of `raw` from `address`, the highest first.

@@ -3,7 +3,8 @@ use mathlib.Core.Path.{_≡_, sym, ap, _∙_}
 use borrow.Author.Needs.{needs}
 use Rattle.registers.specs.Registers.{join}
 use Rattle.registers.proofs.Joining.{shown}
-use Rattle.values.specs.Classes.{classified}
+use Rattle.catalog_frames.specs.CodeTypes.{toSpecPoint}
+use Rattle.layout.specs.Points.{pointClass}
 use Rattle.shown_points.proofs.PointClasses.{few-class, zero-class, other-class}
 use Rattle.shown_points.proofs.class_of.Statement.{statement}
 use Rattle.shown_points.proofs.class_of.Tie as tie
@@ -11,22 +12,25 @@ use Rattle.shown_points.proofs.class_of.Tie as tie
 returns : tie.Need-returns
 returns c =
     let a = c .before .before .before .before .args in
+    let p = toSpecPoint (a .point) in
     let few = c .before .before .if1 .taken in
     let raw : c .before .raw-value .result ≡ join (a .registers .now) =
     c .before .raw-value .ensures .0 ∙ shown (a .registers .now) few in
-    c .classify .ensures ∙ ap (classified (a .type-code)) raw ∙ sym (few-class (a .type-code) (a .registers .now) few)
+    c .point-class .ensures ∙ ap (pointClass p) raw ∙ sym (few-class p (a .registers .now) few)
 
 returns-2 : tie.Need-returns-2
 returns-2 c =
-    let a = c .before .before .before .before .before .args in
+    let i = c .before .before .before in
+    let a = i .before .before .args in
     let zero = sym (c .before .before .all-zero .ensures) ∙ c .before .if2 .taken in
-    c .classify2 .ensures ∙ sym (zero-class (a .type-code) (a .registers .now) (c .before .before .before .if1 .left) zero)
+    c .point-class2 .ensures ∙ sym (zero-class (toSpecPoint (a .point)) (a .registers .now) (i .if1 .left) zero)
 
 returns-3 : tie.Need-returns-3
 returns-3 c =
-    let a = c .before .before .before .before .before .args in
+    let i = c .before .before .before in
+    let a = i .before .before .args in
     let other = sym (c .before .before .all-zero .ensures) ∙ c .before .if2 .left in
-    c .classify3 .ensures ∙ sym (other-class (a .type-code) (a .registers .now) (c .before .before .before .if1 .left) other)
+    c .point-class3 .ensures ∙ sym (other-class (toSpecPoint (a .point)) (a .registers .now) (i .if1 .left) other)
 
 pub class-of-spec : {M : Type 1} → statement M
 class-of-spec =
