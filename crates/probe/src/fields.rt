@@ -1,6 +1,8 @@
 // The fields of a line. A field is one space and at least one byte after it, up to the next space or the line's end.
 // A position may be any number: past the line's end there is no field.
 use input::Digit;
+use point_types::Presence;
+use point_types::presence_of;
 ghost use mathlib.Core.Bool.{true};
 ghost use mathlib.Core.Path.{_≡_};
 ghost use Prim.Native.Nat.{_+_, _*_, _≤_, _<_, min};
@@ -23,6 +25,12 @@ pub(crate) struct Number {
 // The same, for a number of 16 bits.
 pub(crate) struct Number16 {
     pub(crate) value: u16,
+    pub(crate) next: usize,
+}
+
+// Whether a point is mandatory, and the position after the field.
+pub(crate) struct PresenceField {
+    pub(crate) presence: Presence,
     pub(crate) next: usize,
 }
 
@@ -131,6 +139,15 @@ pub(crate) fn u16_field(line: &[u8], at: usize) -> Number16 {
     let number = decimal_field(line, at, 65535);
     Number16 {
         value: number.value as u16,
+        next: number.next,
+    }
+}
+
+// The field M at `at`: 1 for a mandatory point, 0 for an optional one.
+pub(crate) fn presence_field(line: &[u8], at: usize) -> PresenceField {
+    let number = decimal_field(line, at, 1);
+    PresenceField {
+        presence: presence_of(number.value as u16),
         next: number.next,
     }
 }
