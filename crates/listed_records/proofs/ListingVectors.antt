@@ -2,7 +2,7 @@
 use mathlib.Core.Path.{_≡_, refl}
 use mathlib.Core.List.{List, [], _∷_, _++_, map}
 use Prim.Native.Nat.{ℕ, _+_, _*_}
-use lib.ListN.{length, replicate}
+use lib.ListN.{length, replicate, take, drop}
 use Rattle.registers.specs.Registers.{join, shownRaw, tooWide}
 use Rattle.point_types.specs.Rows.{rows, rowAmong, mayScale, registersOf}
 use Rattle.values.specs.Classes.{twosComplement, integer, inRange, classOf, classified}
@@ -77,6 +77,10 @@ filling number = 2 ∷ number ∷ 0 ∷ 2 ∷ 0 ∷ 0 ∷ 0 ∷ 0 ∷ []
 abbrev pub point : ℕ → ℕ → ℕ → List ℕ
 point number typeCode size = 3 ∷ number ∷ typeCode ∷ size ∷ 0 ∷ 0 ∷ 0 ∷ 0 ∷ []
 
+-- The same point, mandatory.
+abbrev mandatory : List ℕ → List ℕ
+mandatory p = take 6 p ++ 1 ∷ drop 7 p
+
 -- A uint16 and a sunssf point.
 abbrev pub uint16 : ℕ → List ℕ
 uint16 number = point number 2 1
@@ -90,6 +94,10 @@ fixed number scale = 3 ∷ number ∷ 1 ∷ 1 ∷ 1 ∷ scale ∷ 0 ∷ 0 ∷ []
 
 abbrev pub scaled : ℕ → ℕ → List ℕ
 scaled number by = 3 ∷ number ∷ 1 ∷ 1 ∷ 2 ∷ by ∷ 0 ∷ 0 ∷ []
+
+-- An acc16 whose scale factor is the value of a point.
+abbrev counter : ℕ → ℕ → List ℕ
+counter number by = 3 ∷ number ∷ 3 ∷ 1 ∷ 2 ∷ by ∷ 0 ∷ 0 ∷ []
 
 -- An end frame.
 abbrev pub end : List ℕ
@@ -196,9 +204,23 @@ cases =
     (listed (row 1 0 0 0 7 4 230 0 ∷ row 2 0 0 0 8 0 0 0 ∷ row 3 0 0 0 9 5 11 0 ∷ []) 3)
     ∷ case exampleCatalog (body (0x8000 ∷ 0 ∷ 0x8000 ∷ [])) 30
     (listed (row 1 0 0 0 7 2 32768 0 ∷ row 2 0 0 0 8 0 0 0 ∷ row 3 0 0 0 9 2 32768 0 ∷ []) 3)
-    -- Status 1 and 5; FFFF is a value of acc16, and 0 is not
+    -- Status 1 and 5; FFFF is a value of an optional acc16, and 0 is not
     ∷ case (joined (model 900 ∷ point 1 3 1 ∷ point 2 3 1 ∷ point 3 5 1 ∷ end ∷ [])) (body (0xFFFF ∷ 0 ∷ 0x8000 ∷ [])) 30
     (listed (row 1 0 0 0 7 0 65535 0 ∷ row 2 0 0 0 8 1 0 0 ∷ row 3 0 0 0 9 5 32768 0 ∷ []) 3)
+    -- Change request 2: a mandatory acc16, acc32 or acc64 at 0 is a value, and an optional one or a mandatory ipaddr is not
+    ∷ case (joined (
+    model 900 ∷ mandatory (point 1 3 1) ∷ mandatory (point 2 11 2) ∷ mandatory (point 3 18 4) ∷ point 4 3 1 ∷ mandatory (point 5 15 2)
+    ∷ end ∷ []))
+    (body (replicate 10 0)) 50
+    (listed (row 1 0 0 0 7 0 0 0 ∷ row 2 0 0 0 8 0 0 0 ∷ row 3 0 0 0 10 0 0 0 ∷ row 4 0 0 0 14 1 0 0 ∷ row 5 0 0 0 15 2 0 0 ∷ []) 3)
+    -- Its scale point gives its scale, or status 3 or 4; an optional one keeps status 1
+    ∷ case (joined (
+    model 900 ∷ mandatory (counter 1 2) ∷ sunssf 2 ∷ mandatory (counter 3 4) ∷ sunssf 4 ∷ mandatory (counter 5 6) ∷ sunssf 6
+    ∷ counter 7 6 ∷ end ∷ []))
+    (body (0 ∷ 0xFFFE ∷ 0 ∷ 0x8000 ∷ 0 ∷ 11 ∷ 0 ∷ [])) 70
+    (listed (
+    row 1 0 0 0 7 0 0 65534 ∷ row 2 0 0 0 8 0 65534 0 ∷ row 3 0 0 0 9 3 0 0 ∷ row 4 0 0 0 10 1 32768 0
+    ∷ row 5 0 0 0 11 4 0 0 ∷ row 6 0 0 0 12 5 11 0 ∷ row 7 0 0 0 13 1 0 0 ∷ []) 3)
     -- A fixed scale factor, shown only with status 0
     ∷ case (joined (model 900 ∷ fixed 1 0xFFFE ∷ fixed 2 3 ∷ end ∷ [])) (body (15 ∷ 0x8000 ∷ [])) 20
     (listed (row 1 0 0 0 7 0 15 65534 ∷ row 2 0 0 0 8 1 32768 0 ∷ []) 3)

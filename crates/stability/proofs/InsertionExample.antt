@@ -104,12 +104,12 @@ unfolding frameOf framesFrom
 unknown = unknown-to catalog refl refl
 
 -- By the claim, the listing of a lengthened map is the listing of the map, moved.
-by-insertion : (c map long : List ℕ) → lengthened map gaps ≡ long → MadeOfWholeModels map → Each (Each (UnknownModel c)) gaps
-    → length long ≤ 65536 → (answer moved : Answer) → listing c map 20 ≡ answer
-    → movedAnswer (length (scan map .models)) gaps answer ≡ moved → listing c long 20 ≡ moved
-by-insertion c map long is w u l answer moved e m =
-    ap (λ x. listing c x 20) (sym is)
-    ∙ (insertion c map gaps 20 w u (rw is l) .0
+by-insertion : (capacity : ℕ) (c map long : List ℕ) → lengthened map gaps ≡ long → MadeOfWholeModels map → Each (Each (UnknownModel c)) gaps
+    → length long ≤ 65536 → (answer moved : Answer) → listing c map capacity ≡ answer
+    → movedAnswer (length (scan map .models)) gaps answer ≡ moved → listing c long capacity ≡ moved
+by-insertion capacity c map long is w u l answer moved e m =
+    ap (λ x. listing c x capacity) (sym is)
+    ∙ (insertion c map gaps capacity w u (rw is l) .0
     ∙ (ap (λ a. movedAnswer (length (scan map .models)) gaps a) e ∙ m))
 
 short : length (lengthened plant gaps) ≤ 65536
@@ -122,7 +122,7 @@ unfolding scanFrom scan movedAnswer gapsBefore
 expected = refl
 
 pub new : listing catalog longer 20 ≡ listed (model1 ∷ record { index = 3; id = 7; address = 14; point = point 50 } ∷ []) 6
-new = by-insertion catalog plant longer is-longer whole unknown (omega arith) _ _ old expected
+new = by-insertion 20 catalog plant longer is-longer whole unknown (omega arith) _ _ old expected
 
 -- Each record is moved by exactly the inserted models with lower addresses.
 pub lower : MovedByLower (placed (scan plant .models) gaps) gaps (listing catalog plant 20)
@@ -162,31 +162,33 @@ pub refusals-moved : (movedResult 2 gaps (refusedResult 28 5 1 0) ≡ refusedRes
 unfolding gapsBefore movedResult
 refusals-moved = (refl, refl, refl)
 
--- ---- A battery: model 64920 with the points 1, a bitfield64, and 2, a float64
+-- ---- A battery: model 64920 with the points 1, a bitfield64, 2, a float64, and 3, a mandatory acc64 at 0
 
 abbrev batteryCatalog : List ℕ
 batteryCatalog =
     1 ∷ 64920 ∷ 0 ∷ 0 ∷ 0 ∷ 0 ∷ 0 ∷ 0
     ∷ 3 ∷ 1 ∷ 21 ∷ 4 ∷ 0 ∷ 0 ∷ 1 ∷ 0
     ∷ 3 ∷ 2 ∷ 22 ∷ 4 ∷ 0 ∷ 0 ∷ 1 ∷ 0
+    ∷ 3 ∷ 3 ∷ 18 ∷ 4 ∷ 0 ∷ 0 ∷ 1 ∷ 0
     ∷ 4 ∷ 0 ∷ 0 ∷ 0 ∷ 0 ∷ 0 ∷ 0 ∷ 0
     ∷ []
 
--- Events 62 and 0, and 1.5 kWh.
+-- Events 62 and 0, 1.5 kWh, and nothing discharged yet.
 abbrev battery : List ℕ
-battery = 0x5375 ∷ 0x6E53 ∷ 1 ∷ 1 ∷ 40 ∷ 64920 ∷ 8 ∷ 0x4000 ∷ 0 ∷ 0 ∷ 1 ∷ 0x3FF8 ∷ 0 ∷ 0 ∷ 0 ∷ 0xFFFF ∷ 0 ∷ []
+battery = 0x5375 ∷ 0x6E53 ∷ 1 ∷ 1 ∷ 40 ∷ 64920 ∷ 12 ∷ 0x4000 ∷ 0 ∷ 0 ∷ 1 ∷ 0x3FF8 ∷ 0 ∷ 0 ∷ 0 ∷ 0 ∷ 0 ∷ 0 ∷ 0 ∷ 0xFFFF ∷ 0 ∷ []
 
 -- The same unknown models: two after the common model, (2 + 2) + (2 + 1) = 7 registers, and one after the battery.
 abbrev batteryLonger : List ℕ
 batteryLonger =
-    0x5375 ∷ 0x6E53 ∷ 1 ∷ 1 ∷ 40 ∷ 9 ∷ 2 ∷ 0 ∷ 0 ∷ 10 ∷ 1 ∷ 5 ∷ 64920 ∷ 8 ∷ 0x4000 ∷ 0 ∷ 0 ∷ 1 ∷ 0x3FF8 ∷ 0 ∷ 0 ∷ 0 ∷ 9 ∷ 3 ∷ 1 ∷ 2 ∷ 3
+    0x5375 ∷ 0x6E53 ∷ 1 ∷ 1 ∷ 40 ∷ 9 ∷ 2 ∷ 0 ∷ 0 ∷ 10 ∷ 1 ∷ 5
+    ∷ 64920 ∷ 12 ∷ 0x4000 ∷ 0 ∷ 0 ∷ 1 ∷ 0x3FF8 ∷ 0 ∷ 0 ∷ 0 ∷ 0 ∷ 0 ∷ 0 ∷ 0 ∷ 9 ∷ 3 ∷ 1 ∷ 2 ∷ 3
     ∷ 0xFFFF ∷ 0 ∷ []
 
 pub battery-is-longer : lengthened battery gaps ≡ batteryLonger
 unfolding scanFrom scan placed lengthened Scan.modelRegisters
 battery-is-longer = refl
 
--- The two records if the battery has the index `index` and its body begins at `address`.
+-- The three records if the battery has the index `index` and its body begins at `address`.
 abbrev batteryRecords : ℕ → ℕ → List Record
 batteryRecords index address =
     let at : ℕ → ℕ → ℕ → ℕ → Record = λ number typeCode offset raw.
@@ -207,9 +209,9 @@ batteryRecords index address =
             scale = 0;
           };
     } in
-    at 1 21 0 0x4000000000000001 ∷ at 2 22 4 0x3FF8000000000000 ∷ []
+    at 1 21 0 0x4000000000000001 ∷ at 2 22 4 0x3FF8000000000000 ∷ at 3 18 8 0 ∷ []
 
-pub battery-old : listing batteryCatalog battery 20 ≡ listed (batteryRecords 1 7) 3
+pub battery-old : listing batteryCatalog battery 30 ≡ listed (batteryRecords 1 7) 3
 unfolding rows rowAmong registersOf join shownRaw tooWide integer inRange classOf classified nanBits
     frameOf framesFrom isSizeOf checkFrom checked parsed opening scanFrom scan
     pointAt within measured fillMeasured countUnimplemented fits fillOf pointsAt groupsBy entered contentAt
@@ -228,7 +230,8 @@ battery-moved : movedAnswer (length (scan battery .models)) gaps (listed (batter
 unfolding scanFrom scan movedAnswer gapsBefore
 battery-moved = refl
 
--- Both points have moved by 7 registers, and the model's index by 2; status, raw value and scale factor are the same.
-pub battery-new : listing batteryCatalog batteryLonger 20 ≡ listed (batteryRecords 3 14) 6
+-- All points have moved by 7 registers, and the model's index by 2; status, raw value and scale factor are the same.
+pub battery-new : listing batteryCatalog batteryLonger 30 ≡ listed (batteryRecords 3 14) 6
 battery-new =
-    by-insertion batteryCatalog battery batteryLonger battery-is-longer battery-whole battery-unknown (omega arith) _ _ battery-old battery-moved
+    by-insertion 30 batteryCatalog battery batteryLonger battery-is-longer battery-whole battery-unknown (omega arith) _ _ battery-old
+    battery-moved

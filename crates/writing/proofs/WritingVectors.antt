@@ -183,6 +183,34 @@ unfolding checkFrom checked framesFrom frameOf isSizeOf rows rowAmong mayScale r
     walk recordsBy allRecords withCapacity listing
 counter-scaled = refl
 
+-- ---- A counter at 0 (change request 2)
+
+-- Model 900 has an acc32 with access RW, mandatory (1) or optional (0), with the fixed scale factor -1.
+abbrev meterCatalog : ℕ → List ℕ
+meterCatalog flag = joined (model 900 ∷ (3 ∷ 1 ∷ 11 ∷ 2 ∷ 1 ∷ 0xFFFF ∷ flag ∷ 1 ∷ []) ∷ end ∷ [])
+
+abbrev meterWith : ℕ → List ℕ
+meterWith count = body (0 ∷ count ∷ [])
+
+-- A mandatory counter at 0 can be written (34), and one that has counted can be reset to 0 (35); an optional one cannot.
+pub counters-written : map (λ (flag : ℕ). writing (meterCatalog flag) (meterWith 0) 1 1 (instance 0) 5
+    ∷ writing (meterCatalog flag) (meterWith 5) 1 1 (instance 0) 0 ∷ []) (1 ∷ 0 ∷ [])
+    ≡ (written (meterWith 5) ∷ written (meterWith 0) ∷ []) ∷ (refused 34 0 ∷ refused 35 0 ∷ []) ∷ []
+unfolding checkFrom checked framesFrom frameOf isSizeOf rows rowAmong mayScale registersOf twosComplement join shownRaw tooWide
+    integer inRange classOf classified parsed opening scanFrom scan pointAt within measured fillMeasured countUnimplemented
+    fits fillOf pointsAt instances groupsBy entered contentAt endsWithPad allButLast readFull readBy topOf reading walk recordsBy
+    allRecords firstWith finding split refusal rewritten writing
+counters-written = refl
+
+-- The 0 that was written reads back as a value.
+pub reset-reads-back : map (λ (flag : ℕ). shown (listing (meterCatalog flag) (meterWith 0) 10)) (1 ∷ 0 ∷ [])
+    ≡ listed (row 1 0 0 0 7 0 0 65535 ∷ []) 3 ∷ listed (row 1 0 0 0 7 1 0 0 ∷ []) 3 ∷ []
+unfolding checkFrom checked framesFrom frameOf isSizeOf rows rowAmong mayScale registersOf twosComplement join shownRaw tooWide
+    integer inRange classOf classified parsed opening scanFrom scan pointAt within measured fillMeasured countUnimplemented
+    fits fillOf pointsAt instances groupsBy entered contentAt endsWithPad allButLast readFull readBy topOf reading recordNumbers
+    walk recordsBy allRecords withCapacity listing
+reset-reads-back = refl
+
 -- ---- Other writes
 
 -- A write: the number of the point, its path, the raw value, and the answer.
