@@ -89,8 +89,8 @@ later-bytes-stay = refl
 abbrev quantity : ℕ → ℕ → ℕ → Quantity
 quantity code raw scale = record { «type_code» = code; presence = declared.Presence.Optional; raw = raw; scale = scale }
 
-abbrev ofMandatory : ℕ → ℕ → ℕ → Quantity
-ofMandatory code raw scale = record { «type_code» = code; presence = declared.Presence.Mandatory; raw = raw; scale = scale }
+abbrev mandatoryQuantity : ℕ → ℕ → ℕ → Quantity
+mandatoryQuantity code raw scale = record { «type_code» = code; presence = declared.Presence.Mandatory; raw = raw; scale = scale }
 
 abbrev pub Comparison : Type 0
 Comparison = Quantity × (Quantity × equality.Equality)
@@ -110,10 +110,10 @@ comparisons =
     ∷ (quantity 1 1 0, (quantity 1 0x8000 11, equality.refused 44 0))
     ∷ (quantity 1 1 0, (quantity 1 1 0xFFF5, equality.refused 45 0))
     -- each quantity has its own presence
-    ∷ (ofMandatory 18 0 0, (ofMandatory 3 0 10, equality.equal))
-    ∷ (ofMandatory 18 0 0, (quantity 3 0 10, equality.refused 44 0))
-    ∷ (quantity 18 0 0, (ofMandatory 3 0 11, equality.refused 44 0))
-    ∷ (quantity 11 5 0, (ofMandatory 11 5 0, equality.equal))
+    ∷ (mandatoryQuantity 18 0 0, (mandatoryQuantity 3 0 10, equality.equal))
+    ∷ (mandatoryQuantity 18 0 0, (quantity 3 0 10, equality.refused 44 0))
+    ∷ (quantity 18 0 0, (mandatoryQuantity 3 0 11, equality.refused 44 0))
+    ∷ (quantity 11 5 0, (mandatoryQuantity 11 5 0, equality.equal))
     ∷ []
 
 pub comparison-vectors : map (λ (c : Comparison). equality.equality (quantityAmount (c .0)) (quantityAmount (c .1 .0))) comparisons

@@ -108,16 +108,18 @@ mandatoryCases =
     (decodesFor mandatory acc16 0 0 (unsigned 0) ∷ [])
     ∷ (decodesFor mandatory acc32 0 0 (unsigned 0) ∷ [])
     ∷ (decodesFor mandatory acc64 0 0 (unsigned 0) ∷ [])
-    ∷ (map counter (acc16 ∷ acc32 ∷ acc64 ∷ []))
-    ∷ (map (λ (type : ℕ). equals (count type 0xFFFE) (quantity 0 0)) (acc16 ∷ acc32 ∷ acc64 ∷ []))
+    ∷ (map zeroReads (acc16 ∷ acc32 ∷ acc64 ∷ []))
+    ∷ (map zeroEquals (acc16 ∷ acc32 ∷ acc64 ∷ []))
     ∷ []
   where
-    -- A counter at 0 with the scale factor −2.
-    count : ℕ → ℕ → Quantity
-    count type scale = record { «type_code» = type; presence = declared.Presence.Mandatory; raw = 0; scale = scale }
+    -- The text of a mandatory point at 0 with the scale factor −2.
+    zeroReads : ℕ → Line
+    zeroReads type = (shown (decimalInto type mandatory 0 0xFFFE (replicate 32 0)), shown (text (ascii "0.00")))
 
-    counter : ℕ → Line
-    counter type = (shown (decimalInto type mandatory 0 0xFFFE (replicate 32 0)), shown (text (ascii "0.00")))
+    -- The same quantity against an int16 of 0.
+    zeroEquals : ℕ → Line
+    zeroEquals type =
+        equals (record { «type_code» = type; presence = declared.Presence.Mandatory; raw = 0; scale = 0xFFFE }) (quantity 0 0)
 
 pub mandatory-cases : map (map (λ (l : Line). l .0)) mandatoryCases ≡ map (map (λ (l : Line). l .1)) mandatoryCases
 unfolding mandatoryCases rows rowAmong join tooWide twosComplement integer inRange classOf classified numberOf valueOf decodable decoded unscaled amountOf decimalOf lastDigits digitCountWithin unsignedText equality nanBits

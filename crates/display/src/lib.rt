@@ -11,8 +11,8 @@ pub use decimals::decimal;
 pub use decimals::digits_of;
 pub use event_fields::EventBits;
 pub use event_fields::event_bits;
+pub use point_types::Presence;
 pub use strings::text;
-pub use values::Presence;
 
 // The length of the text that was written. Refused: 43 to 46, at place 0.
 pub enum DecimalText {

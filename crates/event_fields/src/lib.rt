@@ -1,5 +1,5 @@
 // The bits of an event field.
-use values::Presence;
+use point_types::Presence;
 ghost use mathlib.Core.Path.{_≡_};
 ghost use Rattle.event_fields.specs.Events.{isBitfield, eventBits};
 ghost use Rattle.event_fields.specs.CodeTypes.{toSpecEventBits};
@@ -17,6 +17,7 @@ pub fn event_bits(type_code: u16, raw: u64) -> EventBits
     if !is_bitfield(type_code) {
         return EventBits::Refused { number: 41 };
     }
+    // A bitfield is no accumulator, so its presence does not matter.
     if !values::is_value(type_code, Presence::Optional, raw) {
         return EventBits::Refused { number: 42 };
     }

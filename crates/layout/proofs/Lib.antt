@@ -21,6 +21,7 @@ pub mod Places
 pub mod PointAddresses
 pub mod PointPlaces
 -- What a record shows of a point
+pub mod ValueStatus
 pub mod InstanceScaleVectors
 -- The frames of a definition as a walk visits them
 pub mod FramePosition

@@ -36,7 +36,8 @@ pub record Instance : Type 0 where
 abbrev pub pointClass : Point → ℕ → Classified
 pointClass p raw = classified (p .typeCode) (presenceOf (p .mandatory)) raw
 
--- The class of the register of a scale point. (Mandatory or optional is the same here: sunssf is no accumulator.)
+-- The class of the register of a scale point. (Mandatory or optional is the same here: `any-scale-presence` in
+-- proofs/ValueStatus.antt.)
 abbrev pub scaleClass : ℕ → Classified
 scaleClass register = classified sunssf optional register
 

@@ -6,6 +6,6 @@ use lib.Dec.{eqb}
 pub data Presence : Type 0 where
   mandatory optional : Presence
 
--- The presence that word 6 stands for: 1 is mandatory, 0 optional. (Checking refuses any other with 7.)
+-- What word 6 means: 1 is mandatory, 0 optional. (Checking refuses any other with 7.)
 abbrev pub presenceOf : ℕ → Presence
 presenceOf word = elim (eqb word 1) [ true ↦ mandatory | false ↦ optional ]

@@ -142,7 +142,7 @@ fn row_found(
     })
 }
 
-// The presence that word 6 of a point frame stands for: 1 is mandatory. (Checking refuses any other than 0 and 1.)
+// What word 6 of a point frame means: 1 is mandatory. (Checking refuses any other than 0 and 1.)
 pub fn presence_of(word: u16) -> Presence
     ensures { λ r. ⌜ toSpecPresence r ≡ presenceOf word ⌝ }
 {

@@ -12,20 +12,20 @@ const LONGEST_BUFFER: usize = 64;
 
 // Runs the command on the fields from `at` on. False, with nothing written, where they are bad.
 pub(crate) fn run(line: &[u8], at: usize) -> bool {
-    let read = quantity::quantity_at(line, at);
-    let length = fields::decimal_field(line, read.next, LONGEST_BUFFER as u64);
+    let asked = quantity::quantity_at(line, at);
+    let length = fields::decimal_field(line, asked.next, LONGEST_BUFFER as u64);
     let is_good = fields::nothing_left(line, length.next);
     if is_good {
-        write_in(read, length.value as usize);
+        write_in(asked, length.value as usize);
     }
     is_good
 }
 
 // Writes the result of `decimal` with a buffer of `length` bytes.
-fn write_in(read: QuantityFields, length: usize)
+fn write_in(asked: QuantityFields, length: usize)
     requires { ⌜ length ≤ 64 ⌝ }
 {
-    let quantity = read.quantity;
+    let quantity = asked.quantity;
     let mut buffer = [0u8; LONGEST_BUFFER];
     write_decimal(quantity, &mut buffer[0..length]);
 }

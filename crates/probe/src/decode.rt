@@ -3,7 +3,7 @@ use crate::fields;
 use crate::fields::FIELD_WORDS;
 use crate::fields::WORD_DIGITS;
 use crate::output;
-use values::Presence;
+use point_types::Presence;
 use values::Value;
 
 // Runs the command on the fields from `at` on. False, with nothing written, where they are bad.

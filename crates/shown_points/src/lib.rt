@@ -3,12 +3,12 @@ use catalog::FIXED_SCALE;
 use catalog::Point;
 use catalog::SCALE_BY_POINT;
 use catalog::SUNSSF;
+use point_types::Presence;
 use point_types::presence_of;
 use registers::all_zero;
 use registers::raw_value;
 use values::Class;
 use values::Classified;
-use values::Presence;
 use values::classify;
 ghost use mathlib.Core.Path.{_≡_};
 ghost use Rattle.values.specs.Classes.{ofClass};
@@ -102,6 +102,7 @@ fn unimplemented_status(presence: Presence) -> u64
 fn scale_status(register: u16) -> u64
     ensures { λ r. ⌜ r ≡ scaleStatus (scaleClass register) ⌝ }
 {
+    // A sunssf is no accumulator, so its presence does not matter.
     let class = classify(SUNSSF, Presence::Optional, register as u64);
     match class {
         Classified::Of(class) => match class {

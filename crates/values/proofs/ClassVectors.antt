@@ -32,8 +32,8 @@ abbrev unknown : ℕ → ℕ → Line
 unknown = either unknownType
 
 -- An accumulator at 0.
-abbrev zero : ℕ → Line
-zero code = (code, (0, (ofClass Class.unimplemented, ofClass Class.value)))
+abbrev counterAt0 : ℕ → Line
+counterAt0 code = (code, (0, (ofClass Class.unimplemented, ofClass Class.value)))
 
 unfoldable pub lines : List Line
 lines =
@@ -41,7 +41,7 @@ lines =
     -- int16, uint16, acc16, enum16
     ∷ value 1 0x7FFF ∷ notGiven 1 0x8000 ∷ value 1 0x8001 ∷ value 1 0xFFFF ∷ wide 1 0x10000
     ∷ value 2 0 ∷ value 2 0xFFFE ∷ notGiven 2 0xFFFF ∷ wide 2 0x10000
-    ∷ zero 3 ∷ value 3 1 ∷ value 3 0xFFFF ∷ wide 3 0x10000
+    ∷ counterAt0 3 ∷ value 3 1 ∷ value 3 0xFFFF ∷ wide 3 0x10000
     ∷ value 4 0 ∷ value 4 0xFFFE ∷ notGiven 4 0xFFFF ∷ wide 4 0x10000
     -- bitfield16, pad, raw16, sunssf
     ∷ value 5 0 ∷ value 5 0x7FFF ∷ out 5 0x8000 ∷ out 5 0xFFFE ∷ notGiven 5 0xFFFF ∷ wide 5 0x10000
@@ -51,7 +51,7 @@ lines =
     -- int32, uint32, acc32, enum32, bitfield32
     ∷ value 9 0x7FFFFFFF ∷ notGiven 9 0x80000000 ∷ value 9 0x80000001 ∷ value 9 0xFFFFFFFF ∷ wide 9 0x100000000
     ∷ value 10 0 ∷ value 10 0xFFFFFFFE ∷ notGiven 10 0xFFFFFFFF ∷ wide 10 0x100000000
-    ∷ zero 11 ∷ value 11 1 ∷ value 11 0xFFFFFFFF ∷ wide 11 0x100000000
+    ∷ counterAt0 11 ∷ value 11 1 ∷ value 11 0xFFFFFFFF ∷ wide 11 0x100000000
     ∷ value 12 0 ∷ value 12 0xFFFFFFFE ∷ notGiven 12 0xFFFFFFFF ∷ wide 12 0x100000000
     ∷ value 13 0 ∷ value 13 0x7FFFFFFF ∷ out 13 0x80000000 ∷ out 13 0xFFFFFFFE ∷ notGiven 13 0xFFFFFFFF ∷ wide 13 0x100000000
     -- float32: infinities and negative zero are values
@@ -61,7 +61,7 @@ lines =
     ∷ notGiven 15 0 ∷ value 15 1 ∷ value 15 0xFFFFFFFF ∷ wide 15 0x100000000
     ∷ value 16 0x7FFFFFFFFFFFFFFF ∷ notGiven 16 0x8000000000000000 ∷ value 16 0x8000000000000001 ∷ value 16 (2 ^ 64 - 1) ∷ wide 16 (2 ^ 64)
     ∷ value 17 0 ∷ value 17 (2 ^ 64 - 2) ∷ notGiven 17 (2 ^ 64 - 1) ∷ wide 17 (2 ^ 64)
-    ∷ zero 18 ∷ value 18 1 ∷ value 18 9223372036854775807 ∷ out 18 9223372036854775808 ∷ out 18 (2 ^ 64 - 1) ∷ wide 18 (2 ^ 64)
+    ∷ counterAt0 18 ∷ value 18 1 ∷ value 18 9223372036854775807 ∷ out 18 9223372036854775808 ∷ out 18 (2 ^ 64 - 1) ∷ wide 18 (2 ^ 64)
     -- string at its longest, ipv6addr
     ∷ notGiven 19 0 ∷ value 19 1 ∷ value 19 (2 ^ 1024 - 1) ∷ wide 19 (2 ^ 1024)
     ∷ notGiven 20 0 ∷ value 20 1 ∷ value 20 (2 ^ 128 - 1) ∷ wide 20 (2 ^ 128)

@@ -1,5 +1,5 @@
 -- The cases of `decoded`, each with its reason: the laws about decoded numbers go by these.
-use mathlib.Core.Path.{_≡_, refl, sym, ap, subst, _∙_}
+use mathlib.Core.Path.{_≡_, refl, sym, ap, subst}
 use mathlib.Core.Bool.{true}
 use mathlib.Core.List.{List}
 use mathlib.Core.Option.{Option, none, some}
@@ -8,7 +8,7 @@ use lib.Ieee.{Format, ofBits}
 use Rattle.point_types.specs.Presence.{Presence}
 use Rattle.point_types.specs.Rows.{TypeRow, Kind}
 use Rattle.values.specs.Classes.{Class, classOf, width, twosComplement}
-use Rattle.values.specs.Decoding.{patternIn, Decoded, signed, unsigned, float, unimplemented, outOfRange, refused, numberOf, valueOf, decodable, decoded}
+use Rattle.values.specs.Decoding.{patternIn, Decoded, signed, unsigned, float, unimplemented, outOfRange, refused, numberOf, valueBy, valueOf, decodable, decoded}
 use Rattle.values.proofs.ClassCases.{by-row}
 use Rattle.values.proofs.Ranges.{isUnsigned}
 
@@ -22,26 +22,25 @@ pub data ResultOf (row : TypeRow) (presence : Presence) (raw : ℕ) : Decoded �
 
 result-of : (row : TypeRow) (presence : Presence) (raw : ℕ) → ResultOf row presence raw (valueOf row presence raw)
 unfolding valueOf numberOf
-result-of row presence raw = by-class (classOf row presence raw) refl (row .kind) refl
+result-of row presence raw = by-class (classOf row presence raw) refl
   where
-    by-class : (c : Class) → classOf row presence raw ≡ c → (k : Kind) → row .kind ≡ k
+    by-kind : (k : Kind) → row .kind ≡ k → classOf row presence raw ≡ Class.value
         → ResultOf row presence raw
-        (elim c [
-          | Class.value ↦ elim k [
-            | Kind.signed ↦ signed (twosComplement (width row) raw)
-            | Kind.unsigned ↦ unsigned raw
-            | Kind.accumulator ↦ unsigned raw
-            | Kind.float f ↦ float f (ofBits f raw)
-          ]
-          | Class.unimplemented ↦ unimplemented
-          | Class.outOfRange ↦ outOfRange
+        (elim k [
+          | Kind.signed ↦ signed (twosComplement (width row) raw)
+          | Kind.unsigned ↦ unsigned raw
+          | Kind.accumulator ↦ unsigned raw
+          | Kind.float f ↦ float f (ofBits f raw)
         ])
-    by-class Class.value c Kind.signed k = asSigned k c
-    by-class Class.value c Kind.unsigned k = asUnsigned (ap isUnsigned k) c
-    by-class Class.value c Kind.accumulator k = asUnsigned (ap isUnsigned k) c
-    by-class Class.value c (Kind.float f) k = asFloat f k c
-    by-class Class.unimplemented c k q = asUnimplemented c
-    by-class Class.outOfRange c k q = asOutOfRange c
+    by-kind Kind.signed k v = asSigned k v
+    by-kind Kind.unsigned k v = asUnsigned (ap isUnsigned k) v
+    by-kind Kind.accumulator k v = asUnsigned (ap isUnsigned k) v
+    by-kind (Kind.float f) k v = asFloat f k v
+
+    by-class : (c : Class) → classOf row presence raw ≡ c → ResultOf row presence raw (valueBy row c raw)
+    by-class Class.value c = by-kind (row .kind) refl c
+    by-class Class.unimplemented c = asUnimplemented c
+    by-class Class.outOfRange c = asOutOfRange c
 
 -- The result for a code and registers: by the code's row, or refusal 40 at place 0.
 pub data Cases (code : ℕ) (presence : Presence) (registers : List ℕ) : Decoded → Type 0 where

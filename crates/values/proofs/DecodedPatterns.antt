@@ -13,7 +13,7 @@ use Rattle.registers.proofs.Splitting.{split-length, split-registers, join-spli
 use Rattle.point_types.specs.Presence.{Presence}
 use Rattle.point_types.specs.Rows.{TypeRow}
 use Rattle.values.specs.Classes.{Class, width, classOf}
-use Rattle.values.specs.Decoding.{Decoded, patternIn, numberOf, valueOf, decodable, decoded}
+use Rattle.values.specs.Decoding.{Decoded, patternIn, numberOf, valueBy, valueOf, decodable, decoded}
 use Rattle.values.specs.Printed.{DecodedFrom}
 use Rattle.values.proofs.ClassCases.{decodable-most, by-row}
 
@@ -33,7 +33,7 @@ module _ (code : ℕ) (presence : Presence) (row : TypeRow) (is : decodable code
   result v =
       let read : patternIn row (first ++ rest) ≡ raw =
       ap join (take-at first rest (row .most) (split-length (row .most) raw)) ∙ join-split (row .most) raw (lt-leb _ _ fits) in
-      let number : valueOf row presence raw ≡ numberOf row raw = simp (valueOf, v) in
+      let number : valueOf row presence raw ≡ numberOf row raw = simp (valueOf, valueBy, v) in
       sym (by-row code presence (first ++ rest) row is ∙ ap (valueOf row presence) read ∙ number)
 
   -- If `Is` holds of the number of a pattern that is a value, some registers are decoded to a result with `Is`.

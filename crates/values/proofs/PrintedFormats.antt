@@ -7,7 +7,7 @@ use mathlib.Core.Option.{some}
 use Prim.Native.Nat.{ℕ, _^_, _<_}
 use borrow.Author.Tests.{ne-eqb}
 use lib.Dec.{T}
-use lib.Ieee.{Format, Float, isNan, nanBits, ofBits, toBits}
+use lib.Ieee.{Format, binary32, binary64, Float, isNan, nanBits, ofBits, toBits}
 use lib.Ieee.Bits.{is-false, ofBits-fits, ofBits-toBits, toBits-lt, nanBits-is}
 use Rattle.lists.specs.Each.{Each}
 use Rattle.lists.proofs.EachLaws.{each-implied}
@@ -32,25 +32,27 @@ markIsNaN f never = true
 markIsNaN f (pattern p) = nanBits f p
 
 -- The row of a printed format: `decode` takes it, it is a float of the format, and its unimplemented pattern is a NaN's.
-record FormatRow (presence : Presence) (r : PrintedFormat) : Type 0 where
+record FormatRow (r : PrintedFormat) : Type 0 where
   pub row : TypeRow
   pub is : decodable (r .code) ≡ some row
   pub kind : row .kind ≡ float (r .format)
-  pub mark : T (markIsNaN (r .format) (unimplementedFor row presence))
+  pub mark : (presence : Presence) → T (markIsNaN (r .format) (unimplementedFor row presence))
 
--- Computed for both types, by the presence.
-format-rows : (presence : Presence) → Each (FormatRow presence) printedFormats
+-- A fact about both presences holds of any.
+by-presence : (P : Presence → Type 0) → P mandatory → P optional → (presence : Presence) → P presence
+by-presence P m o mandatory = m
+by-presence P m o optional = o
+
+-- Computed for both types.
+format-rows : Each FormatRow printedFormats
 unfolding printedFormats rows rowAmong decodable nanBits
-format-rows mandatory = (
-  record { row = rowIn (decodable 14); is = refl; kind = refl; mark = tt },
-  (record { row = rowIn (decodable 22); is = refl; kind = refl; mark = tt }, tt),
-)
-format-rows optional = (
-  record { row = rowIn (decodable 14); is = refl; kind = refl; mark = tt },
-  (record { row = rowIn (decodable 22); is = refl; kind = refl; mark = tt }, tt),
-)
+format-rows =
+    let Marked : Format → TypeRow → Presence → Type 0 = λ f row presence. T (markIsNaN f (unimplementedFor row presence)) in (
+      record { row = rowIn (decodable 14); is = refl; kind = refl; mark = by-presence (Marked binary32 (rowIn (decodable 14))) tt tt },
+      (record { row = rowIn (decodable 22); is = refl; kind = refl; mark = by-presence (Marked binary64 (rowIn (decodable 22))) tt tt }, tt),
+    )
 
-module _ (presence : Presence) (r : PrintedFormat) (found : FormatRow presence r) where
+module _ (presence : Presence) (r : PrintedFormat) (found : FormatRow r) where
   abbrev f : Format
   f = r .format
 
@@ -96,7 +98,7 @@ module _ (presence : Presence) (r : PrintedFormat) (found : FormatRow presence r
     is-value : classOf (found .row) presence raw ≡ Class.value
     is-value =
         let range : inRange (found .row) raw ≡ true = float-in-range (found .row) raw f is-listed (found .kind) ∙ ap not no-nan-bits in
-        class-is-its-tests (found .row) presence raw Class.value .1 (implemented (unimplementedFor (found .row) presence) (found .mark), range)
+        class-is-its-tests (found .row) presence raw Class.value .1 (implemented (unimplementedFor (found .row) presence) (found .mark presence), range)
 
     decoded-there : DecodedFrom (r .code) presence (λ d. d ≡ decoding.float f x)
     unfolding numberOf
@@ -109,15 +111,15 @@ module _ (presence : Presence) (r : PrintedFormat) (found : FormatRow presence r
 -- A float is decoded from some registers if and only if it is a number of the format: for both types.
 pub decoded-as-format : (presence : Presence) → Each (DecodedAsFormat presence) printedFormats
 decoded-as-format presence =
-    each-implied (FormatRow presence) (DecodedAsFormat presence)
+    each-implied FormatRow (DecodedAsFormat presence)
     (λ r found x. (
       λ d. decoded-number presence r found x (decoded (r .code) presence (d .registers)) (within presence r found (d .registers)) (d .is),
       decoded-there presence r found x,
     ))
-    printedFormats (format-rows presence)
+    printedFormats format-rows
 
 -- Any registers are decoded as a number of the format, or as unimplemented or out of range.
 pub within-formats : (presence : Presence) (registers : List ℕ) → Each (λ r. WithinFormat r (decoded (r .code) presence registers)) printedFormats
 within-formats presence registers =
-    each-implied (FormatRow presence) (λ r. WithinFormat r (decoded (r .code) presence registers)) (λ r found. within presence r found registers)
-    printedFormats (format-rows presence)
+    each-implied FormatRow (λ r. WithinFormat r (decoded (r .code) presence registers)) (λ r found. within presence r found registers)
+    printedFormats format-rows

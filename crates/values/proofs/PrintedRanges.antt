@@ -12,7 +12,7 @@ use lib.Dec.{T, ltb, le→leb, leb→le, ltb→lt}
 use lib.IntN.{ℤ, pos, negsuc, negℤ, sucℤ}
 use lib.Pow.{pow-pos}
 use lib.ListN.{length}
-use lib.Ieee.{Format, ofBits}
+use lib.Ieee.{Format}
 use lib.Ieee.Fits.{and-l, and-r}
 use lib.Signed.{leZ}
 use Rattle.lists.specs.Each.{Each}
@@ -59,12 +59,16 @@ highest whole accumulator bits = pos (2 ^ bits - 1)
 highest whole (float f) bits = pos 0
 highest notNaN k bits = pos 0
 
+-- The kinds that are read as unsigned.
+by-unsigned : {A : Type 0} (k : Kind) → isUnsigned k ≡ true → (k ≡ unsigned → A) → (k ≡ accumulator → A) → A
+by-unsigned signed u f g = clash (sym u)
+by-unsigned unsigned u f g = f refl
+by-unsigned accumulator u f g = g refl
+by-unsigned (float x) u f g = clash (sym u)
+
 -- An unsigned type, also an accumulator, has the patterns of its width from 0 on.
 unsigned-ends : (k : Kind) (bits : ℕ) → isUnsigned k ≡ true → (lowest whole k bits ≡ pos 0) × (highest whole k bits ≡ pos (2 ^ bits - 1))
-unsigned-ends signed bits u = clash (sym u)
-unsigned-ends unsigned bits u = (refl, refl)
-unsigned-ends accumulator bits u = (refl, refl)
-unsigned-ends (float f) bits u = clash (sym u)
+unsigned-ends k bits u = by-unsigned k u (λ e. rw e (refl, refl)) (λ e. rw e (refl, refl))
 
 -- A type is signed or unsigned if it is no float.
 by-sign : {A : Type 0} (k : Kind) → ((f : Format) → k ≡ float f → ⊥) → (k ≡ signed → A) → (isUnsigned k ≡ true → A) → A
@@ -354,26 +358,11 @@ module _ (presence : Presence) (r : PrintedRange) (row : TypeRow) (is : decodabl
         value-printed presence r row is-listed tests (rawOf row z) (there .0) .1
         (subst (Between (r .least) (r .greatest)) (sym (there .1)) (in-order r z .1 b))
 
-    -- The decoded number is the pattern's integer, for both kinds.
+    -- The decoded number is the pattern's integer, for every kind.
     integer-of : decodedInteger (numberOf row (rawOf row z)) ≡ some (integer row (rawOf row z))
     unfolding numberOf integer
     integer-of =
-        by-kind presence r row is-listed tests (λ k. rw k) (unsigned-number (row .kind))
-      where
-        unsigned-number : (k : Kind) → isUnsigned k ≡ true
-            → decodedInteger
-            (elim k [
-              | signed ↦ decoding.signed (twosComplement (width row) (rawOf row z))
-              | unsigned ↦ decoding.unsigned (rawOf row z)
-              | accumulator ↦ decoding.unsigned (rawOf row z)
-              | float f ↦ decoding.float f (ofBits f (rawOf row z))
-            ])
-            ≡ some
-            (elim k [ signed ↦ twosComplement (width row) (rawOf row z) | unsigned ↦ pos (rawOf row z) | accumulator ↦ pos (rawOf row z) | float f ↦ pos (rawOf row z) ])
-        unsigned-number signed u = clash (sym u)
-        unsigned-number unsigned u = refl
-        unsigned-number accumulator u = refl
-        unsigned-number (float f) u = clash (sym u)
+        by-kind presence r row is-listed tests (λ k. rw k) (λ u. by-unsigned (row .kind) u (λ k. rw k) (λ k. rw k))
 
     decoded-there : DecodedFrom (r .code) presence (λ d. decodedInteger d ≡ some z)
     decoded-there =

@@ -1,4 +1,5 @@
--- Under the code of a row of the table, for a mandatory or an optional point, a pattern of the type's width has exactly one class; a wider number has none.
+-- Under the code of a row of the table, for a mandatory or an optional point, a pattern of the type's width has exactly one class; a
+-- wider number has none.
 -- This says how the tests of a row decide. What each row's tests are is the table itself, computed at its limits in ClassVectors.
 use mathlib.Core.Path.{_≡_, refl, sym}
 use mathlib.Core.Logic.{_↔_}

@@ -35,14 +35,15 @@ numberOf row raw =
       | Kind.float f ↦ float f (ofBits f raw)
     ]
 
+-- The result for a raw value of this class.
+abbrev pub valueBy : TypeRow → Class → ℕ → Decoded
+valueBy row Class.value raw = numberOf row raw
+valueBy row Class.unimplemented raw = unimplemented
+valueBy row Class.outOfRange raw = outOfRange
+
 -- The result for a raw value under a type, for a point of this presence.
 unfoldable pub valueOf : TypeRow → Presence → ℕ → Decoded
-valueOf row presence raw =
-    elim (classOf row presence raw) [
-      | Class.value ↦ numberOf row raw
-      | Class.unimplemented ↦ unimplemented
-      | Class.outOfRange ↦ outOfRange
-    ]
+valueOf row presence raw = valueBy row (classOf row presence raw) raw
 
 -- The pattern in the first `row .most` registers.
 abbrev pub patternIn : TypeRow → List ℕ → ℕ

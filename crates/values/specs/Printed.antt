@@ -32,7 +32,7 @@ fromTo c m n = record { code = c; least = pos m; greatest = pos n }
 abbrev around : ℕ → ℕ → PrintedRange
 around c n = record { code = c; least = negℤ (pos n); greatest = pos n }
 
--- The least count of an accumulator: printed as 0, which is the value printed as not accumulated.
+-- The least count of an accumulator. 000 prints 0, and 0 as not accumulated: a value of a mandatory one only (change request 2).
 abbrev pub leastCount : Presence → ℕ
 leastCount mandatory = 0
 leastCount optional = 1

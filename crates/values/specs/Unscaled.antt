@@ -5,23 +5,27 @@ use Prim.Native.Nat.{ℕ, _^_, _<_}
 use lib.IntN.{ℤ, pos, negsuc}
 use Rattle.point_types.specs.Presence.{Presence}
 use Rattle.point_types.specs.Rows.{rowOf}
-use Rattle.values.specs.Classes.{integer, isValue, classified}
+use Rattle.values.specs.Classes.{integer, Classified, isValue, classified}
 
 -- An integer; or `noValue`: unimplemented, out of range or too wide; or `notScalable`: a type without s, or an unknown one.
 pub data Unscaled : Type 0 where
   number : ℤ → Unscaled
   noValue notScalable : Unscaled
 
--- The type is tested before the value.
-unfoldable pub unscaled : ℕ → Presence → ℕ → Unscaled
-unscaled code presence raw =
+-- By the class of the raw value. The type is tested before it.
+abbrev pub unscaledBy : ℕ → Classified → ℕ → Unscaled
+unscaledBy code class raw =
     elim (rowOf code) [
       | none ↦ notScalable
       | some row ↦ elim (row .scalable) [
         | false ↦ notScalable
-        | true ↦ elim (isValue (classified code presence raw)) [ true ↦ number (integer row raw) | false ↦ noValue ]
+        | true ↦ elim (isValue class) [ true ↦ number (integer row raw) | false ↦ noValue ]
       ]
     ]
+
+-- The number of a raw value under a type code, for a point of this presence.
+unfoldable pub unscaled : ℕ → Presence → ℕ → Unscaled
+unscaled code presence raw = unscaledBy code (classified code presence raw) raw
 
 -- The integer fits 64 bits, signed or unsigned: from -2 ^ 63 to 2 ^ 64 - 1.
 abbrev pub Within64 : ℤ → Type 0

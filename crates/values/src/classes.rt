@@ -48,7 +48,7 @@ pub fn is_value(type_code: u16, presence: Presence, raw: u64) -> bool
 }
 
 // Is it classified as a value?
-pub(crate) fn is_value_in(classified: Classified) -> bool
+pub fn is_value_in(classified: Classified) -> bool
     ensures { λ r. ⌜ r ≡ isValue (toSpecClassified classified) ⌝ }
 {
     match classified {

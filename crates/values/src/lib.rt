@@ -7,6 +7,7 @@ mod unscaled;
 use classes::class_in;
 pub use classes::classify;
 pub use classes::is_value;
+pub use classes::is_value_in;
 pub use classes::scale_factor_in_range;
 use point_types::Format;
 use point_types::Found;

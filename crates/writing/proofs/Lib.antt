@@ -7,7 +7,7 @@ pub mod ScaleFactors
 pub mod SameValue
 pub mod WritingVectors
 -- Laws of the definitions, and what the proofs of the functions cite
-pub mod ValueStatus
+pub mod ScaledTypes
 pub mod PairedWalk
 pub mod ModelFactors
 pub mod OnePointAfter

@@ -38,7 +38,7 @@ use Rattle.layout.proofs.Places.{Place}
 use Rattle.layout.proofs.PointPlaces.{in-but-last, point-defined, point-inside, point-reads, point-places}
 use Rattle.layout.proofs.Depths.{levels, agree-itself, agree-beyond}
 use Rattle.writing.specs.AfterWriting.{isScaleFactorOf, rescaled}
-use Rattle.writing.proofs.ValueStatus as status
+use Rattle.writing.proofs.ScaledTypes as types
 use Rattle.writing.proofs.PairedWalk.{inScope, Enters, Deeper, Related, points-paired, content-paired}
 
 -- ---- General laws
@@ -182,7 +182,7 @@ module _ (d : Definition) (sound : SoundDefinition d) (body : List ℕ) (all : L
       let same : m .definition ≡ f = one-point d sound (m .definition) f own known number in
       let type : m .definition .typeCode ≡ sunssf = ap (λ (x : Point). x .typeCode) same ∙ code in
       let sized = each-one (λ p. isSizeOf (p .typeCode) (p .size) ≡ true) (definedPoints d) (all-sized d sound) (m .definition) own in
-      let one : m .definition .size ≡ 1 = status.scale-factor-size (m .definition .size) (rw type at sized) in
+      let one : m .definition .size ≡ 1 = types.scale-factor-size (m .definition .size) (rw type at sized) in
       let inside = point-inside d sound body all read m there in (
         type,
         point-reads d sound body all read m there ∙ ap (λ (n : ℕ). shownRaw (take n (drop (m .offset) body))) one
@@ -202,7 +202,7 @@ module _ (d : Definition) (sound : SoundDefinition d) (body : List ℕ) (all : L
       let r = factor-register (f .0) (known (f .0) (f .1)) (f .3) m (x .there) (number ∙ sym (f .2)) in
       let may = soundPoint .scalable (λ z. let c : _≡_ {A = ℕ} 0 2 = sym z ∙ k in absurd (omega arith)) in
       let rs = registersAt body a p in
-      let four = status.scaled-small (p .typeCode) (p .size) (soundPoint .sized) may in
+      let four = types.scaled-small (p .typeCode) (p .size) (soundPoint .sized) may in
       let few : length rs ≤ 4 = omega (arith, length-take (p .size) (drop a body)) in
       record {
         point = m;
@@ -273,7 +273,7 @@ module _ (d : Definition) (sound : SoundDefinition d) (body : List ℕ) (all : L
       let x = has-factor p j (factor-names (d .top) f p e .kind) in
       let same : x .point ≡ f = same-factor f (x .point) p i (x .there) e (x .is) in
       let code : f .definition .typeCode ≡ sunssf = subst (λ (m : ModelPoint). m .definition .typeCode ≡ sunssf) same (x .code) in
-      let no : mayScale (f .definition .typeCode) ≡ false = ap mayScale code ∙ status.scale-factor-unscaled in
+      let no : mayScale (f .definition .typeCode) ≡ false = ap mayScale code ∙ types.scale-factor-unscaled in
       record {
         code = code;
         other = λ here.

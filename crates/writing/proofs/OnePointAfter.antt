@@ -25,11 +25,12 @@ use Rattle.model_definitions.specs.Soundness.{SoundPoint, ScaleResolves}
 use Rattle.layout.specs.Points.{ModelPoint, Scope, pointClass, statusOf, scaleOf, registersAt, pointAt}
 use Rattle.layout.specs.Paths.{depthIn, agreeTo, pathOf}
 use Rattle.layout.proofs.ScopeOnly.{same-status, same-scale, shownAs, shown-same}
+use Rattle.layout.proofs.ValueStatus as status
 use Rattle.layout.proofs.Places.{Place}
 use Rattle.layout.proofs.Depths.{levels, agree-itself}
 use Rattle.writing.specs.Writing.{canHold}
 use Rattle.writing.specs.AfterWriting.{Holds, rescaled, PointAfter}
-use Rattle.writing.proofs.ValueStatus as status
+use Rattle.writing.proofs.ScaledTypes as types
 use Rattle.writing.proofs.PairedWalk.{inScope}
 
 -- What is known of a write of `raw` to the point w of a body, by a definition with the points `defined`.
@@ -141,7 +142,7 @@ module _ (top : Content) (w : ModelPoint) (raw : ℕ) (body : List ℕ) where
           (both (eqb (p .scale) (w .definition .number)) (agreeTo depth (pathOf w) (levels path)) e .0) in
           let same : f .0 ≡ w .definition = x .onePoint (f .0) (w .definition) (f .1) (x .known) (f .2 ∙ number) in
           let code : w .definition .typeCode ≡ sunssf = sym (ap (λ (x : Point). x .typeCode) same) ∙ f .3 in
-          let one : w .definition .size ≡ 1 = status.scale-factor-size (w .definition .size) (rw code at (x .sized)) in
+          let one : w .definition .size ≡ 1 = types.scale-factor-size (w .definition .size) (rw code at (x .sized)) in
           scale-register k
           ∙ becomes-written path (p .scale) (s (p .scale)) e
           ∙ first-stored body (w .offset) values fitting 0 (omega (arith, count, one))
@@ -177,7 +178,7 @@ module _ (top : Content) (w : ModelPoint) (raw : ℕ) (body : List ℕ) where
         scaled other k e =
             let rs = registersAt body a p in
             let may = sound .scalable (λ z. let c : _≡_ {A = ℕ} 0 2 = sym z ∙ k in absurd (omega arith)) in
-            let four = status.scaled-small (p .typeCode) (p .size) (sound .sized) may in
+            let four = types.scaled-small (p .typeCode) (p .size) (sound .sized) may in
             let few : length rs ≤ 4 = omega (arith, length-take (p .size) (drop a body)) in
             unchanged other raw (λ _. factor-written k e)
             ∙ ap (λ (x : ℕ). shownAs path a p x (shownRaw rs) raw) (sym (shown rs few))
@@ -210,7 +211,7 @@ module _ (top : Content) (w : ModelPoint) (raw : ℕ) (body : List ℕ) where
             let same : f .0 ≡ p = x .onePoint (f .0) (w .definition) (f .1) (x .known) (f .2 ∙ number) ∙ sym (same-point here) in
             let code : p .typeCode ≡ sunssf = sym (ap (λ (x : Point). x .typeCode) same) ∙ f .3 in
             let may = sound .scalable (λ z. let c : _≡_ {A = ℕ} 0 2 = sym z ∙ k in absurd (omega arith)) in
-            sym may ∙ ap mayScale code ∙ status.scale-factor-unscaled))
+            sym may ∙ ap mayScale code ∙ types.scale-factor-unscaled))
 
         -- What it held was implemented,
         was-implemented : a ≡ w .offset → isUnimplementedClass (pointClass p (join (registersAt body a p))) ≡ false
@@ -255,8 +256,8 @@ module _ (top : Content) (w : ModelPoint) (raw : ℕ) (body : List ℕ) where
               register = r′;
               status = now;
               scale = refl;
-              implemented = grade .implemented;
-              mandatory = grade .mandatory;
+              implemented = grade .notOptional;
+              mandatory = grade .notMandatory;
               inRange = grade .inRange;
               sameStatus = kept;
               sameScale = λ f.

@@ -5,12 +5,11 @@ use listing::Finding;
 use listing::InstancePath;
 use listing::Target;
 use listing::find;
-use point_types::presence_of;
 use registers::too_wide;
 use shown_points::point_class;
 use values::Class;
 use values::Classified;
-use values::is_value;
+use values::is_value_in;
 ghost use mathlib.Core.Path.{_≡_};
 ghost use Prim.Native.Nat.{_+_, _/_, _%_, _^_, _≤_};
 ghost use lib.ListN.{length};
@@ -122,8 +121,7 @@ fn is_unimplemented(point: Point, raw: u64) -> bool
 fn can_hold(point: Point, raw: u64) -> bool
     ensures { λ r. ⌜ r ≡ Writings.canHold (toSpecPoint point) raw ⌝ }
 {
-    let presence = presence_of(point.mandatory);
-    is_value(point.type_code, presence, raw) && !too_wide(point.size, raw)
+    is_value_in(point_class(point, raw)) && !too_wide(point.size, raw)
 }
 
 // Writes the `size` registers of `raw` from `address`, the highest first.

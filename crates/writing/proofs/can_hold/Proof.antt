@@ -2,7 +2,7 @@
 use mathlib.Core.Path.{_≡_, sym, ap, _∙_}
 use mathlib.Core.Bool.{not, _&&_}
 use Rattle.registers.specs.Registers.{tooWide}
-use Rattle.values.specs.Classes.{classified, isValue}
+use Rattle.values.specs.Classes.{isValue}
 use Rattle.catalog_frames.specs.CodeTypes.{toSpecPoint}
 use Rattle.layout.specs.Points.{pointClass}
 use borrow.Author.Needs.{needs}
@@ -10,11 +10,9 @@ use Rattle.writing.proofs.can_hold.Statement.{statement}
 use Rattle.writing.proofs.can_hold.Tie as tie
 
 -- The first test's result.
-tested : (c : tie.After-is-value)
-    → isValue (pointClass (toSpecPoint (c .before .before .args .point)) (c .before .before .args .raw)) ≡ c .is-value .result
-tested c =
-    let t = c .before .before .args in
-    sym (c .is-value .ensures ∙ ap (λ o. isValue (classified (t .point .«type_code») o (t .raw))) (c .before .presence-of .ensures))
+tested : (c : tie.After-is-value-in)
+    → isValue (pointClass (toSpecPoint (c .before .before .args .point)) (c .before .before .args .raw)) ≡ c .is-value-in .result
+tested c = sym (c .is-value-in .ensures ∙ ap isValue (c .before .point-class .ensures))
 
 returns : tie.Need-returns
 returns c =

@@ -1,6 +1,5 @@
 -- `class_in` tests the unimplemented pattern first, then the range, as the definition does.
 use mathlib.Core.Path.{_≡_, sym, ap, _∙_}
-use Prim.Native.Nat.{ℕ}
 use borrow.Author.Needs.{needs}
 use Rattle.point_types.specs.Rows.{unimplementedFor}
 use Rattle.point_types.specs.CodeTypes.{toSpecPresence, toSpecRow}

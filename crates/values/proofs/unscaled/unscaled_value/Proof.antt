@@ -9,7 +9,7 @@ use Rattle.point_types.specs.Rows.{rowOf}
 use Rattle.point_types.specs.CodeTypes.{toSpecPresence, toSpecFound, toSpecRow}
 use Rattle.point_types.proofs.Table.{own-code, listed}
 use Rattle.values.specs.Classes.{isValue, classified}
-use Rattle.values.specs.Unscaled.{unscaled}
+use Rattle.values.specs.Unscaled.{unscaledBy, unscaled}
 use Rattle.values.proofs.UnscaledCases.{value-fits}
 use Rattle.values.proofs.unscaled.unscaled_value.Statement.{statement}
 use Rattle.values.proofs.unscaled.unscaled_value.Tie as tie
@@ -44,7 +44,7 @@ returns-2 c =
     let i = c .before .before .before in
     let f = i .before .before .before in
     let scalable = not-false (f .found .given .0 .0 .scalable) (i .if1 .left) in
-    simp (unscaled, at f, scalable, value (c .before) ∙ not-true _ (c .if2 .taken))
+    simp (unscaled, unscaledBy, at f, scalable, value (c .before) ∙ not-true _ (c .if2 .taken))
 
 integer-by-sign-requires : tie.Need-integer-by-sign-requires
 integer-by-sign-requires c κs =
@@ -63,7 +63,7 @@ returns-3 c =
     let i = v .before .before .before in
     let f = i .before .before .before in
     let scalable = not-false (f .found .given .0 .0 .scalable) (i .if1 .left) in
-    c .integer-by-sign .ensures ∙ simp (unscaled, at f, scalable, value (v .before) ∙ not-false _ (v .if2 .left))
+    c .integer-by-sign .ensures ∙ simp (unscaled, unscaledBy, at f, scalable, value (v .before) ∙ not-false _ (v .if2 .left))
 
 pub unscaled-value-spec : {M : Type 1} → statement M
 unfolding unscaled
@@ -72,6 +72,6 @@ unscaled-value-spec =
     (tie.spec (λ c κs. search needs) (λ c. search needs)
     (λ c.
     let f = c .before .before .before in
-    simp (unscaled, at f, not-true (f .found .given .0 .0 .scalable) (c .if1 .taken)))
+    simp (unscaled, unscaledBy, at f, not-true (f .found .given .0 .0 .scalable) (c .if1 .taken)))
     classified-in-requires (λ c κs. search needs) returns-2 integer-by-sign-requires (λ c. search needs) returns-3
-    (λ c. simp (unscaled, sym (c .before .before .row-of .ensures) ∙ ap toSpecFound (c .enum-told .given .1))))
+    (λ c. simp (unscaled, unscaledBy, sym (c .before .before .row-of .ensures) ∙ ap toSpecFound (c .enum-told .given .1))))
