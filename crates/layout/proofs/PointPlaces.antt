@@ -1,7 +1,7 @@
 -- The places of the points of one model: each is a point of the definition, is in the body, and overlaps no other.
-use mathlib.Core.Path.{_≡_, refl, sym, ap, _∙_}
+use mathlib.Core.Path.{_≡_, refl, sym, ap, subst, _∙_}
 use mathlib.Core.Bool.{true, false}
-use mathlib.Core.List.{List, [], _∷_}
+use mathlib.Core.List.{List, [], _∷_, append-nil}
 use mathlib.Core.Logic.{_⊎_, ⊎-elim}
 use Prim.Native.Nat.{ℕ, _+_, _≤_}
 use native.Mathlib.Omega.{arith}
@@ -20,11 +20,11 @@ use Rattle.model_definitions.proofs.GroupNumbers.{point-among, Apart, apart}
 use Rattle.layout.specs.Points.{ModelPoint}
 use Rattle.layout.specs.Layout.{countsOf, noInstance, topInstance, pointsAt, groupsAt, contentAt}
 use Rattle.layout.specs.Reading.{points, allButLast, readBy}
-use Rattle.layout.specs.Tiling.{lowerPoints, definedPoints, PointsTile}
+use Rattle.layout.specs.Tiling.{lowerPoints, definedPoints, PointsTile, Rises}
 use Rattle.layout.specs.Paths.{depthIn, agreeTo, pathOf}
 use Rattle.layout.proofs.LeftOutPad.{each-but-last}
 use Rattle.layout.proofs.BodyTiling.{read-tiled}
-use Rattle.layout.proofs.TiledApart.{inside}
+use Rattle.layout.proofs.TiledApart.{inside, tiles-rise}
 use Rattle.layout.proofs.TiledApart as tiled
 use Rattle.layout.proofs.Readings.{pointsLeft, by-reading}
 use Rattle.layout.proofs.Places.{Place}
@@ -179,7 +179,13 @@ module _ (d : Definition) (sound : SoundDefinition d) (body : List ℕ) (ps : Li
   points-tile : PointsTile 0 (length body) ps
   points-tile = read-tiled d sound (d .id) body ps read .tiles
 
-  -- so each is in the body,
+  -- so they are in the order of their offsets,
+  points-rise : Rises (λ p. p .offset) (λ p. p .definition .size) 0 ps
+  points-rise =
+      subst (Rises (λ p. p .offset) (λ p. p .definition .size) 0) (append-nil ps)
+      (tiles-rise (λ p. p .offset) (λ p. p .definition .size) 0 (length body) ps [] points-tile tt)
+
+  -- each is in the body,
   pub point-inside : (p : ModelPoint) → In p ps → p .offset + p .definition .size ≤ length body
   point-inside p i = inside (λ p. p .offset) (λ p. p .definition .size) 0 (length body) ps points-tile p i .2
 
@@ -194,7 +200,7 @@ module _ (d : Definition) (sound : SoundDefinition d) (body : List ℕ) (ps : Li
       -- The place of each compared with w, by the order of the two and by their addresses.
       place : (p : ModelPoint) → In p ps → Place (d .top) w p
       place p j =
-          let order = tiled.apart (λ p. p .offset) (λ p. p .definition .size) 0 (length body) ps points-tile w p i j in
+          let order = tiled.apart (λ p. p .offset) (λ p. p .definition .size) 0 ps points-rise w p i j in
           let m = sized p j in
           let k = sized w i in
           record {

@@ -30,7 +30,7 @@ reading-tiled (d ∷ ds) s m ps e =
     (λ t e. (d, read-tiled d (s .0) (m .id) (m .body) ps e)) (λ t. reading-tiled ds (s .1) m ps) (sym (reading-first d ds m) ∙ e)
 
 -- So do the points that an accepted catalog reads.
-accepted-tiled : (catalog : List ℕ) (n : ℕ) → checked catalog ≡ accepted n → (m : Model) (ps : List ModelPoint)
+pub accepted-tiled : (catalog : List ℕ) (n : ℕ) → checked catalog ≡ accepted n → (m : Model) (ps : List ModelPoint)
     → reading (definitions catalog) m ≡ points ps → (d : Definition) × BodyTiled d (length (m .body)) ps
 accepted-tiled catalog n e = reading-tiled (definitions catalog) (accepted-is-sound catalog n e .0 .each)
 

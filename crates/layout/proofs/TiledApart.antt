@@ -1,4 +1,5 @@
--- What tiling means for one element and for two: no element is outside the bounds, and no two overlap.
+-- What tiling means for one element and for two: no element is outside the bounds, no two overlap, and they are in order. The last two
+-- hold of all elements that rise.
 use mathlib.Core.Path.{_≡_, refl}
 use mathlib.Core.List.{List, [], _∷_, _++_}
 use mathlib.Core.Logic.{_⊎_, inl, inr}
@@ -7,7 +8,7 @@ use native.Mathlib.Omega.{arith}
 use lib.ListN.{length}
 use Rattle.lists.specs.Members.{In, first, later}
 use Rattle.lists.proofs.InLaws.{in-append-right}
-use Rattle.layout.specs.Tiling.{Tiles}
+use Rattle.layout.specs.Tiling.{Tiles, Rises}
 
 module _ {A : Type 0} (at size : A → ℕ) where
   -- A tiling ends at or after its start,
@@ -28,20 +29,35 @@ module _ {A : Type 0} (at size : A → ℕ) where
   inside from to (y ∷ xs) t x (later i) =
       let r = inside (from + size y) to xs (t .2) x i in (omega (arith, r .0), r .1, r .2)
 
+  -- Elements that rise from `high` rise from any lower address.
+  pub rises-lower : (low high : ℕ) (xs : List A) → low ≤ high → Rises at size high xs → Rises at size low xs
+  rises-lower low high [] h r = tt
+  rises-lower low high (x ∷ xs) h r = (omega (arith, h, r .0), r .1, r .2)
+
+  -- A tiling rises, with elements after it that rise from its end.
+  pub tiles-rise : (from to : ℕ) (xs ys : List A) → Tiles at size from to xs → Rises at size to ys → Rises at size from (xs ++ ys)
+  tiles-rise from to [] ys t r = rises-lower from to ys (omega (arith, t)) r
+  tiles-rise from to (x ∷ xs) ys t r =
+      let rest = tiles-rise (from + size x) to xs ys (t .2) r in
+      let ends : at x + size x ≤ from + size x = omega (arith, t .0) in
+      (omega (arith, t .0), t .1, rises-lower (at x + size x) (from + size x) (xs ++ ys) ends rest)
+
+  -- Elements that rise begin at `from` or later, and each takes at least one register.
+  pub above : (from : ℕ) (xs : List A) → Rises at size from xs → (x : A) → In x xs → (from ≤ at x) × (1 ≤ size x)
+  above from (y ∷ xs) r x first = (r .0, r .1)
+  above from (y ∷ xs) r x (later i) = let a = above (at y + size y) xs (r .2) x i in (omega (arith, r .0, a .0), a .1)
+
   -- Of two elements, one ends before the other begins, or they are the same.
-  pub apart : (from to : ℕ) (xs : List A) → Tiles at size from to xs → (x y : A) → In x xs → In y xs
+  pub apart : (from : ℕ) (xs : List A) → Rises at size from xs → (x y : A) → In x xs → In y xs
       → (y ≡ x) ⊎ ((at y + size y ≤ at x) ⊎ (at x + size x ≤ at y))
-  apart from to (z ∷ xs) t x y first first = inl refl
-  apart from to (z ∷ xs) t x y first (later j) =
-      let r = inside (from + size z) to xs (t .2) y j in inr (inr (omega (arith, t .0, r .0)))
-  apart from to (z ∷ xs) t x y (later i) first =
-      let r = inside (from + size z) to xs (t .2) x i in inr (inl (omega (arith, t .0, r .0)))
-  apart from to (z ∷ xs) t x y (later i) (later j) = apart (from + size z) to xs (t .2) x y i j
+  apart from (z ∷ xs) r x y first first = inl refl
+  apart from (z ∷ xs) r x y first (later j) = inr (inr (above (at z + size z) xs (r .2) y j .0))
+  apart from (z ∷ xs) r x y (later i) first = inr (inl (above (at z + size z) xs (r .2) x i .0))
+  apart from (z ∷ xs) r x y (later i) (later j) = apart (at z + size z) xs (r .2) x y i j
 
   -- The elements are in the order of their addresses.
-  pub in-order : (from to : ℕ) (preceding : List A) (x : A) (between : List A) (y : A) (rest : List A)
-      → Tiles at size from to (preceding ++ x ∷ (between ++ y ∷ rest)) → at x + size x ≤ at y
-  in-order from to [] x between y rest t =
-      let r = inside (from + size x) to (between ++ y ∷ rest) (t .2) y (in-append-right y between (y ∷ rest) first) in
-      omega (arith, t .0, r .0)
-  in-order from to (z ∷ preceding) x between y rest t = in-order (from + size z) to preceding x between y rest (t .2)
+  pub in-order : (from : ℕ) (preceding : List A) (x : A) (between : List A) (y : A) (rest : List A)
+      → Rises at size from (preceding ++ x ∷ (between ++ y ∷ rest)) → at x + size x ≤ at y
+  in-order from [] x between y rest r =
+      above (at x + size x) (between ++ y ∷ rest) (r .2) y (in-append-right y between (y ∷ rest) first) .0
+  in-order from (z ∷ preceding) x between y rest r = in-order (at z + size z) preceding x between y rest (r .2)

@@ -27,6 +27,12 @@ abbrev pub Tiles : {A : Type 0} → (A → ℕ) → (A → ℕ) → ℕ → ℕ 
 Tiles at size from to [] = from ≡ to
 Tiles at size from to (x ∷ xs) = (at x ≡ from) × (1 ≤ size x) × Tiles at size (from + size x) to xs
 
+-- Elements in the order of their addresses, without overlap but perhaps with gaps, from the address `from` on: each takes at least one
+-- register, and the next begins where it ends or later.
+abbrev pub Rises : {A : Type 0} → (A → ℕ) → (A → ℕ) → ℕ → List A → Type 0
+Rises at size from [] = Unit {0}
+Rises at size from (x ∷ xs) = (from ≤ at x) × (1 ≤ size x) × Rises at size (at x + size x) xs
+
 -- The points tile the registers of a body between two offsets, each with the size in its own definition.
 abbrev pub PointsTile : ℕ → ℕ → List ModelPoint → Type 0
 PointsTile = Tiles (λ p. p .offset) (λ p. p .definition .size)

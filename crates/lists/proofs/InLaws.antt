@@ -1,6 +1,7 @@
 -- Laws of `In`: the members of a list.
-use mathlib.Core.Path.{_≡_}
+use mathlib.Core.Path.{_≡_, refl}
 use mathlib.Core.List.{List, [], _∷_, _++_, map}
+use mathlib.Core.Logic.{_⊎_, inl, inr}
 use Rattle.lists.specs.Each.{Each}
 use Rattle.lists.proofs.TestOutcomes.{impossible}
 use Rattle.lists.specs.Members.{In, first, later}
@@ -21,6 +22,11 @@ module _ {A : Type 0} (x : A) where
   in-either [] ys i f g = g i
   in-either (y ∷ xs) ys first f g = f first
   in-either (y ∷ xs) ys (later i) f g = in-either xs ys i (λ j. f (later j)) g
+
+  -- A member of a list is its first element or a later one.
+  pub in-cases : (y : A) (xs : List A) → In x (y ∷ xs) → (x ≡ y) ⊎ (In x xs)
+  in-cases y xs first = inl refl
+  in-cases y xs (later i) = inr i
 
 -- Each element of a list is a member of it.
 pub all-in : {A : Type 0} (xs : List A) → Each (λ y. In y xs) xs

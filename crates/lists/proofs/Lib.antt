@@ -10,3 +10,7 @@ pub mod FirstFound
 pub mod SelectedLaws
 pub mod PairwiseLaws
 pub mod StoreLaws
+-- Runs
+pub mod Positions
+pub mod Rearranging
+pub mod RunVectors

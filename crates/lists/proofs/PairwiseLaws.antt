@@ -1,8 +1,8 @@
 -- Laws of lists whose elements are related pair by pair.
-use mathlib.Core.Path.{_≡_, refl, sym, _∙_}
+use mathlib.Core.Path.{_≡_, refl, sym, ap, _∙_}
 use mathlib.Core.Bool.{Bool, true, false}
 use mathlib.Core.List.{List, [], _∷_, _++_, map}
-use mathlib.Core.Option.{some}
+use mathlib.Core.Option.{Option, some}
 use native.Mathlib.Omega.{arith}
 use lib.ListN.{length}
 use Rattle.lists.specs.Each.{Pairwise, Each}
@@ -56,6 +56,24 @@ module _ {A : Type 0} (R : A → A → Type 0) where
       go false t rest =
           let r = rest (sym (found-later test x xs t) ∙ e) in
           (r .0, found-later test y ys (same x y (p .0) ∙ t) ∙ r .1, r .2)
+
+  -- If moreover a part f of the related elements for which it holds is the same, that part of what it finds is the same, also if it
+  -- finds nothing.
+  pub pairwise-first : (test : A → Bool) → ((x y : A) → R x y → test y ≡ test x) → {B : Type 0} (f : Option A → B) (xs ys : List A)
+      → ((x y : A) → In x xs → R x y → test x ≡ true → f (some y) ≡ f (some x)) → Pairwise R xs ys
+      → f (firstWith test ys) ≡ f (firstWith test xs)
+  pairwise-first test same f [] [] part p = refl
+  pairwise-first test same f [] (y ∷ ys) part p = absurd p
+  pairwise-first test same f (x ∷ xs) [] part p = absurd p
+  pairwise-first test same f (x ∷ xs) (y ∷ ys) part p =
+      go (test x) refl (pairwise-first test same f xs ys (λ u v i. part u v (later i)) (p .1))
+    where
+      go : (b : Bool) → test x ≡ b → f (firstWith test ys) ≡ f (firstWith test xs)
+          → f (firstWith test (y ∷ ys)) ≡ f (firstWith test (x ∷ xs))
+      go true t rest =
+          ap f (found-here test y ys (same x y (p .0) ∙ t)) ∙ part x y first (p .0) t ∙ ap f (sym (found-here test x xs t))
+      go false t rest =
+          ap f (found-later test y ys (same x y (p .0) ∙ t)) ∙ rest ∙ ap f (sym (found-later test x xs t))
 
   -- A relation that follows from R for each pair holds pair by pair.
   pub pairwise-implied : (Q : A → A → Type 0) (xs ys : List A) → ((x y : A) → In x xs → R x y → Q x y) → Pairwise R xs ys
