@@ -2,6 +2,7 @@
 pub mod Headers
 pub mod PastTheEnd
 pub mod Tiling
+pub mod RecordOrder
 pub mod OneRecord
 pub mod RawValues
 pub mod ListingVectors

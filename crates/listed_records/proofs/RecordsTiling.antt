@@ -56,7 +56,7 @@ body-filled catalog n e d o m same ps r =
 -- ---- The records of a listing
 
 -- If points tile a body, their records tile the model's registers.
-records-tile : (i at : ℕ) (m : Model) (from to : ℕ) (ps : List ModelPoint) → PointsTile from to ps
+pub records-tile : (i at : ℕ) (m : Model) (from to : ℕ) (ps : List ModelPoint) → PointsTile from to ps
     → Tiles (λ r. r .address) (λ r. r .point .definition .size) (at + 2 + from) (at + 2 + to) (map (recordOf i at (m .id)) ps)
 records-tile i at m from to [] t = ap (λ n. at + 2 + n) t
 records-tile i at m from to (p ∷ ps) t =

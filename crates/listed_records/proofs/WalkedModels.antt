@@ -39,7 +39,7 @@ pub record OfModel (read : Model → Reading) (index at : ℕ) (ms : List Model)
 module _ (read : Model → Reading) (ending : Ending) where
   module _ (index at : ℕ) (m : Model) (ms : List Model) (rs : List Record) (headers : ℕ) where
     -- The records of a walk are those of the first model, then those of the models after it.
-    records-first : walk read ending index at (m ∷ ms) ≡ listed rs headers
+    pub records-first : walk read ending index at (m ∷ ms) ≡ listed rs headers
         → (ss : List Record)
         × (walk read ending (index + 1) (at + sizeOf m) ms ≡ listed ss headers)
         × (rs ≡ map (recordOf index at (m .id)) (pointsOf (read m)) ++ ss)
