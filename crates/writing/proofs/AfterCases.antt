@@ -11,19 +11,11 @@ use Rattle.layout.specs.Points.{ModelPoint}
 use Rattle.layout.specs.Reading.{topOf}
 use Rattle.listing.specs.Listing.{Record}
 use Rattle.listing.specs.Finding.{isRecord}
-use Rattle.writing.specs.AfterWriting.{isScaleFactorOf, Holds, rescaled, PointAfter, PointBecomes, RecordAfter}
-
--- Points p and q have the same place and the same definition.
-pub record SamePlace (p q : ModelPoint) : Type 0 where
-  pub offset : q .offset ≡ p .offset
-  pub definition : q .definition ≡ p .definition
-  pub level2 : q .level2 ≡ p .level2
-  pub level3 : q .level3 ≡ p .level3
-  pub level4 : q .level4 ≡ p .level4
+use Rattle.writing.specs.AfterWriting.{isScaleFactorOf, SamePlace, Holds, rescaled, PointAfter, PointBecomes, OfSamePoint, RecordAfter}
 
 -- A point has its own place,
-stays : (p : ModelPoint) → SamePlace p p
-stays p = record { offset = refl; definition = refl; level2 = refl; level3 = refl; level4 = refl }
+pub own-place : (p : ModelPoint) → SamePlace p p
+own-place p = record { offset = refl; definition = refl; level2 = refl; level3 = refl; level4 = refl }
 
 -- and a point that equals q has the place of q.
 same-as : (p q r : ModelPoint) → SamePlace p q → r ≡ q → SamePlace p r
@@ -33,7 +25,7 @@ same-as p q r s e = rw e s
 abbrev oneOf : Bool → Type 0 → Type 0 → Type 0
 oneOf b A B = elim b [ true ↦ A | false ↦ B ]
 
--- A point of the model that is written to keeps its place,
+-- A point of the model that is written to keeps its place.
 pub point-place : (top : Content) (w : ModelPoint) (raw : ℕ) (p q : ModelPoint) → PointAfter top w raw p q → SamePlace p q
 point-place top w raw p q = go (eqb (p .offset) (w .offset)) (isScaleFactorOf top w p)
   where
@@ -41,43 +33,30 @@ point-place top w raw p q = go (eqb (p .offset) (w .offset)) (isScaleFactorOf to
     stays-rescaled = record { offset = refl; definition = refl; level2 = refl; level3 = refl; level4 = refl }
 
     go : (a b : Bool) → oneOf a (Holds raw p q) (oneOf b (q ≡ rescaled raw p) (q ≡ p)) → SamePlace p q
-    go true b h =
-        record {
-          offset = h .offset;
-          definition = h .definition;
-          level2 = h .level2;
-          level3 = h .level3;
-          level4 = h .level4;
-        }
+    go true b h = h .place
     go false true h = same-as p (rescaled raw p) q stays-rescaled h
-    go false false h = same-as p p q (stays p) h
-
--- and so does a point of any model.
-becomes-place : (b : Bool) (o : Option Content) (w : ModelPoint) (raw : ℕ) (p q : ModelPoint) → PointBecomes b o w raw p q
-    → SamePlace p q
-becomes-place false o w raw p q h = same-as p p q (stays p) h
-becomes-place true none w raw p q h = absurd h
-becomes-place true (some top) w raw p q h = point-place top w raw p q h
+    go false false h = same-as p p q (own-place p) h
 
 -- So index, number and path select the same record before and after the write.
 pub same-record : (ds : List Definition) (w : Record) (raw index number : ℕ) (path : List ℕ) (r s : Record)
     → RecordAfter ds w raw r s → isRecord index number path s ≡ isRecord index number path r
 same-record ds w raw index number path r s a =
-    let p = becomes-place (eqb (r .index) (w .index)) (topOf (w .id) ds) (w .point) raw (r .point) (s .point) (a .point) in
-    rw (a .index, p .definition, p .level2, p .level3, p .level4)
+    let p = a .same .place in
+    rw (a .same .index, p .definition, p .level2, p .level3, p .level4)
 
 -- ---- Case by case
 
--- Records with equal parts are equal.
-same-parts : (r s : Record) → s .index ≡ r .index → s .id ≡ r .id → s .address ≡ r .address → s .point ≡ r .point → s ≡ r
-same-parts r s i d a p = λ k. record { index = i k; id = d k; address = a k; point = p k }
+-- A record of the same point as r that has the point p is r with the point p.
+pub with-point : (r s : Record) → OfSamePoint r s → (p : ModelPoint) → s .point ≡ p
+    → s ≡ record { index = r .index; id = r .id; address = r .address; point = p }
+with-point r s same p e = λ k. record { index = same .index k; id = same .id k; address = same .address k; point = e k }
 
 module _ (ds : List Definition) (w : Record) (raw : ℕ) (r s : Record) (a : RecordAfter ds w raw r s) where
   -- A record of another model stays as it is.
   pub after-unchanged : (r .index ≡ w .index → ⊥) → s ≡ r
   after-unchanged n =
       let P : Bool → Type 0 = λ b. PointBecomes b (topOf (w .id) ds) (w .point) raw (r .point) (s .point) in
-      same-parts r s (a .index) (a .id) (a .address) (subst P (ne-eqb (r .index) (w .index) n) (a .point))
+      with-point r s (a .same) (r .point) (subst P (ne-eqb (r .index) (w .index) n) (a .point))
 
   module _ (same : r .index ≡ w .index) (top : Content) (known : topOf (w .id) ds ≡ some top) where
     -- A record of the same model, by the top group of its definition.
@@ -111,7 +90,7 @@ module _ (ds : List Definition) (w : Record) (raw : ℕ) (r s : Record) (a : Rec
 
       -- A point whose scale factor is not written.
       pub after-unscaled : isScaleFactorOf top (w .point) (r .point) ≡ false → s ≡ r
-      after-unscaled e = same-parts r s (a .index) (a .id) (a .address) (subst (By false) e after-other)
+      after-unscaled e = with-point r s (a .same) (r .point) (subst (By false) e after-other)
 
 -- The record of the point written: its model is known, and the point holds the raw value.
 pub after-written : (ds : List Definition) (w : Record) (raw : ℕ) (s : Record) → RecordAfter ds w raw w s

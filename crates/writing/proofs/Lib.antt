@@ -13,6 +13,7 @@ pub mod ModelFactors
 pub mod OnePointAfter
 pub mod ScopesAfter
 pub mod ModelAfter
+pub mod DecidedByTarget
 pub mod WritingCases
 pub mod AfterCases
 pub mod MapAfter

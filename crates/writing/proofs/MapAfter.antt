@@ -30,7 +30,7 @@ use Rattle.writing.specs.Writing.{refusal, rewritten}
 use Rattle.writing.specs.AfterWriting.{PointAfter, PointBecomes, RecordAfter}
 use Rattle.writing.proofs.ModelAfter.{model-after}
 use Rattle.writing.proofs.WritingCases.{Writable, refusal-none}
-use Rattle.writing.proofs.AfterCases.{point-place}
+use Rattle.writing.proofs.AfterCases.{own-place, point-place}
 
 module _ (ds : List Definition) (w : Record) (raw : ℕ) where
   -- A record of another model stays as it is.
@@ -38,9 +38,7 @@ module _ (ds : List Definition) (w : Record) (raw : ℕ) where
   other-model r n =
       let P : Bool → Type 0 = λ b. PointBecomes b (topOf (w .id) ds) (w .point) raw (r .point) (r .point) in
       record {
-        index = refl;
-        id = refl;
-        address = refl;
+        same = record { index = refl; id = refl; address = refl; place = own-place (r .point) };
         point = subst P (sym (ne-eqb (r .index) (w .index) n)) refl;
       }
 
@@ -50,10 +48,9 @@ module _ (ds : List Definition) (w : Record) (raw : ℕ) where
   own-model c t at id p q a =
       let P : Bool → Option Content → Type 0 = λ b o. PointBecomes b o (w .point) raw p q in
       let here = eq-eqb (w .index) (w .index) refl in
+      let place = point-place c (w .point) raw p q a in
       record {
-        index = refl;
-        id = refl;
-        address = ap (λ k. at + 2 + k) (point-place c (w .point) raw p q a .offset);
+        same = record { index = refl; id = refl; address = ap (λ k. at + 2 + k) (place .offset); place = place };
         point = subst (λ b. P b (topOf (w .id) ds)) (sym here) (subst (P true) (sym t) a);
       }
 

@@ -247,11 +247,7 @@ module _ (top : Content) (w : ModelPoint) (raw : ℕ) (body : List ℕ) where
             let was = status.was-value p (pointClass p (join (registersAt body a p))) r (was-implemented here) f in
             now ∙ same-status p r′ r (own-factor here) (ofClass value) ∙ sym (ap (λ c. statusOf p c r) was) in
             record {
-              offset = refl;
-              definition = refl;
-              level2 = refl;
-              level3 = refl;
-              level4 = refl;
+              place = record { offset = refl; definition = refl; level2 = refl; level3 = refl; level4 = refl };
               holds = shown (registersAt new a p) few ∙ ap join (holding here) ∙ join-split (w .definition .size) raw narrow;
               register = r′;
               status = now;

@@ -18,12 +18,12 @@ use Rattle.model_definitions.specs.Definitions.{Content, Definition, definition
 use Rattle.register_map.specs.Scan.{totalSize, scan}
 use Rattle.layout.specs.Reading.{topOf}
 use Rattle.listing.specs.Listing.{Record, listed, allRecords}
-use Rattle.listing.specs.Finding.{isRecord}
+use Rattle.listing.specs.Finding.{isRecord, targetOf}
 use Rattle.listed_records.proofs.RecordSources.{record-source}
 use Rattle.writing.specs.Writing.{written, writing}
-use Rattle.writing.specs.AfterWriting.{isScaleFactorOf, RecordAfter}
+use Rattle.writing.specs.AfterWriting.{isScaleFactorOf, rescaled, RecordAfter}
 use Rattle.writing.specs.OtherRecords.{Change, OtherRecords}
-use Rattle.writing.proofs.AfterCases.{after-unchanged, after-here, after-scaled, after-unscaled}
+use Rattle.writing.proofs.AfterCases.{with-point, after-unchanged, after-here, after-scaled, after-unscaled}
 use Rattle.writing.proofs.ScaleFactors.{scale-factors}
 use Rattle.writing.proofs.ReadBack.{read-back, shown-after}
 
@@ -41,14 +41,13 @@ module _ (catalog map : List ℕ) (rs : List Record) (headers : ℕ) (all : allR
     change-of : (r s : Record) → In r rs → RecordAfter (definitions catalog) w raw r s → Change top w raw r s
     change-of r s i a =
         record {
-          index = a .index;
-          id = a .id;
-          address = a .address;
+          same = a .same;
+          target = λ n. same-target (isScaleFactorOf top (w .point) (r .point)) refl n;
           unchanged = apart;
           unscaled = λ n f. stays (eqb (r .index) (w .index)) refl n f;
           scaled = λ same n t.
-              let p = after-scaled ds w raw r s a same top known (λ e. n (same-address same e)) t in
-              λ k. record { index = a .index k; id = a .id k; address = a .address k; point = p k };
+              with-point r s (a .same) (rescaled raw (r .point))
+              (after-scaled ds w raw r s a same top known (λ e. n (same-address same e)) t);
           holds = λ same e. after-here ds w raw r s a same top known (same-offset same e);
         }
       where
@@ -79,41 +78,52 @@ module _ (catalog map : List ℕ) (rs : List Record) (headers : ℕ) (all : allR
             after-unscaled ds w raw r s a same top known (λ e. n (same-address same e)) f
         stays false t n f = apart (eqb-false (r .index) (w .index) t)
 
+        -- What a write to a record at another address needs stays: a new status and scale do not matter to it.
+        same-target : (b : Bool) → isScaleFactorOf top (w .point) (r .point) ≡ b → (r .address ≡ w .address → ⊥)
+            → targetOf s ≡ targetOf r
+        same-target false f n = ap targetOf (stays (eqb (r .index) (w .index)) refl n f)
+        same-target true f n = by-model (eqb (r .index) (w .index)) refl
+          where
+            by-model : (b : Bool) → eqb (r .index) (w .index) ≡ b → targetOf s ≡ targetOf r
+            by-model false t = ap targetOf (apart (eqb-false (r .index) (w .index) t))
+            by-model true t =
+                let same = eqb-true (r .index) (w .index) t in
+                ap targetOf (with-point r s (a .same) (rescaled raw (r .point))
+                (after-scaled ds w raw r s a same top known (λ e. n (same-address same e)) f))
+
     -- All records of a map.
     pub changes-of : (ss : List Record) → Pairwise (RecordAfter (definitions catalog) w raw) rs ss
         → Pairwise (Change top w raw) rs ss
     changes-of ss = pairwise-implied (RecordAfter (definitions catalog) w raw) (Change top w raw) rs ss change-of
 
-module _ (catalog map : List ℕ) (index number : ℕ) (path : List ℕ) (raw : ℕ) (new : List ℕ) where
+module _ (catalog map : List ℕ) (before : List Record) (headers : ℕ) (all : allRecords catalog map ≡ listed before headers)
+    (index number : ℕ) (path : List ℕ) (raw : ℕ) (new : List ℕ) where
   -- The claim holds of every accepted write.
   pub other-records : writing catalog map index number path raw ≡ written new
-      → OtherRecords catalog map index number path raw new
+      → OtherRecords catalog map before headers index number path raw new
   other-records e =
-      let b = read-back catalog map index number path raw new e in
-      let there = found-in (isRecord index number path) (b .before) (b .point) (b .found) .0 in
+      let b = read-back catalog map before headers all index number path raw new e in
+      let there = found-in (isRecord index number path) before (b .point) (b .found) .0 in
       record {
-        before = b .before;
         after = b .after;
-        headers = b .headers;
-        allBefore = b .allBefore;
         allAfter = b .allAfter;
         point = b .point;
         found = b .found;
         top = b .top;
         known = b .known;
-        changes = changes-of catalog map (b .before) (b .headers) (b .allBefore) (b .point) there raw (b .top) (b .known)
-            (b .after) (b .pairs);
-        factors = scale-factors catalog new (b .after) (b .headers) (b .allAfter);
+        changes = changes-of catalog map before headers all (b .point) there raw (b .top) (b .known) (b .after) (b .pairs);
+        factors = scale-factors catalog new (b .after) headers (b .allAfter);
         shown = λ capacity rs n l.
-            let s = shown-after catalog map index number path raw new b capacity rs n l in (s .0, s .2);
+            let s = shown-after catalog map before headers all index number path raw new b capacity rs n l in (s .0, s .2);
       }
 
-  -- `Change` relates the records at the same position of the two lists.
-  pub change-at : (o : OtherRecords catalog map index number path raw new)
-      → (preceding : List Record) (r : Record) (following : List Record) → o .before ≡ preceding ++ r ∷ following
-      → (preceding′ : List Record) (s : Record) (following′ : List Record) → o .after ≡ preceding′ ++ s ∷ following′
-      → length preceding ≡ length preceding′ → Change (o .top) (o .point) raw r s
-  change-at o preceding r following old preceding′ s following′ now level =
-      let R = Change (o .top) (o .point) raw in
-      pairwise-at R preceding preceding′ r s following following′ level
-      (subst (λ xs. Pairwise R xs (preceding′ ++ s ∷ following′)) old (subst (Pairwise R (o .before)) now (o .changes)))
+-- `Change` relates the records at the same position of the two lists.
+pub change-at : (catalog map : List ℕ) (before : List Record) (headers : ℕ) (index number : ℕ) (path : List ℕ) (raw : ℕ)
+    (new : List ℕ) (o : OtherRecords catalog map before headers index number path raw new)
+    → (preceding : List Record) (r : Record) (following : List Record) → before ≡ preceding ++ r ∷ following
+    → (preceding′ : List Record) (s : Record) (following′ : List Record) → o .after ≡ preceding′ ++ s ∷ following′
+    → length preceding ≡ length preceding′ → Change (o .top) (o .point) raw r s
+change-at catalog map before headers index number path raw new o preceding r following old preceding′ s following′ now level =
+    let R = Change (o .top) (o .point) raw in
+    pairwise-at R preceding preceding′ r s following following′ level
+    (subst (λ xs. Pairwise R xs (preceding′ ++ s ∷ following′)) old (subst (Pairwise R before) now (o .changes)))

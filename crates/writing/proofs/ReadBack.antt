@@ -92,17 +92,17 @@ module _ (catalog map new : List ℕ) (before after : List Record) (headers : �
       -- It is also the scale factor of the point after the write.
       factor-again : IsFactor top f s
       factor-again =
-          let h = held in
+          let p = becomes .same .place in
           record {
-            index = e .index ∙ sym (becomes .index);
-            factor = rw (h .definition, h .level2, h .level3, h .level4) (e .factor);
+            index = e .index ∙ sym (becomes .same .index);
+            factor = rw (p .definition, p .level2, p .level3, p .level4) (e .factor);
           }
 
       -- So its raw value gives the status and the scale of that point:
       gives : s .point ≡ rescaled (f .point .raw) (s .point)
       gives =
           scale-factors catalog new after headers allAfter .gives s again top
-          (ap (λ id. topOf id (definitions catalog)) (becomes .id) ∙ known) f factor-stays factor-again
+          (ap (λ id. topOf id (definitions catalog)) (becomes .same .id) ∙ known) f factor-stays factor-again
 
       -- the status
       factor-status : s .point .status ≡ statusOf (w .point .definition) (ofClass value) (f .point .raw)
@@ -110,7 +110,7 @@ module _ (catalog map new : List ℕ) (before after : List Record) (headers : �
           let h = held in
           let r = f .point .raw in
           ap (λ (p : ModelPoint). p .status) gives
-          ∙ ap (λ (p : Point). statusOf p (pointClass p (s .point .raw)) r) (h .definition)
+          ∙ ap (λ (p : Point). statusOf p (pointClass p (s .point .raw)) r) (h .place .definition)
           ∙ ap (λ (x : ℕ). statusOf (w .point .definition) (pointClass (w .point .definition) x) r) (h .holds)
           ∙ ap (λ (c : Classified). statusOf (w .point .definition) c r) value-written
 
@@ -120,7 +120,7 @@ module _ (catalog map new : List ℕ) (before after : List Record) (headers : �
           let r = f .point .raw in
           ap (λ (p : ModelPoint). p .scale) gives
           ∙ ap (λ (x : ℕ). scaleOf (s .point .definition) x r) (sym (ap (λ (p : ModelPoint). p .status) gives))
-          ∙ ap (λ (p : Point). scaleOf p (s .point .status) r) (held .definition)
+          ∙ ap (λ (p : Point). scaleOf p (s .point .status) r) (held .place .definition)
 
     -- A point without a scale point has status 0, and its scale by no register.
     no-factor : (w .point .definition .scaleKind ≡ scaleByPoint → ⊥)
@@ -147,28 +147,26 @@ module _ (catalog map new : List ℕ) (before after : List Record) (headers : �
 
 -- ---- The claim
 
-module _ (catalog map : List ℕ) (index number : ℕ) (path : List ℕ) (raw : ℕ) (new : List ℕ) where
+module _ (catalog map : List ℕ) (before : List Record) (headers : ℕ) (all : allRecords catalog map ≡ listed before headers)
+    (index number : ℕ) (path : List ℕ) (raw : ℕ) (new : List ℕ) where
   -- It holds of every accepted write.
-  pub read-back : writing catalog map index number path raw ≡ written new → ReadBack catalog map index number path raw new
+  pub read-back : writing catalog map index number path raw ≡ written new
+      → ReadBack catalog map before headers index number path raw new
   read-back e =
-      let a = accepted-write catalog map index number path raw new e in
+      let a = accepted-write catalog map index number path raw new e before headers all in
       let w = a .point in
       let ds = definitions catalog in
       let test = isRecord index number path in
-      let m = map-after catalog map (a .records) (a .headers) (a .all) index number path w (a .found) raw
-      (a .accepted) in
-      let s = pairwise-found (RecordAfter ds w raw) test (same-record ds w raw index number path) (a .records) (m .0) (m .2) w
+      let m = map-after catalog map before headers all index number path w (a .found) raw (a .accepted) in
+      let s = pairwise-found (RecordAfter ds w raw) test (same-record ds w raw index number path) before (m .0) (m .2) w
       (a .found) in
       let h = after-written ds w raw (s .0) (s .2) in
-      let there = found-in test (a .records) w (a .found) .0 in
+      let there = found-in test before w (a .found) .0 in
       let again = found-in test (m .0) (s .0) (s .1) .0 in
       let can = refusal-none (targetOf w) raw (a .accepted) in
       let allAfter = ap (allRecords catalog) (a .rewrites) ∙ m .1 in
-      let t = top-of catalog map new (a .records) (m .0) (a .headers) (a .all) allAfter w (s .0) there again raw can (m .2) (s .2) in
+      let t = top-of catalog map new before (m .0) headers all allAfter w (s .0) there again raw can (m .2) (s .2) in
       record {
-        before = a .records;
-        headers = a .headers;
-        allBefore = a .all;
         point = w;
         found = a .found;
         accepted = a .accepted;
@@ -179,36 +177,33 @@ module _ (catalog map : List ℕ) (index number : ℕ) (path : List ℕ) (raw : 
         pointAfter = s .0;
         foundAfter = s .1;
         holds = h .holds;
-        address = s .2 .address;
+        address = s .2 .same .address;
         implemented = h .implemented;
         mandatory = h .mandatory;
         inRange = h .inRange;
         top = t .0;
         known = t .1;
-        scaledBy = scaled-by catalog map new (a .records) (m .0) (a .headers) (a .all) allAfter w (s .0) there again raw can (m .2)
-            (s .2) (t .0) (t .1);
+        scaledBy = scaled-by catalog map new before (m .0) headers all allAfter w (s .0) there again raw can (m .2) (s .2) (t .0)
+            (t .1);
         sameLength = ap length (a .rewrites) ∙ rewritten-length w raw map;
         outside = λ k o. ap (λ l. getD l k 0) (a .rewrites) ∙ rewritten-outside w raw map k o;
       }
 
--- A listing with any capacity that shows the old records of the old map shows the new records of the new map.
-pub shown-after : (catalog map : List ℕ) (index number : ℕ) (path : List ℕ) (raw : ℕ) (new : List ℕ)
-    → (b : ReadBack catalog map index number path raw new) → (capacity : ℕ) (rs : List Record) (headers : ℕ)
-    → listing catalog map capacity ≡ listed rs headers
-    → (rs ≡ b .before) × (headers ≡ b .headers) × (listing catalog new capacity ≡ listed (b .after) headers)
-shown-after catalog map index number path raw new b capacity rs headers e =
-    let l = listed-walks catalog map capacity rs headers e in
-    let all = walk-records catalog map (l .0) in
-    let before = b .allBefore in
-    let same : rs ≡ b .before = cc in
-    let also : headers ≡ b .headers = cc in
-    let R = RecordAfter (definitions catalog) (b .point) raw in
-    let count : length (b .after) ≡ length rs =
-    pairwise-length R (b .before) (b .after) (b .pairs) ∙ ap length (sym same) in (
-      same,
-      also,
-      listing-records catalog new capacity
-          ∙ ap (withCapacity capacity) (b .allAfter)
-          ∙ with-capacity capacity (b .after) (b .headers) (omega (arith, l .1, count))
-          ∙ ap (listed (b .after)) (sym also),
-    )
+  -- A listing with any capacity that shows the records before the write shows those after it.
+  pub shown-after : (b : ReadBack catalog map before headers index number path raw new) → (capacity : ℕ) (rs : List Record) (n : ℕ)
+      → listing catalog map capacity ≡ listed rs n
+      → (rs ≡ before) × (n ≡ headers) × (listing catalog new capacity ≡ listed (b .after) n)
+  shown-after b capacity rs n e =
+      let l = listed-walks catalog map capacity rs n e in
+      let shown = walk-records catalog map (l .0) in
+      let same : rs ≡ before = cc in
+      let also : n ≡ headers = cc in
+      let R = RecordAfter (definitions catalog) (b .point) raw in
+      let count : length (b .after) ≡ length rs = pairwise-length R before (b .after) (b .pairs) ∙ ap length (sym same) in (
+        same,
+        also,
+        listing-records catalog new capacity
+            ∙ ap (withCapacity capacity) (b .allAfter)
+            ∙ with-capacity capacity (b .after) headers (omega (arith, l .1, count))
+            ∙ ap (listed (b .after)) (sym also),
+      )

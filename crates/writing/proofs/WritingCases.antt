@@ -1,4 +1,4 @@
--- The answer of a write, case by case.
+-- The answer of a write, case by case: the numbers of refusals, and what an accepted write has found.
 use mathlib.Core.Path.{_≡_, refl, sym, ap, _∙_}
 use mathlib.Core.Bool.{true, false}
 use mathlib.Core.List.{List}
@@ -14,95 +14,14 @@ use Rattle.catalog_frames.specs.Frames.{readOnly}
 use Rattle.layout.specs.Points.{pointClass}
 use Rattle.listing.specs.Listing.{Record, allRecords, withCapacity, listing}
 use Rattle.listing.specs.Listing as Listing
-use Rattle.listing.specs.Finding.{isRecord, finding, Target, targetOf}
-use Rattle.listing.specs.Finding as Finding
+use Rattle.listing.specs.Finding.{isRecord, Target, targetOf}
 use Rattle.listing.proofs.RefusalNumbers.{Between, catalog-number, opening-number}
 use Rattle.listing.proofs.WalkSteps.{not-listed}
 use Rattle.listing.proofs.ListingInversion.{walk-number}
 use Rattle.listing.proofs.ListingCases as listings
 use Rattle.listing.proofs.ListingCases.{catalogRefused, openingRefused, walkRefused, tooShort, allListed, listing-case, listing-records, walk-records}
-use Rattle.writing.specs.Writing.{canHold, refusal, rewritten, Answer, refused, written, writing}
-
--- An answer by what decides it: a refusal of listing, no record, the refusal of the point, or none.
-pub data Case (catalog map : List ℕ) (index number : ℕ) (path : List ℕ) (raw : ℕ) : Answer → Type 0 where
-  listingRefused : {n place headers : ℕ} → allRecords catalog map ≡ Listing.refused n place headers
-      → Case catalog map index number path raw (refused n place)
-  noPoint : {rs : List Record} {headers : ℕ} → allRecords catalog map ≡ Listing.listed rs headers
-      → firstWith (isRecord index number path) rs ≡ none → Case catalog map index number path raw (refused 31 0)
-  pointRefused : {rs : List Record} {headers : ℕ} {w : Record} {n : ℕ} → allRecords catalog map ≡ Listing.listed rs headers
-      → firstWith (isRecord index number path) rs ≡ some w → refusal (targetOf w) raw ≡ some n
-      → Case catalog map index number path raw (refused n 0)
-  pointWritten : {rs : List Record} {headers : ℕ} {w : Record} → allRecords catalog map ≡ Listing.listed rs headers
-      → firstWith (isRecord index number path) rs ≡ some w → refusal (targetOf w) raw ≡ none
-      → Case catalog map index number path raw (written (rewritten (targetOf w) raw map))
-
-module _ (catalog map : List ℕ) (index number : ℕ) (path : List ℕ) where
-  -- What finding results in if listing is refused,
-  finding-refused : {n place headers : ℕ} → allRecords catalog map ≡ Listing.refused n place headers
-      → finding catalog map index number path ≡ Finding.refused n place
-  unfolding finding
-  finding-refused e = rw (e, finding)
-
-  module _ {rs : List Record} {headers : ℕ} (e : allRecords catalog map ≡ Listing.listed rs headers) where
-    -- A finding by the record that is found.
-    abbrev by-record : Option Record → Finding.Finding
-    by-record o = elim o [ none ↦ Finding.nothing | some r ↦ Finding.found r ]
-
-    -- if no record is the one asked for,
-    finding-nothing : firstWith (isRecord index number path) rs ≡ none
-        → finding catalog map index number path ≡ Finding.nothing
-    unfolding finding
-    finding-nothing f = ap (Finding.findingIn index number path) e ∙ ap by-record f
-
-    -- and if one is.
-    pub finding-found : {w : Record} → firstWith (isRecord index number path) rs ≡ some w
-        → finding catalog map index number path ≡ Finding.found w
-    unfolding finding
-    finding-found f = ap (Finding.findingIn index number path) e ∙ ap by-record f
-
-  module _ (raw : ℕ) where
-    -- The answer by what finding results in: a refusal,
-    answer-refused : {n place : ℕ} → finding catalog map index number path ≡ Finding.refused n place
-        → writing catalog map index number path raw ≡ refused n place
-    unfolding writing
-    answer-refused f = rw (f, writing)
-
-    -- no such point,
-    answer-nothing : finding catalog map index number path ≡ Finding.nothing
-        → writing catalog map index number path raw ≡ refused 31 0
-    unfolding writing
-    answer-nothing f = rw (f, writing)
-
-    -- or a record.
-    answer-found : {w : Record} → finding catalog map index number path ≡ Finding.found w
-        → writing catalog map index number path raw
-        ≡ elim (refusal (targetOf w) raw) [ some n ↦ refused n 0 | none ↦ written (rewritten (targetOf w) raw map) ]
-    unfolding writing
-    answer-found f = rw (f, writing)
-
-    -- The case of the answer: by the refusal of the point,
-    by-refusal : {rs : List Record} {headers : ℕ} (w : Record) → allRecords catalog map ≡ Listing.listed rs headers
-        → firstWith (isRecord index number path) rs ≡ some w → (o : Option ℕ) → refusal (targetOf w) raw ≡ o
-        → Case catalog map index number path raw (writing catalog map index number path raw)
-    by-refusal w e f none q = rw (answer-found (finding-found e f), q) (pointWritten e f q)
-    by-refusal w e f (some n) q = rw (answer-found (finding-found e f), q) (pointRefused e f q)
-
-    -- by what is found,
-    by-found : {rs : List Record} {headers : ℕ} → allRecords catalog map ≡ Listing.listed rs headers → (o : Option Record)
-        → firstWith (isRecord index number path) rs ≡ o
-        → Case catalog map index number path raw (writing catalog map index number path raw)
-    by-found e none f = rw (answer-nothing (finding-nothing e f)) (noPoint e f)
-    by-found e (some w) f = by-refusal w e f (refusal (targetOf w) raw) refl
-
-    -- and by the records.
-    by-records : (a : Listing.Answer) → allRecords catalog map ≡ a
-        → Case catalog map index number path raw (writing catalog map index number path raw)
-    by-records (Listing.refused n place headers) e = rw (answer-refused (finding-refused e)) (listingRefused e)
-    by-records (Listing.listed rs headers) e = by-found e (firstWith (isRecord index number path) rs) refl
-
-    -- Every answer is one of these cases.
-    pub writing-case : Case catalog map index number path raw (writing catalog map index number path raw)
-    writing-case = by-records (allRecords catalog map) refl
+use Rattle.writing.specs.Writing.{canHold, refusal, rewritten, refused, written, writingTo, writing}
+use Rattle.writing.proofs.DecidedByTarget.{target-refused, target-written, decided-by-listing, decided-by-record}
 
 -- ---- The numbers of refusals
 
@@ -161,30 +80,53 @@ module _ (t : Target) (raw : ℕ) where
   pub refusal-none : refusal t raw ≡ none → Writable t raw
   refusal-none e = rw e at outcome
 
+  -- So writing to a target is refused by 32 to 35 only.
+  pub target-number : {n place : ℕ} (map : List ℕ) → writingTo t raw map ≡ refused n place → Between 32 35 n
+  target-number {n} map e = go (refusal t raw) refl
+    where
+      go : (o : Option ℕ) → refusal t raw ≡ o → Between 32 35 n
+      go none q = let a = sym (target-written t raw map q) ∙ e in impossible (cc)
+      go (some k) q =
+          let a = sym (target-refused t raw map q) ∙ e in
+          let same : k ≡ n = cc in
+          let b = refusal-number q in
+          (omega (arith, b .0), omega (arith, b .1))
+
 -- ---- An accepted write
 
--- The point that an accepted write has found, and the new map.
-pub record Accepted (catalog map : List ℕ) (index number : ℕ) (path : List ℕ) (raw : ℕ) (new : List ℕ) : Type 0 where
-  pub records : List Record
-  pub headers : ℕ
-  pub all : allRecords catalog map ≡ Listing.listed records headers
+-- The point that an accepted write has found among the records rs of the map, and the new map.
+pub record Accepted (rs : List Record) (index number : ℕ) (path : List ℕ) (raw : ℕ) (map new : List ℕ) : Type 0 where
   pub point : Record
-  pub found : firstWith (isRecord index number path) records ≡ some point
+  pub found : firstWith (isRecord index number path) rs ≡ some point
   pub accepted : refusal (targetOf point) raw ≡ none
   pub rewrites : new ≡ rewritten (targetOf point) raw map
 
-module _ (catalog map : List ℕ) (index number : ℕ) (path : List ℕ) (raw : ℕ) (new : List ℕ) where
-  -- Only the last case has a new map.
-  accepted-case : (answer : Answer) → Case catalog map index number path raw answer → answer ≡ written new
-      → Accepted catalog map index number path raw new
-  accepted-case answer (listingRefused e) q = impossible (cc)
-  accepted-case answer (noPoint e f) q = impossible (cc)
-  accepted-case answer (pointRefused e f r) q = impossible (cc)
-  accepted-case answer (pointWritten {rs = rs} {headers = headers} {w = w} e f r) q =
-      record { records = rs; headers = headers; all = e; point = w; found = f; accepted = r; rewrites = cc }
+module _ (catalog map : List ℕ) (index number : ℕ) (path : List ℕ) (raw : ℕ) (new : List ℕ)
+    (writes : writing catalog map index number path raw ≡ written new) where
+  -- A write is accepted only if the map has records,
+  pub accepted-records : (rs : List Record) × (headers : ℕ) × (allRecords catalog map ≡ Listing.listed rs headers)
+  accepted-records = go (allRecords catalog map) refl
+    where
+      go : (a : Listing.Answer) → allRecords catalog map ≡ a
+          → (rs : List Record) × (headers : ℕ) × (allRecords catalog map ≡ Listing.listed rs headers)
+      go (Listing.refused n place headers) e =
+          let a = sym (decided-by-listing catalog map index number path raw e) ∙ writes in
+          impossible (cc)
+      go (Listing.listed rs headers) e = (rs, headers, e)
 
-  -- So every accepted write has found a point.
-  pub accepted-write : writing catalog map index number path raw ≡ written new
-      → Accepted catalog map index number path raw new
-  accepted-write =
-      accepted-case (writing catalog map index number path raw) (writing-case catalog map index number path raw)
+  -- and has found one of them.
+  pub accepted-write : (rs : List Record) (headers : ℕ) → allRecords catalog map ≡ Listing.listed rs headers
+      → Accepted rs index number path raw map new
+  accepted-write rs headers e = go (firstWith (isRecord index number path) rs) refl
+    where
+      by-refusal : (w : Record) → firstWith (isRecord index number path) rs ≡ some w → writingTo (targetOf w) raw map ≡ written new
+          → (o : Option ℕ) → refusal (targetOf w) raw ≡ o → Accepted rs index number path raw map new
+      by-refusal w f q (some n) r = let a = sym (target-refused (targetOf w) raw map r) ∙ q in impossible (cc)
+      by-refusal w f q none r =
+          let a = sym (target-written (targetOf w) raw map r) ∙ q in
+          record { point = w; found = f; accepted = r; rewrites = cc }
+
+      go : (o : Option Record) → firstWith (isRecord index number path) rs ≡ o → Accepted rs index number path raw map new
+      go none f = let a = sym (decided-by-record catalog map index number path raw e f) ∙ writes in impossible (cc)
+      go (some w) f =
+          by-refusal w f (sym (decided-by-record catalog map index number path raw e f) ∙ writes) (refusal (targetOf w) raw) refl

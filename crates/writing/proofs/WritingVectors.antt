@@ -30,8 +30,7 @@ use Rattle.writing.specs.Calls.{WriteCall}
 use Rattle.writing.specs.ReadBack.{ReadBack}
 use Rattle.writing.specs.OtherRecords.{OtherRecords}
 use Rattle.writing.specs.declared.Written.{Written}
-use Rattle.writing.proofs.OtherRecords.{other-records}
-use Rattle.writing.proofs.WrittenReadsBack.{done-reads-back}
+use Rattle.writing.proofs.WrittenReadsBack.{done-records, done-reads-back, done-other-records}
 
 -- ---- The plant
 
@@ -111,10 +110,6 @@ unfolding checkFrom checked framesFrom frameOf isSizeOf rows rowAmong mayScale r
     walk recordsBy allRecords withCapacity listing
 records-changed = refl
 
--- The claim on all records, for this write.
-pub others : OtherRecords catalog plant 1 7 (instance 1) 0xFFFE rescaledPlant
-others = other-records catalog plant 1 7 (instance 1) 0xFFFE rescaledPlant factor-written
-
 -- A call of `write` that returns `Done` and leaves that map is as the contract says,
 pub factor-call : WriteCall catalog plant 1 7 (instance 1) 0xFFFE Written.Done rescaledPlant
 factor-call =
@@ -123,9 +118,21 @@ factor-call =
       leaves = sym (ap (λ a. mapAfter a plant) factor-written);
     }
 
--- so it reads back.
-pub factor-reads-back : ReadBack catalog plant 1 7 (instance 1) 0xFFFE rescaledPlant
-factor-reads-back = done-reads-back catalog plant 1 7 (instance 1) 0xFFFE rescaledPlant factor-call
+-- so the plant has records,
+pub plant-records : (before : List Record) × (headers : ℕ) × (allRecords catalog plant ≡ Listing.listed before headers)
+plant-records = done-records catalog plant 1 7 (instance 1) 0xFFFE rescaledPlant factor-call
+
+-- the point reads back,
+pub factor-reads-back : ReadBack catalog plant (plant-records .0) (plant-records .1) 1 7 (instance 1) 0xFFFE rescaledPlant
+factor-reads-back =
+    done-reads-back catalog plant 1 7 (instance 1) 0xFFFE rescaledPlant (plant-records .0) (plant-records .1) (plant-records .2)
+    factor-call
+
+-- and the claim on all records holds.
+pub others : OtherRecords catalog plant (plant-records .0) (plant-records .1) 1 7 (instance 1) 0xFFFE rescaledPlant
+others =
+    done-other-records catalog plant 1 7 (instance 1) 0xFFFE rescaledPlant (plant-records .0) (plant-records .1) (plant-records .2)
+    factor-call
 
 -- A call that returns 35 and leaves the plant as it was is as the contract says too: 11 is no scale factor.
 pub refused-call : WriteCall catalog plant 1 7 (instance 0) 11 (Written.Refused 35 0) plant

@@ -4,12 +4,14 @@ use mathlib.Core.Path.{_≡_, refl, sym, ap, _∙_}
 use mathlib.Core.List.{List}
 use Prim.Native.Nat.{ℕ}
 use Rattle.lists.proofs.TestOutcomes.{impossible}
+use Rattle.listing.specs.Listing.{Record, listed, allRecords}
 use Rattle.writing.specs.Writing.{Answer, refused, written, mapAfter, writing, refusedResult, writtenResult, result}
 use Rattle.writing.specs.Calls.{WriteCall}
 use Rattle.writing.specs.ReadBack.{ReadBack}
 use Rattle.writing.specs.OtherRecords.{OtherRecords}
 use Rattle.writing.specs.NoSuchPoint.{Missing}
 use Rattle.writing.specs.declared.Written.{Written}
+use Rattle.writing.proofs.WritingCases.{accepted-records}
 use Rattle.writing.proofs.ReadBack.{read-back}
 use Rattle.writing.proofs.OtherRecords.{other-records}
 use Rattle.writing.proofs.NoSuchPoint.{no-such-point-exact}
@@ -36,15 +38,21 @@ module _ (catalog map : List ℕ) (index number : ℕ) (path : List ℕ) (raw : 
       → writing catalog map index number path raw ≡ written after
   done-accepts c = written-by-result (writing catalog map index number path raw) map after (c .result) (c .leaves)
 
-  -- After a call that returns `Done`, the point reads back.
-  pub done-reads-back : WriteCall catalog map index number path raw Written.Done after
-      → ReadBack catalog map index number path raw after
-  done-reads-back c = read-back catalog map index number path raw after (done-accepts c)
+  -- So it is returned only if the catalog accepts the map,
+  pub done-records : WriteCall catalog map index number path raw Written.Done after
+      → (before : List Record) × (headers : ℕ) × (allRecords catalog map ≡ listed before headers)
+  done-records c = accepted-records catalog map index number path raw after (done-accepts c)
 
-  -- After a call that returns `Done`, every record is as before, except that of the point and those of the points that it scales.
-  pub done-other-records : WriteCall catalog map index number path raw Written.Done after
-      → OtherRecords catalog map index number path raw after
-  done-other-records c = other-records catalog map index number path raw after (done-accepts c)
+  module _ (before : List Record) (headers : ℕ) (all : allRecords catalog map ≡ listed before headers) where
+    -- and then the point reads back,
+    pub done-reads-back : WriteCall catalog map index number path raw Written.Done after
+        → ReadBack catalog map before headers index number path raw after
+    done-reads-back c = read-back catalog map before headers all index number path raw after (done-accepts c)
+
+    -- and every record is as before, except that of the point and those of the points that it scales.
+    pub done-other-records : WriteCall catalog map index number path raw Written.Done after
+        → OtherRecords catalog map before headers index number path raw after
+    done-other-records c = other-records catalog map before headers all index number path raw after (done-accepts c)
 
   -- If a call returns a refusal, the definition refuses with the same number and place, and the map is as it was.
   pub refused-changes-nothing : (n place : ℕ) → WriteCall catalog map index number path raw (Written.Refused n place) after

@@ -25,15 +25,19 @@ isScaleFactorOf top w p =
 
 -- ---- Points after the write
 
--- The point written, p before and q after: it holds `raw`, and has the status and the scale of a value whose scale point reads
--- `register`. So it is neither unimplemented nor out of range; if it was not out of range before, its status and scale stay.
--- (`ScaledBy` in `ReadBack.antt` gives the status and the scale by the record of the scale point.)
-pub record Holds (raw : ℕ) (p q : ModelPoint) : Type 0 where
+-- Points p and q have the same place in a model and the same definition.
+pub record SamePlace (p q : ModelPoint) : Type 0 where
   pub offset : q .offset ≡ p .offset
   pub definition : q .definition ≡ p .definition
   pub level2 : q .level2 ≡ p .level2
   pub level3 : q .level3 ≡ p .level3
   pub level4 : q .level4 ≡ p .level4
+
+-- The point written, p before and q after: it holds `raw`, and has the status and the scale of a value whose scale point reads
+-- `register`. So it is neither unimplemented nor out of range; if it was not out of range before, its status and scale stay.
+-- (`ScaledBy` in `ReadBack.antt` gives the status and the scale by the record of the scale point.)
+pub record Holds (raw : ℕ) (p q : ModelPoint) : Type 0 where
+  pub place : SamePlace p q
   pub holds : q .raw ≡ raw
   pub register : ℕ
   pub status : q .status ≡ statusOf (p .definition) (ofClass value) register
@@ -75,9 +79,14 @@ PointBecomes false top w raw p q = q ≡ p
 PointBecomes true none w raw p q = ⊥
 PointBecomes true (some top) w raw p q = PointAfter top w raw p q
 
--- Record r has become s by writing `raw` to the point of record w, by the definitions `ds` of a catalog.
-pub record RecordAfter (ds : List Definition) (w : Record) (raw : ℕ) (r s : Record) : Type 0 where
+-- Records r and s are of the same point: of the same model, at the same address, with the same place and definition.
+pub record OfSamePoint (r s : Record) : Type 0 where
   pub index : s .index ≡ r .index
   pub id : s .id ≡ r .id
   pub address : s .address ≡ r .address
+  pub place : SamePlace (r .point) (s .point)
+
+-- Record r has become s by writing `raw` to the point of record w, by the definitions `ds` of a catalog. It is of the same point.
+pub record RecordAfter (ds : List Definition) (w : Record) (raw : ℕ) (r s : Record) : Type 0 where
+  pub same : OfSamePoint r s
   pub point : PointBecomes (eqb (r .index) (w .index)) (topOf (w .id) ds) (w .point) raw (r .point) (s .point)
