@@ -13,4 +13,5 @@ pub mod StoreLaws
 -- Runs
 pub mod Positions
 pub mod Rearranging
+pub mod RearrangingTest
 pub mod RunVectors

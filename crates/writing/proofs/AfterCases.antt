@@ -37,12 +37,12 @@ point-place top w raw p q = go (eqb (p .offset) (w .offset)) (isScaleFactorOf to
     go false true h = same-as p (rescaled raw p) q stays-rescaled h
     go false false h = same-as p p q (own-place p) h
 
--- So index, number and path select the same record before and after the write.
-pub same-record : (ds : List Definition) (w : Record) (raw index number : ℕ) (path : List ℕ) (r s : Record)
-    → RecordAfter ds w raw r s → isRecord index number path s ≡ isRecord index number path r
-same-record ds w raw index number path r s a =
-    let p = a .same .place in
-    rw (a .same .index, p .definition, p .level2, p .level3, p .level4)
+-- Index, number and path select the same record before and after the write.
+pub same-record : (index number : ℕ) (path : List ℕ) (r s : Record) → OfSamePoint r s
+    → isRecord index number path s ≡ isRecord index number path r
+same-record index number path r s same =
+    let p = same .place in
+    rw (same .index, p .definition, p .level2, p .level3, p .level4)
 
 -- ---- Case by case
 

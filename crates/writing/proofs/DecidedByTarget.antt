@@ -5,11 +5,12 @@ use mathlib.Core.List.{List}
 use mathlib.Core.Option.{Option, none, some}
 use Prim.Native.Nat.{ℕ}
 use Rattle.lists.specs.Tests.{firstWith}
+use Rattle.lists.proofs.TestOutcomes.{impossible}
 use Rattle.listing.specs.Listing.{Record, allRecords}
 use Rattle.listing.specs.Listing as Listing
 use Rattle.listing.specs.Finding.{isRecord, finding, Target, targetOf}
 use Rattle.listing.specs.Finding as Finding
-use Rattle.writing.specs.Writing.{refusal, rewritten, Answer, refused, written, writingTo, writing, Result, result}
+use Rattle.writing.specs.Writing.{refusal, rewritten, Answer, refused, written, writingTo, writing, result}
 
 -- Writing `raw` by what finding the point returned: its refusal, 31 for nothing, or what writing to the target results in.
 abbrev pub writingBy : Finding.Result → ℕ → List ℕ → Answer
@@ -92,6 +93,27 @@ module _ (catalog map : List ℕ) (index number : ℕ) (path : List ℕ) where
   finding-found e f =
       ap (Finding.findingIn index number path) e
       ∙ ap {B = Finding.Finding} (λ o. elim o [ none ↦ Finding.nothing | some r ↦ Finding.found r ]) f
+
+  -- A target is returned only if the map has records,
+  pub found-records : {t : Target} → Finding.foundResult t ≡ Finding.result (finding catalog map index number path)
+      → (rs : List Record) × (headers : ℕ) × (allRecords catalog map ≡ Listing.listed rs headers)
+  found-records {t} e = go (allRecords catalog map) refl
+    where
+      go : (a : Listing.Answer) → allRecords catalog map ≡ a
+          → (rs : List Record) × (headers : ℕ) × (allRecords catalog map ≡ Listing.listed rs headers)
+      go (Listing.refused n place headers) q = let r = e ∙ refusal-returned q in impossible (cc)
+      go (Listing.listed rs headers) q = (rs, headers, q)
+
+  -- and is that of the first record with this index, number and path.
+  pub found-record : {rs : List Record} {headers : ℕ} → allRecords catalog map ≡ Listing.listed rs headers
+      → {t : Target} → Finding.foundResult t ≡ Finding.result (finding catalog map index number path)
+      → (r : Record) × (firstWith (isRecord index number path) rs ≡ some r) × (t ≡ targetOf r)
+  found-record {rs} q {t} e = go (firstWith (isRecord index number path) rs) refl (e ∙ target-returned q)
+    where
+      go : (o : Option Record) → firstWith (isRecord index number path) rs ≡ o → Finding.foundResult t ≡ resultOf o
+          → (r : Record) × (firstWith (isRecord index number path) rs ≡ some r) × (t ≡ targetOf r)
+      go none f g = impossible (cc)
+      go (some r) f g = (r, f, cc)
 
   module _ (raw : ℕ) where
     -- So a write is refused as listing is,

@@ -158,8 +158,8 @@ module _ (catalog map : List ℕ) (before : List Record) (headers : ℕ) (all : 
       let ds = definitions catalog in
       let test = isRecord index number path in
       let m = map-after catalog map before headers all index number path w (a .found) raw (a .accepted) in
-      let s = pairwise-found (RecordAfter ds w raw) test (same-record ds w raw index number path) before (m .0) (m .2) w
-      (a .found) in
+      let s = pairwise-found (RecordAfter ds w raw) test (λ r s c. same-record index number path r s (c .same)) before (m .0)
+      (m .2) w (a .found) in
       let h = after-written ds w raw (s .0) (s .2) in
       let there = found-in test before w (a .found) .0 in
       let again = found-in test (m .0) (s .0) (s .1) .0 in

@@ -35,12 +35,12 @@ use Rattle.writing.proofs.WrittenReadsBack.{done-records, done-reads-ba
 -- ---- The plant
 
 -- A point with access RW.
-abbrev writable : List ℕ → List ℕ
+abbrev pub writable : List ℕ → List ℕ
 writable p = take 7 p ++ 1 ∷ []
 
 -- Model 900 has a uint32, a uint16 with access R, a string of five registers, a pad and an int16; and in a group of two instances
 -- an int16 whose scale factor is the sunssf after it.
-abbrev catalog : List ℕ
+abbrev pub catalog : List ℕ
 catalog =
     joined (
     model 900 ∷ writable (point 1 10 2) ∷ uint16 2 ∷ writable (point 3 19 5) ∷ writable (point 4 6 1) ∷ writable (point 8 1 1)
@@ -48,16 +48,16 @@ catalog =
 
 -- The map of a plant, by the two registers of its uint32, its pad and the scale factor of instance 1. The int16 of the top group
 -- is unimplemented.
-abbrev plantWith : ℕ → ℕ → ℕ → ℕ → List ℕ
+abbrev pub plantWith : ℕ → ℕ → ℕ → ℕ → List ℕ
 plantWith high low pad factor =
     body (high ∷ low ∷ 5 ∷ 0x4142 ∷ 0 ∷ 0 ∷ 0 ∷ 0 ∷ pad ∷ 0x8000 ∷ 100 ∷ 0xFFFF ∷ 200 ∷ factor ∷ [])
 
 -- The pad holds 0, and the scale factor of instance 1 is 11: both are out of range.
-abbrev plant : List ℕ
+abbrev pub plant : List ℕ
 plant = plantWith 1 2 0 11
 
 -- The path to an instance of the group; that to instance 0 is also the path to the top group.
-abbrev instance : ℕ → List ℕ
+abbrev pub instance : ℕ → List ℕ
 instance j = j ∷ 0 ∷ 0 ∷ []
 
 -- ---- The scale factor of instance 1
