@@ -6,7 +6,7 @@ use mathlib.Core.Option.{Option, none, some}
 use Prim.Native.Nat.{ℕ, _+_}
 use borrow.Author.Tests.{eq-eqb, eqb-true}
 use lib.Dec.{eqb}
-use lib.ListN.{take, drop}
+use lib.ListN.{getD, take, drop}
 use lib.Seq.{take-at, drop-at}
 use Rattle.lists.specs.Members.{In}
 use Rattle.lists.specs.Tests.{firstWith}
@@ -18,7 +18,7 @@ use Rattle.register_map.specs.Scan.{Model, scan, totalSize}
 use Rattle.layout.specs.Points.{ModelPoint}
 use Rattle.layout.specs.Reading.{reading, points}
 use Rattle.layout.specs.Paths.{depthIn, agreeTo, pathOf}
-use Rattle.layout.proofs.Depths.{agree-itself}
+use Rattle.layout.proofs.Depths.{levels, agree-itself}
 use Rattle.layout.proofs.Places.{Place}
 use Rattle.layout.proofs.PointPlaces.{point-places}
 use Rattle.listing.specs.Listing.{Record, allRecords, listed}
@@ -37,23 +37,20 @@ own-place r =
       eq-eqb (r .point .level4) (r .point .level4) refl,
     )
 
--- A record w that passes the test for the index, number and path of r has the same.
-has-place : (r w : Record) → isRecord (r .index) (r .point .definition .number) (pathOf (r .point)) w ≡ true
-    → (w .index ≡ r .index)
-    × (w .point .definition .number ≡ r .point .definition .number)
-    × (pathOf (w .point) ≡ pathOf (r .point))
-has-place r w e =
-    let p = r .point in
+-- A record w that passes the test for an index, a number and a path has these.
+pub has-place : (index number : ℕ) (path : List ℕ) (w : Record) → isRecord index number path w ≡ true
+    → (w .index ≡ index) × (w .point .definition .number ≡ number) × (pathOf (w .point) ≡ levels path)
+has-place index number path w e =
     let q = w .point in
-    let a = both (eqb (w .index) (r .index)) (isPoint (p .definition .number) (pathOf p) q) e in
-    let b = both (eqb (q .definition .number) (p .definition .number)) (isAt (pathOf p) q) (a .1) in
-    let c = both (eqb (q .level2) (p .level2)) (eqb (q .level3) (p .level3) && eqb (q .level4) (p .level4)) (b .1) in
-    let d = both (eqb (q .level3) (p .level3)) (eqb (q .level4) (p .level4)) (c .1) in
-    let two = eqb-true (q .level2) (p .level2) (c .0) in
-    let three = eqb-true (q .level3) (p .level3) (d .0) in
-    let four = eqb-true (q .level4) (p .level4) (d .1) in
-    let path : pathOf q ≡ pathOf p = λ k. two k ∷ three k ∷ four k ∷ [] in
-    (eqb-true (w .index) (r .index) (a .0), eqb-true (q .definition .number) (p .definition .number) (b .0), path)
+    let x : ℕ → ℕ = λ k. getD path k 0 in
+    let a = both (eqb (w .index) index) (isPoint number path q) e in
+    let b = both (eqb (q .definition .number) number) (isAt path q) (a .1) in
+    let c = both (eqb (q .level2) (x 0)) (eqb (q .level3) (x 1) && eqb (q .level4) (x 2)) (b .1) in
+    let d = both (eqb (q .level3) (x 1)) (eqb (q .level4) (x 2)) (c .1) in
+    let two = eqb-true (q .level2) (x 0) (c .0) in
+    let three = eqb-true (q .level3) (x 1) (d .0) in
+    let four = eqb-true (q .level4) (x 2) (d .1) in
+    (eqb-true (w .index) index (a .0), eqb-true (q .definition .number) number (b .0), λ k. two k ∷ three k ∷ four k ∷ [])
 
 module _ (catalog map : List ℕ) (rs : List Record) (headers : ℕ) (all : allRecords catalog map ≡ listed rs headers) where
   module _ (r w : Record) (i : In r rs) (j : In w rs) (index : w .index ≡ r .index) where
@@ -125,5 +122,5 @@ module _ (catalog map : List ℕ) (rs : List Record) (headers : ℕ) (all : allR
       go none e = clash (sym (own-place r) ∙ each-one (λ s. test s ≡ false) rs (none-found test rs e) r i)
       go (some w) e =
           let f = found-in test rs w e in
-          let h = has-place r w (f .1) in
+          let h = has-place (r .index) (r .point .definition .number) (pathOf (r .point)) w (f .1) in
           e ∙ ap some (one-record r w i (f .0) (h .0) (h .1) (h .2))

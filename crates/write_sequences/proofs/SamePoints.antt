@@ -1,35 +1,35 @@
 -- When two writes are to the same point, and which record a write names.
-use mathlib.Core.Path.{_≡_, refl, sym, subst, _∙_}
+use mathlib.Core.Path.{_≡_, refl, sym, ap, subst, _∙_}
 use mathlib.Core.Bool.{Bool, true, false, _&&_}
-use mathlib.Core.List.{List}
+use mathlib.Core.List.{[], _∷_}
 use Prim.Native.Nat.{ℕ}
 use borrow.Author.Tests.{eq-eqb, eqb-true}
 use lib.Dec.{eqb}
 use lib.ListN.{getD}
 use Rattle.lists.proofs.TestOutcomes.{both, clash, fails}
-use Rattle.layout.specs.Paths.{isAt, isPoint}
+use Rattle.layout.proofs.Depths.{levels}
 use Rattle.listing.specs.Listing.{Record}
 use Rattle.listing.specs.Finding.{isRecord}
+use Rattle.listed_records.proofs.OneRecord.{has-place}
 use Rattle.write_sequences.specs.Writes.{Write, samePoint}
 
--- The five numbers that name the point of a write agree.
+-- The numbers that name the point of a write agree: the index, the number and the three numbers of the path.
 pub record Agree (u v : Write) : Type 0 where
   pub index : u .index ≡ v .index
   pub number : u .number ≡ v .number
-  pub level2 : getD (u .path) 0 0 ≡ getD (v .path) 0 0
-  pub level3 : getD (u .path) 1 0 ≡ getD (v .path) 1 0
-  pub level4 : getD (u .path) 2 0 ≡ getD (v .path) 2 0
+  pub path : levels (u .path) ≡ levels (v .path)
 
 module _ (u v : Write) where
   -- Two writes are to the same point if these agree,
   pub same-if-agree : Agree u v → samePoint u v ≡ true
   same-if-agree a =
+      let at : (k : ℕ) → getD (levels (u .path)) k 0 ≡ getD (levels (v .path)) k 0 = λ k. ap (λ path. getD path k 0) (a .path) in
       simp (
         eq-eqb (u .index) (v .index) (a .index),
         eq-eqb (u .number) (v .number) (a .number),
-        eq-eqb (getD (u .path) 0 0) (getD (v .path) 0 0) (a .level2),
-        eq-eqb (getD (u .path) 1 0) (getD (v .path) 1 0) (a .level3),
-        eq-eqb (getD (u .path) 2 0) (getD (v .path) 2 0) (a .level4),
+        eq-eqb (getD (u .path) 0 0) (getD (v .path) 0 0) (at 0),
+        eq-eqb (getD (u .path) 1 0) (getD (v .path) 1 0) (at 1),
+        eq-eqb (getD (u .path) 2 0) (getD (v .path) 2 0) (at 2),
       )
 
   -- and only then.
@@ -42,69 +42,36 @@ module _ (u v : Write) where
       let b = both (eqb (u .number) (v .number)) path (a .1) in
       let c = both (eqb (x 0) (y 0)) (eqb (x 1) (y 1) && eqb (x 2) (y 2)) (b .1) in
       let d = both (eqb (x 1) (y 1)) (eqb (x 2) (y 2)) (c .1) in
+      let two = eqb-true (x 0) (y 0) (c .0) in
+      let three = eqb-true (x 1) (y 1) (d .0) in
+      let four = eqb-true (x 2) (y 2) (d .1) in
       record {
         index = eqb-true (u .index) (v .index) (a .0);
         number = eqb-true (u .number) (v .number) (b .0);
-        level2 = eqb-true (x 0) (y 0) (c .0);
-        level3 = eqb-true (x 1) (y 1) (d .0);
-        level4 = eqb-true (x 2) (y 2) (d .1);
+        path = λ k. two k ∷ three k ∷ four k ∷ [];
       }
 
 -- Each write is to its own point,
 pub itself : (w : Write) → samePoint w w ≡ true
-itself w = same-if-agree w w (record { index = refl; number = refl; level2 = refl; level3 = refl; level4 = refl })
+itself w = same-if-agree w w (record { index = refl; number = refl; path = refl })
 
 -- and to be to different points goes both ways.
 pub other-way : (u v : Write) → samePoint u v ≡ false → samePoint v u ≡ false
 other-way u v e = fails (samePoint v u) (λ t.
     let a = agree-if-same v u t in
-    sym (same-if-agree u v (record {
-      index = sym (a .index);
-      number = sym (a .number);
-      level2 = sym (a .level2);
-      level3 = sym (a .level3);
-      level4 = sym (a .level4);
-    })) ∙ e)
+    sym (same-if-agree u v (record { index = sym (a .index); number = sym (a .number); path = sym (a .path) })) ∙ e)
 
--- ---- The record that a write names
-
--- Is it the record of the write's point?
+-- Is it the record of the point that a write names?
 abbrev pub isNamed : Write → Record → Bool
 isNamed w = isRecord (w .index) (w .number) (w .path)
-
--- The numbers of that record.
-pub record Names (w : Write) (r : Record) : Type 0 where
-  pub index : r .index ≡ w .index
-  pub number : r .point .definition .number ≡ w .number
-  pub level2 : r .point .level2 ≡ getD (w .path) 0 0
-  pub level3 : r .point .level3 ≡ getD (w .path) 1 0
-  pub level4 : r .point .level4 ≡ getD (w .path) 2 0
-
-named : (w : Write) (r : Record) → isNamed w r ≡ true → Names w r
-named w r e =
-    let p = r .point in
-    let x : ℕ → ℕ = λ k. getD (w .path) k 0 in
-    let a = both (eqb (r .index) (w .index)) (isPoint (w .number) (w .path) p) e in
-    let b = both (eqb (p .definition .number) (w .number)) (isAt (w .path) p) (a .1) in
-    let c = both (eqb (p .level2) (x 0)) (eqb (p .level3) (x 1) && eqb (p .level4) (x 2)) (b .1) in
-    let d = both (eqb (p .level3) (x 1)) (eqb (p .level4) (x 2)) (c .1) in
-    record {
-      index = eqb-true (r .index) (w .index) (a .0);
-      number = eqb-true (p .definition .number) (w .number) (b .0);
-      level2 = eqb-true (p .level2) (x 0) (c .0);
-      level3 = eqb-true (p .level3) (x 1) (d .0);
-      level4 = eqb-true (p .level4) (x 2) (d .1);
-    }
 
 -- Writes to different points name different records.
 pub names-differ : (u v : Write) → samePoint u v ≡ false → (r s : Record) → isNamed u r ≡ true → isNamed v s ≡ true → s ≡ r → ⊥
 names-differ u v e r s a b q =
-    let x = named u r a in
-    let y = named v r (subst (λ z. isNamed v z ≡ true) q b) in
+    let x = has-place (u .index) (u .number) (u .path) r a in
+    let y = has-place (v .index) (v .number) (v .path) r (subst (λ z. isNamed v z ≡ true) q b) in
     clash (sym (same-if-agree u v (record {
-      index = sym (x .index) ∙ y .index;
-      number = sym (x .number) ∙ y .number;
-      level2 = sym (x .level2) ∙ y .level2;
-      level3 = sym (x .level3) ∙ y .level3;
-      level4 = sym (x .level4) ∙ y .level4;
+      index = sym (x .0) ∙ y .0;
+      number = sym (x .1) ∙ y .1;
+      path = sym (x .2) ∙ y .2;
     })) ∙ e)

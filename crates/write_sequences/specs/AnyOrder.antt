@@ -1,12 +1,12 @@
 -- The claim on the order of writes (document 02, card 3): if writes to the same point keep their order, the final map is the same in
 -- every order, and each write returns the same. Proof: `proofs/AnyOrder.antt`.
 use mathlib.Core.Path.{_≡_}
-use mathlib.Core.List.{List}
+use mathlib.Core.List.{List, map}
 use Prim.Native.Nat.{ℕ}
 use Rattle.lists.specs.Runs.{Answered}
 use Rattle.lists.specs.Orders.{picked, Rearranges}
 use Rattle.writing.specs.Writing.{Result}
-use Rattle.write_sequences.specs.Writes.{Write, samePoint, mapAfterWrites, writeResults}
+use Rattle.write_sequences.specs.Writes.{Write, samePoint, writeResult, mapAfterWrites, writeResults}
 
 -- An order in which the writes ws can be made: all their positions, with writes to the same point in the order of ws. (`other` is the
 -- write at a position past the end; an order has none.)
@@ -25,3 +25,7 @@ abbrev pub AnyOrder : Type 0
 AnyOrder =
     (catalog map : List ℕ) (other : Write) (ws : List Write) (order : List ℕ) → Allowed other ws order
     → EndsAlike catalog map other ws order
+
+-- Each write with what it returns if it is made alone, to `map` as it is.
+abbrev pub resultsAlone : List ℕ → List ℕ → List Write → List (Answered Write Result)
+resultsAlone catalog registers ws = map (λ w. record { item = w; answer = writeResult catalog registers w }) ws

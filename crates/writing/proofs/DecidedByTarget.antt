@@ -35,18 +35,24 @@ module _ (catalog map : List ℕ) (index number : ℕ) (path : List ℕ) (raw : 
       go Finding.nothing = refl
       go (Finding.found r) = refl
 
--- What a write returns depends on what finding returned and on the raw value, and on nothing else of the map.
+-- What writing to a target returns depends on its refusal only.
+pub same-refusal : (t s : Target) (raw : ℕ) (map map′ : List ℕ) → refusal t raw ≡ refusal s raw
+    → result (writingTo t raw map) ≡ result (writingTo s raw map′)
+same-refusal t s raw map map′ e =
+    go (refusal t raw) ∙ ap (λ o. result (by s o map′)) e
+  where
+    by : Target → Option ℕ → List ℕ → Answer
+    by t o m = elim o [ some n ↦ refused n 0 | none ↦ written (rewritten t raw m) ]
+
+    go : (o : Option ℕ) → result (by t o map) ≡ result (by s o map′)
+    go none = refl
+    go (some n) = refl
+
+-- So what a write returns depends on what finding returned and on the raw value, and on nothing else of the map.
 pub same-result : (f : Finding.Result) (raw : ℕ) (map map′ : List ℕ) → result (writingBy f raw map) ≡ result (writingBy f raw map′)
 same-result (Finding.refusedResult n place) raw map map′ = refl
 same-result Finding.nothingResult raw map map′ = refl
-same-result (Finding.foundResult t) raw map map′ = go (refusal t raw)
-  where
-    by : Option ℕ → List ℕ → Answer
-    by o m = elim o [ some n ↦ refused n 0 | none ↦ written (rewritten t raw m) ]
-
-    go : (o : Option ℕ) → result (by o map) ≡ result (by o map′)
-    go none = refl
-    go (some n) = refl
+same-result (Finding.foundResult t) raw map map′ = same-refusal t t raw map map′ refl
 
 -- ---- Writing to a target
 

@@ -177,7 +177,7 @@ module _ (catalog map : List ℕ) (before : List Record) (headers : ℕ) (all : 
         pointAfter = s .0;
         foundAfter = s .1;
         holds = h .holds;
-        address = s .2 .same .address;
+        same = s .2 .same;
         implemented = h .implemented;
         mandatory = h .mandatory;
         inRange = h .inRange;

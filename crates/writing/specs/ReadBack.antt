@@ -17,7 +17,7 @@ use Rattle.layout.specs.Reading.{topOf}
 use Rattle.listing.specs.Listing.{Record, listed, allRecords}
 use Rattle.listing.specs.Finding.{isRecord, targetOf}
 use Rattle.writing.specs.Writing.{refusal, rewritten}
-use Rattle.writing.specs.AfterWriting.{RecordAfter}
+use Rattle.writing.specs.AfterWriting.{OfSamePoint, RecordAfter}
 use Rattle.writing.specs.ScaleFactors.{IsFactor}
 
 -- The status and the scale of the point written; its record was w and is s. If the point takes its scale from a point, the record f
@@ -35,7 +35,7 @@ pub record ScaledBy (top : Content) (before after : List Record) (w s : Record) 
 
 -- What holds after an accepted write of `raw`, where `new` is the map after it, and `before` and `headers` are the records and headers
 -- of the map before it. `point` is the record of the point asked for, which is not refused. After: the same number of records and the
--- same headers, each record changed as `RecordAfter` says; the point asked for, at its address, has the value `raw`, and is neither
+-- same headers, each record changed as `RecordAfter` says; the record of the point asked for is of the same point and has the value `raw`, and is neither
 -- unimplemented nor out of range; its scale point, if it has one, gives its status and scale. All other registers stay.
 pub record ReadBack (catalog map : List ℕ) (before : List Record) (headers : ℕ) (index number : ℕ) (path : List ℕ) (raw : ℕ)
     (new : List ℕ) : Type 0 where
@@ -49,7 +49,7 @@ pub record ReadBack (catalog map : List ℕ) (before : List Record) (headers : �
   pub pointAfter : Record
   pub foundAfter : firstWith (isRecord index number path) after ≡ some pointAfter
   pub holds : pointAfter .point .raw ≡ raw
-  pub address : pointAfter .address ≡ point .address
+  pub same : OfSamePoint point pointAfter
   pub implemented : pointAfter .point .status ≡ 1 → ⊥
   pub mandatory : pointAfter .point .status ≡ 2 → ⊥
   pub inRange : pointAfter .point .status ≡ 5 → ⊥
