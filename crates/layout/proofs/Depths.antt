@@ -1,6 +1,6 @@
 -- The depth of a number in groups, and the instance numbers of a path that count at this depth.
 use mathlib.Core.Path.{_≡_, refl, sym, _∙_}
-use mathlib.Core.Bool.{Bool, true, false}
+use mathlib.Core.Bool.{Bool, true, false, _&&_}
 use mathlib.Core.List.{List, [], _∷_}
 use Prim.Native.Nat.{ℕ, zero, suc, _+_, _-_, _≤_, _<_}
 use native.Mathlib.Omega.{arith}
@@ -29,6 +29,16 @@ three-numbers (x ∷ []) l = absurd (omega (arith, l))
 three-numbers (x ∷ y ∷ []) l = absurd (omega (arith, l))
 three-numbers (x ∷ y ∷ z ∷ []) l = refl
 three-numbers (x ∷ y ∷ z ∷ u ∷ us) l = absurd (omega (arith, l))
+
+-- Three numbers that agree one by one agree as a list.
+pub same-three : (a b c x y z : ℕ) → eqb a x && (eqb b y && eqb c z) ≡ true → a ∷ b ∷ c ∷ [] ≡ x ∷ y ∷ z ∷ []
+same-three a b c x y z e =
+    let f = both (eqb a x) (eqb b y && eqb c z) e in
+    let g = both (eqb b y) (eqb c z) (f .1) in
+    let one = eqb-true a x (f .0) in
+    let two = eqb-true b y (g .0) in
+    let three = eqb-true c z (g .1) in
+    λ k. one k ∷ two k ∷ three k ∷ []
 
 -- A path agrees with itself.
 pub agree-itself : (n : ℕ) (path : List ℕ) → agreeTo n path path ≡ true

@@ -1,7 +1,7 @@
 -- The places of the points of one model: each is a point of the definition, is in the body, and overlaps no other.
-use mathlib.Core.Path.{_≡_, refl, sym, ap, subst, _∙_}
+use mathlib.Core.Path.{_≡_, refl, sym, ap, _∙_}
 use mathlib.Core.Bool.{true, false}
-use mathlib.Core.List.{List, [], _∷_, append-nil}
+use mathlib.Core.List.{List, [], _∷_}
 use mathlib.Core.Logic.{_⊎_, ⊎-elim}
 use Prim.Native.Nat.{ℕ, _+_, _≤_}
 use native.Mathlib.Omega.{arith}
@@ -24,7 +24,7 @@ use Rattle.layout.specs.Tiling.{lowerPoints, definedPoints, PointsTile, 
 use Rattle.layout.specs.Paths.{depthIn, agreeTo, pathOf}
 use Rattle.layout.proofs.LeftOutPad.{each-but-last}
 use Rattle.layout.proofs.BodyTiling.{read-tiled}
-use Rattle.layout.proofs.TiledApart.{inside, tiles-rise}
+use Rattle.layout.proofs.TiledApart.{inside, tiling-rises}
 use Rattle.layout.proofs.TiledApart as tiled
 use Rattle.layout.proofs.Readings.{pointsLeft, by-reading}
 use Rattle.layout.proofs.Places.{Place}
@@ -181,9 +181,7 @@ module _ (d : Definition) (sound : SoundDefinition d) (body : List ℕ) (ps : Li
 
   -- so they are in the order of their offsets,
   points-rise : Rises (λ p. p .offset) (λ p. p .definition .size) 0 ps
-  points-rise =
-      subst (Rises (λ p. p .offset) (λ p. p .definition .size) 0) (append-nil ps)
-      (tiles-rise (λ p. p .offset) (λ p. p .definition .size) 0 (length body) ps [] points-tile tt)
+  points-rise = tiling-rises (λ p. p .offset) (λ p. p .definition .size) 0 (length body) ps points-tile
 
   -- each is in the body,
   pub point-inside : (p : ModelPoint) → In p ps → p .offset + p .definition .size ≤ length body
@@ -193,20 +191,14 @@ module _ (d : Definition) (sound : SoundDefinition d) (body : List ℕ) (ps : Li
   pub point-places : (w : ModelPoint) → In w ps → Each (Place (d .top) w) ps
   point-places w i = each-any (Place (d .top) w) ps place
     where
-      -- Each takes at least one register.
-      sized : (p : ModelPoint) → In p ps → 1 ≤ p .definition .size
-      sized p j = inside (λ p. p .offset) (λ p. p .definition .size) 0 (length body) ps points-tile p j .1
-
       -- The place of each compared with w, by the order of the two and by their addresses.
       place : (p : ModelPoint) → In p ps → Place (d .top) w p
       place p j =
-          let order = tiled.apart (λ p. p .offset) (λ p. p .definition .size) 0 ps points-rise w p i j in
-          let m = sized p j in
-          let k = sized w i in
           record {
-            same = λ e.
-                ⊎-elim (λ q. q) (⊎-elim (λ b. absurd (omega (arith, b, e, m))) (λ b. absurd (omega (arith, b, e, k)))) order;
-            apart = λ e. ⊎-elim (λ q. absurd (e (ap (λ r. r .offset) q))) (λ b. b) order;
+            same = tiled.same-start (λ p. p .offset) (λ p. p .definition .size) 0 ps points-rise w p i j;
+            apart = λ e.
+                ⊎-elim (λ q. absurd (e (ap (λ r. r .offset) q))) (λ b. b)
+                (tiled.apart (λ p. p .offset) (λ p. p .definition .size) 0 ps points-rise w p i j);
             found = λ e a.
                 point-at p j .1
                 ∙ ap (λ n. addressed .address n (pathOf p)) e

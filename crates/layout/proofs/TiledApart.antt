@@ -1,8 +1,8 @@
 -- What tiling means for one element and for two: no element is outside the bounds, no two overlap, and they are in order. The last two
 -- hold of all elements that rise.
-use mathlib.Core.Path.{_≡_, refl}
-use mathlib.Core.List.{List, [], _∷_, _++_}
-use mathlib.Core.Logic.{_⊎_, inl, inr}
+use mathlib.Core.Path.{_≡_, refl, subst}
+use mathlib.Core.List.{List, [], _∷_, _++_, append-nil}
+use mathlib.Core.Logic.{_⊎_, inl, inr, ⊎-elim}
 use Prim.Native.Nat.{ℕ, _+_, _≤_}
 use native.Mathlib.Omega.{arith}
 use lib.ListN.{length}
@@ -42,6 +42,10 @@ module _ {A : Type 0} (at size : A → ℕ) where
       let ends : at x + size x ≤ from + size x = omega (arith, t .0) in
       (omega (arith, t .0), t .1, rises-lower (at x + size x) (from + size x) (xs ++ ys) ends rest)
 
+  -- So a tiling alone rises.
+  pub tiling-rises : (from to : ℕ) (xs : List A) → Tiles at size from to xs → Rises at size from xs
+  tiling-rises from to xs t = subst (Rises at size from) (append-nil xs) (tiles-rise from to xs [] t tt)
+
   -- Elements that rise begin at `from` or later, and each takes at least one register.
   pub above : (from : ℕ) (xs : List A) → Rises at size from xs → (x : A) → In x xs → (from ≤ at x) × (1 ≤ size x)
   above from (y ∷ xs) r x first = (r .0, r .1)
@@ -54,6 +58,14 @@ module _ {A : Type 0} (at size : A → ℕ) where
   apart from (z ∷ xs) r x y first (later j) = inr (inr (above (at z + size z) xs (r .2) y j .0))
   apart from (z ∷ xs) r x y (later i) first = inr (inl (above (at z + size z) xs (r .2) x i .0))
   apart from (z ∷ xs) r x y (later i) (later j) = apart (at z + size z) xs (r .2) x y i j
+
+  -- Elements that begin at the same address are the same.
+  pub same-start : (from : ℕ) (xs : List A) → Rises at size from xs → (x y : A) → In x xs → In y xs → at y ≡ at x → y ≡ x
+  same-start from xs r x y i j e =
+      let a = above from xs r x i .1 in
+      let b = above from xs r y j .1 in
+      ⊎-elim (λ q. q) (⊎-elim (λ (h : at y + size y ≤ at x). absurd (omega (arith, h, e, b)))
+      (λ (h : at x + size x ≤ at y). absurd (omega (arith, h, e, a)))) (apart from xs r x y i j)
 
   -- The elements are in the order of their addresses.
   pub in-order : (from : ℕ) (preceding : List A) (x : A) (between : List A) (y : A) (rest : List A)

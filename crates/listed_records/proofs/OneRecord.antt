@@ -1,7 +1,7 @@
 -- Index, number and path name one record: no two records have the same, and each record is found by its own.
 use mathlib.Core.Path.{_≡_, refl, sym, ap, subst, _∙_}
-use mathlib.Core.Bool.{Bool, true, false, _&&_}
-use mathlib.Core.List.{List, [], _∷_}
+use mathlib.Core.Bool.{Bool, true, false}
+use mathlib.Core.List.{List, _∷_}
 use mathlib.Core.Option.{Option, none, some}
 use Prim.Native.Nat.{ℕ, _+_}
 use borrow.Author.Tests.{eq-eqb, eqb-true}
@@ -18,7 +18,7 @@ use Rattle.register_map.specs.Scan.{Model, scan, totalSize}
 use Rattle.layout.specs.Points.{ModelPoint}
 use Rattle.layout.specs.Reading.{reading, points}
 use Rattle.layout.specs.Paths.{depthIn, agreeTo, pathOf}
-use Rattle.layout.proofs.Depths.{levels, agree-itself}
+use Rattle.layout.proofs.Depths.{levels, same-three, agree-itself}
 use Rattle.layout.proofs.Places.{Place}
 use Rattle.layout.proofs.PointPlaces.{point-places}
 use Rattle.listing.specs.Listing.{Record, allRecords, listed}
@@ -42,15 +42,12 @@ pub has-place : (index number : ℕ) (path : List ℕ) (w : Record) → isRecord
     → (w .index ≡ index) × (w .point .definition .number ≡ number) × (pathOf (w .point) ≡ levels path)
 has-place index number path w e =
     let q = w .point in
-    let x : ℕ → ℕ = λ k. getD path k 0 in
     let a = both (eqb (w .index) index) (isPoint number path q) e in
-    let b = both (eqb (q .definition .number) number) (isAt path q) (a .1) in
-    let c = both (eqb (q .level2) (x 0)) (eqb (q .level3) (x 1) && eqb (q .level4) (x 2)) (b .1) in
-    let d = both (eqb (q .level3) (x 1)) (eqb (q .level4) (x 2)) (c .1) in
-    let two = eqb-true (q .level2) (x 0) (c .0) in
-    let three = eqb-true (q .level3) (x 1) (d .0) in
-    let four = eqb-true (q .level4) (x 2) (d .1) in
-    (eqb-true (w .index) index (a .0), eqb-true (q .definition .number) number (b .0), λ k. two k ∷ three k ∷ four k ∷ [])
+    let b = both (eqb (q .definition .number) number) (isAt path q) (a .1) in (
+      eqb-true (w .index) index (a .0),
+      eqb-true (q .definition .number) number (b .0),
+      same-three (q .level2) (q .level3) (q .level4) (getD path 0 0) (getD path 1 0) (getD path 2 0) (b .1),
+    )
 
 module _ (catalog map : List ℕ) (rs : List Record) (headers : ℕ) (all : allRecords catalog map ≡ listed rs headers) where
   module _ (r w : Record) (i : In r rs) (j : In w rs) (index : w .index ≡ r .index) where

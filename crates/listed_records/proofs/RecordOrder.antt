@@ -1,7 +1,7 @@
 -- The records of a map rise: they are in the order of their addresses, and no two overlap.
-use mathlib.Core.Path.{_≡_, refl, sym, ap, subst}
+use mathlib.Core.Path.{_≡_, refl, sym, subst}
 use mathlib.Core.List.{List, [], _∷_, _++_, map}
-use mathlib.Core.Logic.{_⊎_, ⊎-elim}
+use mathlib.Core.Logic.{⊎-elim}
 use Prim.Native.Nat.{ℕ, _+_, _≤_}
 use native.Mathlib.Omega.{arith}
 use lib.ListN.{length}
@@ -12,7 +12,7 @@ use Rattle.layout.specs.Points.{ModelPoint}
 use Rattle.layout.specs.Reading.{Reading, unknown, faulty, points, reading}
 use Rattle.layout.specs.InternalWalks.{pointsOf}
 use Rattle.layout.specs.Tiling.{PointsTile}
-use Rattle.layout.proofs.TiledApart.{rises-lower, tiles-rise, above, apart}
+use Rattle.layout.proofs.TiledApart.{rises-lower, tiles-rise, above, apart, same-start}
 use Rattle.layout.proofs.PointsInside.{accepted-tiled}
 use Rattle.listing.specs.Listing.{Record, recordOf, listed, walk, allRecords, listing}
 use Rattle.listing.proofs.ListingCases.{records-walk, walk-records}
@@ -69,14 +69,8 @@ module _ (catalog map : List ℕ) (rs : List Record) (headers : ℕ) (all : allR
   records-apart r w i j n = ⊎-elim (λ e. absurd (n e)) (λ a. a) (apart address size 4 rs records-rise r w i j)
 
   -- Records with the same address are the same.
-  pub same-address : (r w : Record) → In r rs → In w rs → w .address ≡ r .address → w ≡ r
-  same-address r w i j e =
-      let a = record-sized r i in
-      let b = record-sized w j in
-      ⊎-elim (λ q. q)
-      (⊎-elim (λ (h : w .address + w .point .definition .size ≤ r .address). absurd (omega (arith, h, e, b)))
-      (λ (h : r .address + r .point .definition .size ≤ w .address). absurd (omega (arith, h, e, a))))
-      (apart address size 4 rs records-rise r w i j)
+  pub one-address : (r w : Record) → In r rs → In w rs → w .address ≡ r .address → w ≡ r
+  one-address = same-start address size 4 rs records-rise
 
 -- The records that a listing shows rise.
 pub listed-rise : (catalog registers : List ℕ) (capacity : ℕ) (rs : List Record) (headers : ℕ)

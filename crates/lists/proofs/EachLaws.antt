@@ -1,8 +1,8 @@
--- Laws of `Each`: a fact about each element of a list.
+-- Laws of `Each` and `Ordered`: a fact about each element of a list, and about each two of them in their order.
 use mathlib.Core.List.{List, [], _∷_, _++_, map}
 use Prim.Native.Nat.{ℕ, zero, suc}
 use lib.ListN.{take, drop}
-use Rattle.lists.specs.Each.{Each}
+use Rattle.lists.specs.Each.{Each, Ordered}
 use Rattle.lists.specs.Members.{In, first, later}
 
 -- A fact that follows from P for every x holds of each element.
@@ -55,3 +55,8 @@ each-map P f (x ∷ xs) e = (e .0, each-map P f xs (e .1))
 pub each-all : {A : Type 0} (P : A → Type 0) → ((x : A) → P x) → (xs : List A) → Each P xs
 each-all P f [] = tt
 each-all P f (x ∷ xs) = (f x, each-all P f xs)
+
+-- A relation that follows from R holds of each element and every element after it.
+pub ordered-implied : {A : Type 0} (R Q : A → A → Type 0) → ((x y : A) → R x y → Q x y) → (xs : List A) → Ordered R xs → Ordered Q xs
+ordered-implied R Q f [] o = tt
+ordered-implied R Q f (x ∷ xs) o = (each-implied (R x) (Q x) (f x) xs (o .0), ordered-implied R Q f xs (o .1))

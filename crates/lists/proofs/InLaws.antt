@@ -28,6 +28,11 @@ module _ {A : Type 0} (x : A) where
   in-cases y xs first = inl refl
   in-cases y xs (later i) = inr i
 
+  -- A member that is not the first element is a later one.
+  pub in-later : (y : A) (xs : List A) → In x (y ∷ xs) → (x ≡ y → ⊥) → In x xs
+  in-later y xs first n = absurd (n refl)
+  in-later y xs (later i) n = i
+
 -- Each element of a list is a member of it.
 pub all-in : {A : Type 0} (xs : List A) → Each (λ y. In y xs) xs
 all-in [] = tt

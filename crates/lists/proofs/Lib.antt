@@ -10,6 +10,7 @@ pub mod FirstFound
 pub mod SelectedLaws
 pub mod PairwiseLaws
 pub mod StoreLaws
+pub mod MapLaws
 -- Runs
 pub mod Positions
 pub mod Rearranging

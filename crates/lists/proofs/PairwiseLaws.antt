@@ -1,14 +1,14 @@
 -- Laws of lists whose elements are related pair by pair.
-use mathlib.Core.Path.{_≡_, refl, sym, ap, _∙_}
+use mathlib.Core.Path.{_≡_, refl, _∙_}
 use mathlib.Core.Bool.{Bool, true, false}
 use mathlib.Core.List.{List, [], _∷_, _++_, map}
-use mathlib.Core.Option.{Option, some}
+use mathlib.Core.Option.{Option, none, some}
 use native.Mathlib.Omega.{arith}
 use lib.ListN.{length}
 use Rattle.lists.specs.Each.{Pairwise, Each}
 use Rattle.lists.specs.Members.{In, first, later}
 use Rattle.lists.specs.Tests.{firstWith}
-use Rattle.lists.proofs.FirstFound.{not-none, found-here, found-later}
+use Rattle.lists.proofs.FirstFound.{found-here, found-later}
 
 module _ {A : Type 0} (R : A → A → Type 0) where
   -- Two such pairs of lists, appended.
@@ -39,41 +39,55 @@ module _ {A : Type 0} (R : A → A → Type 0) where
   pairwise-at (f ∷ preceding) (g ∷ preceding′) x y following following′ e p =
       pairwise-at preceding preceding′ x y following following′ (omega arith) (p .1)
 
-  -- If a test has the same outcome on related elements, the first elements that it finds are related.
-  pub pairwise-found : (test : A → Bool) → ((x y : A) → R x y → test y ≡ test x) → (xs ys : List A) → Pairwise R xs ys
-      → (w : A) → firstWith test xs ≡ some w → (s : A) × (firstWith test ys ≡ some s) × R w s
-  unfolding firstWith
-  pairwise-found test same [] ys p w e = not-none e
-  pairwise-found test same (x ∷ xs) [] p w e = absurd p
-  pairwise-found test same (x ∷ xs) (y ∷ ys) p w e = go (test x) refl (pairwise-found test same xs ys (p .1) w)
-    where
-      go : (b : Bool) → test x ≡ b
-          → (firstWith test xs ≡ some w → (s : A) × (firstWith test ys ≡ some s) × R w s)
-          → (s : A) × (firstWith test (y ∷ ys) ≡ some s) × R w s
-      go true t rest =
-          let here : x ≡ w = cc (found-here test x xs t) in
-          (y, found-here test y ys (same x y (p .0) ∙ t), rw (← here) (p .0))
-      go false t rest =
-          let r = rest (sym (found-later test x xs t) ∙ e) in
-          (r .0, found-later test y ys (same x y (p .0) ∙ t) ∙ r .1, r .2)
+  -- What a test finds in two lists: a member of xs and an element related to it, or nothing in both.
+  abbrev BothFound : (A → Bool) → List A → Option A → Option A → Type 0
+  BothFound test xs none none = Unit {0}
+  BothFound test xs none (some y) = ⊥
+  BothFound test xs (some x) none = ⊥
+  BothFound test xs (some x) (some y) = (In x xs) × (test x ≡ true) × R x y
 
-  -- If moreover a part f of the related elements for which it holds is the same, that part of what it finds is the same, also if it
-  -- finds nothing.
-  pub pairwise-first : (test : A → Bool) → ((x y : A) → R x y → test y ≡ test x) → {B : Type 0} (f : Option A → B) (xs ys : List A)
-      → ((x y : A) → In x xs → R x y → test x ≡ true → f (some y) ≡ f (some x)) → Pairwise R xs ys
-      → f (firstWith test ys) ≡ f (firstWith test xs)
-  pairwise-first test same f [] [] part p = refl
-  pairwise-first test same f [] (y ∷ ys) part p = absurd p
-  pairwise-first test same f (x ∷ xs) [] part p = absurd p
-  pairwise-first test same f (x ∷ xs) (y ∷ ys) part p =
-      go (test x) refl (pairwise-first test same f xs ys (λ u v i. part u v (later i)) (p .1))
-    where
-      go : (b : Bool) → test x ≡ b → f (firstWith test ys) ≡ f (firstWith test xs)
-          → f (firstWith test (y ∷ ys)) ≡ f (firstWith test (x ∷ xs))
-      go true t rest =
-          ap f (found-here test y ys (same x y (p .0) ∙ t)) ∙ part x y first (p .0) t ∙ ap f (sym (found-here test x xs t))
-      go false t rest =
-          ap f (found-later test y ys (same x y (p .0) ∙ t)) ∙ rest ∙ ap f (sym (found-later test x xs t))
+  module _ (test : A → Bool) (same : (x y : A) → R x y → test y ≡ test x) where
+    -- If a test has the same outcome on related elements, it finds related elements, or nothing in both lists.
+    both-found : (xs ys : List A) → Pairwise R xs ys → BothFound test xs (firstWith test xs) (firstWith test ys)
+    unfolding firstWith
+    both-found [] [] p = tt
+    both-found [] (y ∷ ys) p = absurd p
+    both-found (x ∷ xs) [] p = absurd p
+    both-found (x ∷ xs) (y ∷ ys) p = go (test x) refl (firstWith test xs) (firstWith test ys) refl refl (both-found xs ys (p .1))
+      where
+        more : (o q : Option A) → BothFound test xs o q → BothFound test (x ∷ xs) o q
+        more none none f = tt
+        more none (some v) f = absurd f
+        more (some u) none f = absurd f
+        more (some u) (some v) f = (later (f .0), f .1, f .2)
+
+        go : (b : Bool) → test x ≡ b → (o q : Option A) → firstWith test xs ≡ o → firstWith test ys ≡ q → BothFound test xs o q
+            → BothFound test (x ∷ xs) (firstWith test (x ∷ xs)) (firstWith test (y ∷ ys))
+        go true t o q e f rest =
+            rw (found-here test x xs t, found-here test y ys (same x y (p .0) ∙ t)) (first, t, p .0)
+        go false t o q e f rest =
+            rw (found-later test x xs t, found-later test y ys (same x y (p .0) ∙ t), e, f) (more o q rest)
+
+    -- So an element that it finds in the first list is related to what it finds in the second,
+    pub pairwise-found : (xs ys : List A) → Pairwise R xs ys → (w : A) → firstWith test xs ≡ some w
+        → (s : A) × (firstWith test ys ≡ some s) × R w s
+    pairwise-found xs ys p w e = go (firstWith test ys) refl (rw e at (both-found xs ys p))
+      where
+        go : (o : Option A) → firstWith test ys ≡ o → BothFound test xs (some w) o → (s : A) × (firstWith test ys ≡ some s) × R w s
+        go none f b = absurd b
+        go (some s) f b = (s, f, b .2)
+
+    -- and a part of what it finds is the same in both, if it is the same in related elements.
+    pub pairwise-same-part : {B : Type 0} (part : Option A → B) (xs ys : List A)
+        → ((x y : A) → In x xs → R x y → test x ≡ true → part (some y) ≡ part (some x)) → Pairwise R xs ys
+        → part (firstWith test ys) ≡ part (firstWith test xs)
+    pairwise-same-part part xs ys same-part p = go (firstWith test xs) (firstWith test ys) (both-found xs ys p)
+      where
+        go : (o q : Option A) → BothFound test xs o q → part q ≡ part o
+        go none none b = refl
+        go none (some y) b = absurd b
+        go (some x) none b = absurd b
+        go (some x) (some y) b = same-part x y (b .0) (b .2) (b .1)
 
   -- A relation that follows from R for each pair holds pair by pair.
   pub pairwise-implied : (Q : A → A → Type 0) (xs ys : List A) → ((x y : A) → In x xs → R x y → Q x y) → Pairwise R xs ys

@@ -1,14 +1,15 @@
 -- The positions of a list, and rising lists of them: where a member is, and the list without it.
 use mathlib.Core.Path.{_≡_, refl, sym, ap, subst}
 use mathlib.Core.List.{List, [], _∷_, _++_, map}
-use mathlib.Core.Logic.{_⊎_, inl, inr, ⊎-elim}
+use mathlib.Core.Logic.{⊎-elim}
 use Prim.Native.Nat.{ℕ, zero, suc, _+_, _≤_, _<_}
 use native.Mathlib.Omega.{arith}
-use lib.ListN.{length, getD}
-use Rattle.lists.specs.Each.{Each}
+use lib.ListN.{length, getD, List·getD-map}
+use Rattle.lists.specs.Each.{Each, Ordered}
 use Rattle.lists.specs.Members.{In, first, later}
+use Rattle.lists.specs.Orders.{picked}
 use Rattle.lists.proofs.EachLaws.{each-one, each-any}
-use Rattle.lists.proofs.InLaws.{in-cases, not-in-none}
+use Rattle.lists.proofs.InLaws.{in-cases, in-later, not-in-none}
 
 -- ---- Positions
 
@@ -22,7 +23,7 @@ pub positions-length : (n k : ℕ) → length (positionsFrom n k) ≡ n
 positions-length zero k = refl
 positions-length (suc n) k = ap suc (positions-length n (suc k))
 
--- k and above and below k + n.
+-- each from k on and below k + n.
 pub positions-within : (n k i : ℕ) → In i (positionsFrom n k) → (k ≤ i) × (i < k + n)
 positions-within zero k i m = not-in-none i [] refl m
 positions-within (suc n) k i m =
@@ -30,7 +31,7 @@ positions-within (suc n) k i m =
     (λ j. let r = positions-within n (suc k) i j in let a = r .0 in let b = r .1 in (omega arith, omega arith))
     (in-cases i k (positionsFrom n (suc k)) m)
 
--- Each position from k on and below k + n is one of them.
+-- Each such position is one of them.
 pub in-positions : (n k i : ℕ) → i < n → In (k + i) (positionsFrom n k)
 in-positions zero k i h = absurd (omega arith)
 in-positions (suc n) k zero h =
@@ -39,7 +40,7 @@ in-positions (suc n) k (suc i) h =
     let e : suc k + i ≡ k + suc i = omega arith in
     later (subst (λ j. In j (positionsFrom n (suc k))) e (in-positions n (suc k) i (omega arith)))
 
--- A function that gives the element of xs at each position, from k on, gives the list at all positions.
+-- A function that gives the elements of xs, the first of them at k, gives xs at all positions from k on.
 pub tabulated : {A : Type 0} (other : A) (f : ℕ → A) (xs : List A) (k : ℕ)
     → ((i : ℕ) → i < length xs → f (k + i) ≡ getD xs i other) → map f (positionsFrom (length xs) k) ≡ xs
 tabulated other f [] k e = refl
@@ -50,12 +51,25 @@ tabulated other f (x ∷ xs) k e =
     rw q at (e (suc i) (omega arith))) in
     λ t. here t ∷ rest t
 
+-- The elements at all positions are the list.
+pub all-picked : {A : Type 0} (other : A) (xs : List A) → picked other xs (positionsFrom (length xs) 0) ≡ xs
+all-picked other xs =
+    tabulated other (λ i. getD xs i other) xs 0 (λ i h. let e : 0 + i ≡ i = omega arith in ap (λ j. getD xs j other) e)
+
+-- A part of each of the elements at some positions.
+pub map-picked : {A B : Type 0} (f : A → B) (other : A) (xs : List A) (order : List ℕ)
+    → map f (picked other xs order) ≡ picked (f other) (map f xs) order
+map-picked f other xs [] = refl
+map-picked f other xs (i ∷ order) =
+    let head = sym (List·getD-map f xs i other) in
+    let tail = map-picked f other xs order in
+    λ k. head k ∷ tail k
+
 -- ---- Rising positions
 
 -- Each position is lower than those after it.
 abbrev pub Rising : List ℕ → Type 0
-Rising [] = Unit {0}
-Rising (i ∷ is) = Each (λ j. i < j) is × Rising is
+Rising = Ordered (λ i j. i < j)
 
 -- The positions from k on rise.
 pub positions-rise : (n k : ℕ) → Rising (positionsFrom n k)
@@ -65,7 +79,8 @@ positions-rise (suc n) k = (
   positions-rise n (suc k),
 )
 
--- Position i in a rising list: those before it are lower. The list without it rises, and its members are those of the whole list but i.
+-- Where position i is in the rising list `is`: the positions before it are lower. Without i the list rises, and has all its other
+-- members.
 pub record Located (i : ℕ) (is : List ℕ) : Type 0 where
   pub preceding : List ℕ
   pub following : List ℕ
@@ -84,7 +99,7 @@ located i (j ∷ is) r first =
       splits = refl;
       lower = tt;
       rises = r .1;
-      kept = λ k m n. ⊎-elim (λ (e : k ≡ i). absurd (n e)) (λ o. o) (in-cases k i is m);
+      kept = λ k m n. in-later k i is m n;
       others = λ k m. let h = each-one (λ j. i < j) is (r .0) k m in (later m, λ e. omega arith);
     }
 located i (j ∷ is) r (later m) =

@@ -7,18 +7,13 @@ use native.Mathlib.Omega.{arith}
 use borrow.Author.Tests.{eqb-true, ltb-true}
 use lib.Dec.{eqb, ltb}
 use lib.ListN.{length, getD}
-use Rattle.lists.specs.Each.{Each}
 use Rattle.lists.specs.Members.{In, first, later, among}
 use Rattle.lists.specs.Tests.{every}
 use Rattle.lists.specs.Orders.{KeepsOrder, Rearranges}
 use Rattle.lists.proofs.TestOutcomes.{clash, both}
 use Rattle.lists.proofs.EachLaws.{each-implied, each-one}
+use Rattle.lists.proofs.EveryLaws.{every-true}
 use Rattle.lists.proofs.Positions.{positionsFrom, in-positions}
-
--- If a test holds of every element, it holds of each.
-each-true : {A : Type 0} (test : A → Bool) (xs : List A) → every test xs ≡ true → Each (λ x. test x ≡ true) xs
-each-true test [] e = tt
-each-true test (x ∷ xs) e = let b = both (test x) (every test xs) e in (b .0, each-true test xs (b .1))
 
 -- A number that is among others is a member.
 among-in : (n : ℕ) (ns : List ℕ) → among n ns ≡ true → In n ns
@@ -30,7 +25,7 @@ among-in n (m ∷ ns) e = go (eqb n m) refl (among-in n ns)
     go false t rest = later (rest (sym (ap (λ b. b || among n ns) t) ∙ e))
 
 module _ {A : Type 0} (same : A → A → Bool) (other : A) (xs : List A) where
-  -- Does position i come before j only if it is lower, or if their elements differ?
+  -- May position i come before j: is it lower, or do their elements differ?
   abbrev mayPrecede : ℕ → ℕ → Bool
   mayPrecede i j = not (same (getD xs i other) (getD xs j other)) || ltb i j
 
@@ -45,19 +40,21 @@ module _ {A : Type 0} (same : A → A → Bool) (other : A) (xs : List A) where
       every (λ i. ltb i (length xs)) order
       && (every (λ i. among i order) (positionsFrom (length xs) 0) && keepsOrder order)
 
+  -- If it may and their elements are the same, it is lower.
   lower : (i j : ℕ) → mayPrecede i j ≡ true → same (getD xs i other) (getD xs j other) ≡ true → i < j
   lower i j e t = ltb-true i j (sym (ap (λ b. not b || ltb i j) t) ∙ e)
 
+  -- If the test for an order holds, the order is kept.
   keeps-order : (order : List ℕ) → keepsOrder order ≡ true → KeepsOrder same other xs order
   keeps-order [] e = tt
   keeps-order (i ∷ order) e =
       let b = both (every (mayPrecede i) order) (keepsOrder order) e in (
         each-implied (λ j. mayPrecede i j ≡ true) (λ j. same (getD xs i other) (getD xs j other) ≡ true → i < j) (lower i) order
-            (each-true (mayPrecede i) order (b .0)),
+            (every-true (mayPrecede i) order (b .0)),
         keeps-order order (b .1),
       )
 
-  -- If the test holds, it does.
+  -- An order for which the test holds rearranges the list.
   pub tested : (order : List ℕ) → isRearrangement order ≡ true → Rearranges same other xs order
   tested order e =
       let n = length xs in
@@ -66,11 +63,11 @@ module _ {A : Type 0} (same : A → A → Bool) (other : A) (xs : List A) where
       let b = both all (keepsOrder order) (a .1) in
       record {
         positions = each-implied (λ i. ltb i n ≡ true) (λ i. i < n) (λ i t. ltb-true i n t) order
-            (each-true (λ i. ltb i n) order (a .0));
+            (every-true (λ i. ltb i n) order (a .0));
         all = λ i h.
             let zero : 0 + i ≡ i = omega arith in
             among-in i order (each-one (λ k. among k order ≡ true) (positionsFrom n 0)
-            (each-true (λ k. among k order) (positionsFrom n 0) (b .0)) i
+            (every-true (λ k. among k order) (positionsFrom n 0) (b .0)) i
             (subst (λ k. In k (positionsFrom n 0)) zero (in-positions n 0 i h)));
         keeps = keeps-order order (b .1);
       }

@@ -1,21 +1,25 @@
--- A run and its orders, computed from the definitions: an adding machine that shows the sum before each number is added.
+-- A run and its orders, computed from the definitions: digits are appended to a number.
 use mathlib.Core.Path.{_≡_, refl}
-use mathlib.Core.List.{List, [], _∷_}
-use Prim.Native.Nat.{ℕ, _+_}
-use Rattle.lists.specs.Runs.{stateAfter, Answered, answered}
+use mathlib.Core.List.{[], _∷_}
+use Prim.Native.Nat.{ℕ, _+_, _*_}
+use Rattle.lists.specs.Runs.{stateAfter, Handled, handled}
 use Rattle.lists.specs.Orders.{picked}
 
--- A number and the sum that was shown for it.
-abbrev shows : ℕ → ℕ → Answered ℕ ℕ
-shows number sum = record { item = number; answer = sum }
+-- The number with one more digit.
+abbrev append : ℕ → ℕ → ℕ
+append number digit = number * 10 + digit
 
--- The machine adds 2, 3 and 5. The answer to each is the sum before it.
-pub sums : (stateAfter _+_ 0 (2 ∷ 3 ∷ 5 ∷ []) ≡ 10)
-    × (answered _+_ (λ sum number. sum) 0 (2 ∷ 3 ∷ 5 ∷ []) ≡ shows 2 0 ∷ shows 3 2 ∷ shows 5 5 ∷ [])
-unfolding stateAfter answered
-sums = (refl, refl)
+-- A digit and the number before it was appended.
+abbrev appendedTo : ℕ → ℕ → Handled ℕ ℕ
+appendedTo number digit = record { item = digit; result = number }
 
--- The same numbers in the order of the positions 2, 0, 1. A position past the end gives the other number.
-pub picked-numbers : (picked {A = ℕ} 0 (2 ∷ 3 ∷ 5 ∷ []) (2 ∷ 0 ∷ 1 ∷ []) ≡ 5 ∷ 2 ∷ 3 ∷ [])
+-- The digits 2, 3 and 5 are appended to 0, the first of them first. The result of each is the number before it.
+pub digits : (stateAfter append 0 (2 ∷ 3 ∷ 5 ∷ []) ≡ 235)
+    × (handled append (λ number digit. number) 0 (2 ∷ 3 ∷ 5 ∷ []) ≡ appendedTo 0 2 ∷ appendedTo 2 3 ∷ appendedTo 23 5 ∷ [])
+unfolding stateAfter handled
+digits = (refl, refl)
+
+-- The same digits at the positions 2, 0, 1. A position past the end gives the other number.
+pub picked-digits : (picked {A = ℕ} 0 (2 ∷ 3 ∷ 5 ∷ []) (2 ∷ 0 ∷ 1 ∷ []) ≡ 5 ∷ 2 ∷ 3 ∷ [])
     × (picked {A = ℕ} 7 (2 ∷ 3 ∷ 5 ∷ []) (3 ∷ 1 ∷ []) ≡ 7 ∷ 3 ∷ [])
-picked-numbers = (refl, refl)
+picked-digits = (refl, refl)

@@ -1,4 +1,4 @@
--- Runs of values that are stored in a list, one after the other or apart.
+-- Blocks of values that are stored in a list: one after the other, or apart.
 use mathlib.Core.Path.{_≡_, refl, sym, ap, _∙_}
 use mathlib.Core.List.{List, [], _∷_, _++_}
 use mathlib.Core.Logic.{_⊎_, inl, inr, ⊎-elim}
@@ -15,7 +15,7 @@ sets-append l i (x ∷ xs) ys =
     let e : suc i + length xs ≡ i + suc (length xs) = omega arith in
     rw (← e) (sets-append (set l i x) (suc i) xs ys)
 
--- A value stored outside a run may be stored before it or after it.
+-- A value outside a block may be stored before the block or after it.
 set-apart : {A : Type 0} (ys l : List A) (b a : ℕ) (x : A) → (a < b) ⊎ (b + length ys ≤ a)
     → set (sets l b ys) a x ≡ sets (set l a x) b ys
 set-apart [] l b a x h = refl
@@ -24,7 +24,7 @@ set-apart (y ∷ ys) l b a x h =
     let rest : (a < suc b) ⊎ (suc b + length ys ≤ a) = ⊎-elim (λ p. inl (omega arith)) (λ p. inr (omega arith)) h in
     set-apart ys (set l b y) (suc b) a x rest ∙ ap (λ l. sets l (suc b) ys) (set-comm l b a y x other)
 
--- Two runs that do not overlap may be stored in either order.
+-- Two blocks that do not overlap may be stored in either order.
 pub sets-apart : {A : Type 0} (xs ys l : List A) (a b : ℕ) → (a + length xs ≤ b) ⊎ (b + length ys ≤ a)
     → sets (sets l a xs) b ys ≡ sets (sets l b ys) a xs
 sets-apart [] ys l a b h = refl

@@ -6,12 +6,12 @@ unfoldable pub stateAfter : {S W : Type 0} → (S → W → S) → S → List W 
 stateAfter step s [] = s
 stateAfter step s (w ∷ ws) = stateAfter step (step s w) ws
 
--- An item and its answer.
-pub record Answered (W A : Type 0) : Type 0 where
+-- An item and its result.
+pub record Handled (W R : Type 0) : Type 0 where
   pub item : W
-  pub answer : A
+  pub result : R
 
--- The items of a run that begins in state s, each with its answer. The answer to an item is by the state before it.
-unfoldable pub answered : {S W A : Type 0} → (S → W → S) → (S → W → A) → S → List W → List (Answered W A)
-answered step answer s [] = []
-answered step answer s (w ∷ ws) = record { item = w; answer = answer s w } ∷ answered step answer (step s w) ws
+-- The items of a run that begins in state s, each with its result. The result of an item is by the state before it.
+unfoldable pub handled : {S W R : Type 0} → (S → W → S) → (S → W → R) → S → List W → List (Handled W R)
+handled step result s [] = []
+handled step result s (w ∷ ws) = record { item = w; result = result s w } ∷ handled step result (step s w) ws

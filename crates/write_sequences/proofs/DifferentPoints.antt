@@ -1,28 +1,24 @@
 -- Two writes to different points. Neither changes what finding the other's point returns. So neither changes what the other returns or
 -- stores, and both orders end in the same map.
 use mathlib.Core.Path.{_≡_, refl, sym, ap, subst, _∙_}
-use mathlib.Core.Bool.{Bool, true, false}
+use mathlib.Core.Bool.{false}
 use mathlib.Core.List.{List}
 use mathlib.Core.Logic.{_⊎_, inl, inr, ⊎-elim}
 use mathlib.Core.Option.{Option, none, some}
 use Prim.Native.Nat.{ℕ, _+_, _≤_}
 use native.Mathlib.Omega.{arith}
-use lib.ListN.{length}
-use Rattle.lists.specs.Members.{In}
-use Rattle.lists.specs.Tests.{firstWith}
 use Rattle.lists.proofs.FirstFound.{found-in}
-use Rattle.lists.proofs.PairwiseLaws.{pairwise-first}
+use Rattle.lists.proofs.PairwiseLaws.{pairwise-same-part}
 use Rattle.lists.proofs.StoreLaws.{sets-apart}
 use Rattle.registers.specs.Registers.{split}
 use Rattle.registers.proofs.Splitting.{split-length}
-use Rattle.listing.specs.Listing.{Record, listed, allRecords}
 use Rattle.listing.specs.Finding.{finding, Target, targetOf}
 use Rattle.listing.specs.Finding as Finding
-use Rattle.listed_records.specs.RecordOrder.{RecordsApart}
-use Rattle.listed_records.proofs.RecordOrder.{records-apart, same-address}
+use Rattle.listed_records.specs.RecordOrder.{TargetsApart}
+use Rattle.listed_records.proofs.RecordOrder.{records-apart, one-address}
 use Rattle.writing.specs.Writing.{refusal, rewritten, Answer, refused, written, mapAfter, result}
-use Rattle.writing.specs.OtherRecords.{Change, OtherRecords}
-use Rattle.writing.proofs.DecidedByTarget.{writingBy, by-target, same-result, resultOf, target-returned, found-records, found-record}
+use Rattle.writing.specs.OtherRecords.{Change}
+use Rattle.writing.proofs.DecidedByTarget.{writingBy, by-target, byRefusal, same-result, resultOf, target-returned, found-records, found-record}
 use Rattle.writing.proofs.WritingCases.{accepted-records}
 use Rattle.writing.proofs.AfterCases.{same-record}
 use Rattle.writing.proofs.OtherRecords.{other-records}
@@ -32,6 +28,10 @@ use Rattle.write_sequences.proofs.SamePoints.{other-way, isNamed, names
 -- What finding the point of a write returns: a refusal, nothing or the target.
 abbrev pub finds : List ℕ → List ℕ → Write → Finding.Result
 finds catalog map w = Finding.result (finding catalog map (w .index) (w .number) (w .path))
+
+-- The map after a write of `raw`, by what finding the point returned.
+abbrev pub storedBy : Finding.Result → ℕ → List ℕ → List ℕ
+storedBy f raw map = mapAfter (writingBy f raw map) map
 
 -- ---- What is found stays
 
@@ -45,9 +45,9 @@ module _ (catalog map : List ℕ) (u v : Write) (differ : samePoint u v ≡ fals
       let w = found-in (isNamed u) before (o .point) (o .found) in
       let C = Change (o .top) (o .point) (u .raw) in
       target-returned catalog new (v .index) (v .number) (v .path) (o .allAfter)
-      ∙ pairwise-first C (isNamed v) (λ r s c. same-record (v .index) (v .number) (v .path) r s (c .same)) resultOf before (o .after)
+      ∙ pairwise-same-part C (isNamed v) (λ r s c. same-record (v .index) (v .number) (v .path) r s (c .same)) resultOf before (o .after)
       (λ r s i c t. ap (λ x. Finding.foundResult x) (c .target (λ q.
-      names-differ u v differ (o .point) r (w .1) t (same-address catalog map before (a .1) (a .2) (o .point) r (w .0) i q))))
+      names-differ u v differ (o .point) r (w .1) t (one-address catalog map before (a .1) (a .2) (o .point) r (w .0) i q))))
       (o .changes)
       ∙ sym (target-returned catalog map (v .index) (v .number) (v .path) (a .2))
 
@@ -59,25 +59,26 @@ module _ (catalog map : List ℕ) (u v : Write) (differ : samePoint u v ≡ fals
       go (refused n place) e = refl
       go (written new) e = found-after new e
 
-  -- ---- What a write returns
+  -- So a write to another point changes nothing for a write: it is decided by what is found in the map as it was.
+  pub write-stays : writeAnswer catalog (mapAfterWrite catalog map u) v
+      ≡ writingBy (finds catalog map v) (v .raw) (mapAfterWrite catalog map u)
+  write-stays =
+      let new = mapAfterWrite catalog map u in
+      by-target catalog new (v .index) (v .number) (v .path) (v .raw) ∙ ap (λ f. writingBy f (v .raw) new) found-stays
 
-  -- A write to another point does not change what a write returns.
+  -- It returns the same,
   pub result-stays : writeResult catalog (mapAfterWrite catalog map u) v ≡ writeResult catalog map v
   result-stays =
-      let new = mapAfterWrite catalog map u in
-      ap result (by-target catalog new (v .index) (v .number) (v .path) (v .raw) ∙ ap (λ f. writingBy f (v .raw) new) found-stays)
-      ∙ same-result (finds catalog map v) (v .raw) new map
+      ap result write-stays
+      ∙ same-result (finds catalog map v) (v .raw) (mapAfterWrite catalog map u) map
       ∙ sym (ap result (by-target catalog map (v .index) (v .number) (v .path) (v .raw)))
 
--- ---- What a write stores
+  -- and it stores the same: what it would store in the map as it was.
+  pub stored-stays : mapAfterWrite catalog (mapAfterWrite catalog map u) v
+      ≡ storedBy (finds catalog map v) (v .raw) (mapAfterWrite catalog map u)
+  stored-stays = ap (λ a. mapAfter a (mapAfterWrite catalog map u)) write-stays
 
--- The map after a write of `raw`, by what finding the point returned.
-abbrev storedBy : Finding.Result → ℕ → List ℕ → List ℕ
-storedBy f raw map = mapAfter (writingBy f raw map) map
-
--- No register belongs to both targets.
-abbrev TargetsApart : Target → Target → Type 0
-TargetsApart t s = (s .address + s .definition .size ≤ t .address) ⊎ (t .address + t .definition .size ≤ s .address)
+-- ---- Two writes in either order
 
 -- Two targets that lie apart may be rewritten in either order.
 rewritten-apart : (t s : Target) (x y : ℕ) (map : List ℕ) → TargetsApart t s
@@ -101,7 +102,7 @@ stored-apart (Finding.foundResult t) Finding.nothingResult x y map apart = refl
 stored-apart (Finding.foundResult t) (Finding.foundResult s) x y map apart = go (refusal t x) (refusal s y)
   where
     by : Target → ℕ → Option ℕ → List ℕ → List ℕ
-    by t raw o m = mapAfter (elim o [ some n ↦ refused n 0 | none ↦ written (rewritten t raw m) ]) m
+    by t raw o m = mapAfter (byRefusal o t raw m) m
 
     go : (o p : Option ℕ) → by s y p (by t x o map) ≡ by t x o (by s y p map)
     go (some n) p = refl
@@ -122,19 +123,17 @@ module _ (catalog map : List ℕ) (u v : Write) (differ : samePoint u v ≡ fals
       (names-differ u v differ (r .0) (w .0) (i .1) (j .1)) in
       subst (λ x. TargetsApart x s) (sym (r .2)) (subst (TargetsApart (targetOf (r .0))) (sym (w .2)) apart)
 
-  -- The second of two writes to different points stores what it would store if it were made first.
-  second-stored : mapAfterWrite catalog (mapAfterWrite catalog map u) v
+  -- The map after both writes, by what is found before them.
+  both-stored : mapAfterWrite catalog (mapAfterWrite catalog map u) v
       ≡ storedBy (finds catalog map v) (v .raw) (storedBy (finds catalog map u) (u .raw) map)
-  second-stored =
-      let new = mapAfterWrite catalog map u in
-      ap (λ a. mapAfter a new) (by-target catalog new (v .index) (v .number) (v .path) (v .raw)
-      ∙ ap (λ f. writingBy f (v .raw) new) (found-stays catalog map u v differ))
+  both-stored =
+      stored-stays catalog map u v differ
       ∙ ap (λ a. storedBy (finds catalog map v) (v .raw) (mapAfter a map)) (by-target catalog map (u .index) (u .number) (u .path) (u .raw))
 
 -- Two writes to different points end in the same map in either order.
 pub either-order : (catalog map : List ℕ) (u v : Write) → samePoint u v ≡ false
     → mapAfterWrite catalog (mapAfterWrite catalog map u) v ≡ mapAfterWrite catalog (mapAfterWrite catalog map v) u
 either-order catalog map u v differ =
-    second-stored catalog map u v differ
+    both-stored catalog map u v differ
     ∙ stored-apart (finds catalog map u) (finds catalog map v) (u .raw) (v .raw) map (targets-apart catalog map u v differ)
-    ∙ sym (second-stored catalog map v u (other-way u v differ))
+    ∙ sym (both-stored catalog map v u (other-way u v differ))

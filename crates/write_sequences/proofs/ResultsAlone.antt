@@ -2,13 +2,13 @@
 -- same point.
 use mathlib.Core.Path.{_≡_, refl, sym, ap, _∙_}
 use mathlib.Core.Bool.{Bool, true, false, not, _&&_}
-use mathlib.Core.List.{List, [], _∷_}
+use mathlib.Core.List.{List}
 use mathlib.Core.Option.{Option, none, some}
 use Prim.Native.Nat.{ℕ}
 use lib.Dec.{eqb, ltb}
-use Rattle.lists.specs.Runs.{answered}
 use Rattle.lists.specs.Tests.{firstWith}
 use Rattle.lists.proofs.TestOutcomes.{both}
+use Rattle.lists.proofs.Rearranging.{handled-alone}
 use Rattle.registers.specs.Registers.{tooWide}
 use Rattle.values.specs.Classes.{isValue, isUnimplementedClass}
 use Rattle.values.proofs.ClassCases.{value-class}
@@ -109,15 +109,4 @@ result-unchanged catalog map₀ u v = by-point (samePoint u v) refl
 
 -- so each write of a list returns what it would return alone.
 pub results-alone : (catalog map₀ : List ℕ) (ws : List Write) → writeResults catalog map₀ ws ≡ resultsAlone catalog map₀ ws
-unfolding answered
-results-alone catalog map₀ [] = refl
-results-alone catalog map₀ (w ∷ ws) =
-    let rest = results-alone catalog (mapAfterWrite catalog map₀ w) ws ∙ all-unchanged ws in
-    λ k. record { item = w; answer = writeResult catalog map₀ w } ∷ rest k
-  where
-    all-unchanged : (vs : List Write) → resultsAlone catalog (mapAfterWrite catalog map₀ w) vs ≡ resultsAlone catalog map₀ vs
-    all-unchanged [] = refl
-    all-unchanged (v ∷ vs) =
-        let first = result-unchanged catalog map₀ w v in
-        let others = all-unchanged vs in
-        λ k. record { item = v; answer = first k } ∷ others k
+results-alone catalog map₀ ws = handled-alone (mapAfterWrite catalog) (writeResult catalog) (result-unchanged catalog) ws map₀

@@ -1,13 +1,12 @@
 -- When two writes are to the same point, and which record a write names.
 use mathlib.Core.Path.{_≡_, refl, sym, ap, subst, _∙_}
 use mathlib.Core.Bool.{Bool, true, false, _&&_}
-use mathlib.Core.List.{[], _∷_}
 use Prim.Native.Nat.{ℕ}
 use borrow.Author.Tests.{eq-eqb, eqb-true}
 use lib.Dec.{eqb}
 use lib.ListN.{getD}
 use Rattle.lists.proofs.TestOutcomes.{both, clash, fails}
-use Rattle.layout.proofs.Depths.{levels}
+use Rattle.layout.proofs.Depths.{levels, same-three}
 use Rattle.listing.specs.Listing.{Record}
 use Rattle.listing.specs.Finding.{isRecord}
 use Rattle.listed_records.proofs.OneRecord.{has-place}
@@ -21,7 +20,7 @@ pub record Agree (u v : Write) : Type 0 where
 
 module _ (u v : Write) where
   -- Two writes are to the same point if these agree,
-  pub same-if-agree : Agree u v → samePoint u v ≡ true
+  same-if-agree : Agree u v → samePoint u v ≡ true
   same-if-agree a =
       let at : (k : ℕ) → getD (levels (u .path)) k 0 ≡ getD (levels (v .path)) k 0 = λ k. ap (λ path. getD path k 0) (a .path) in
       simp (
@@ -40,22 +39,17 @@ module _ (u v : Write) where
       let path = eqb (x 0) (y 0) && (eqb (x 1) (y 1) && eqb (x 2) (y 2)) in
       let a = both (eqb (u .index) (v .index)) (eqb (u .number) (v .number) && path) e in
       let b = both (eqb (u .number) (v .number)) path (a .1) in
-      let c = both (eqb (x 0) (y 0)) (eqb (x 1) (y 1) && eqb (x 2) (y 2)) (b .1) in
-      let d = both (eqb (x 1) (y 1)) (eqb (x 2) (y 2)) (c .1) in
-      let two = eqb-true (x 0) (y 0) (c .0) in
-      let three = eqb-true (x 1) (y 1) (d .0) in
-      let four = eqb-true (x 2) (y 2) (d .1) in
       record {
         index = eqb-true (u .index) (v .index) (a .0);
         number = eqb-true (u .number) (v .number) (b .0);
-        path = λ k. two k ∷ three k ∷ four k ∷ [];
+        path = same-three (x 0) (x 1) (x 2) (y 0) (y 1) (y 2) (b .1);
       }
 
 -- Each write is to its own point,
 pub itself : (w : Write) → samePoint w w ≡ true
 itself w = same-if-agree w w (record { index = refl; number = refl; path = refl })
 
--- and to be to different points goes both ways.
+-- and if a write is to another point than a second one, so is the second.
 pub other-way : (u v : Write) → samePoint u v ≡ false → samePoint v u ≡ false
 other-way u v e = fails (samePoint v u) (λ t.
     let a = agree-if-same v u t in

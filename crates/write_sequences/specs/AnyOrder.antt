@@ -3,7 +3,7 @@
 use mathlib.Core.Path.{_≡_}
 use mathlib.Core.List.{List, map}
 use Prim.Native.Nat.{ℕ}
-use Rattle.lists.specs.Runs.{Answered}
+use Rattle.lists.specs.Runs.{Handled}
 use Rattle.lists.specs.Orders.{picked, Rearranges}
 use Rattle.writing.specs.Writing.{Result}
 use Rattle.write_sequences.specs.Writes.{Write, samePoint, writeResult, mapAfterWrites, writeResults}
@@ -13,19 +13,19 @@ use Rattle.write_sequences.specs.Writes.{Write, samePoint, writeResult, 
 abbrev pub Allowed : Write → List Write → List ℕ → Type 0
 Allowed = Rearranges samePoint
 
--- The writes ws, made to `map` in the order of the positions `order`, end as in the order of the list: in the same map; and what each
--- write returns is what the write at its position returned, which is said by picking both from the same positions.
-pub record EndsAlike (catalog map : List ℕ) (other : Write) (ws : List Write) (order : List ℕ) : Type 0 where
-  pub sameMap : mapAfterWrites catalog map (picked other ws order) ≡ mapAfterWrites catalog map ws
-  pub sameResults : (none : Answered Write Result)
-      → writeResults catalog map (picked other ws order) ≡ picked none (writeResults catalog map ws) order
+-- The writes ws, made to the map `registers` in the order of the positions `order`, end as in their own order: in the same map; and each
+-- write, wherever it comes in the order, returns the same: the k-th write made, with its result, is the one at position order[k] of ws.
+pub record EndsAlike (catalog registers : List ℕ) (other : Write) (ws : List Write) (order : List ℕ) : Type 0 where
+  pub sameMap : mapAfterWrites catalog registers (picked other ws order) ≡ mapAfterWrites catalog registers ws
+  pub sameResults : (none : Handled Write Result)
+      → writeResults catalog registers (picked other ws order) ≡ picked none (writeResults catalog registers ws) order
 
 -- The claim: this holds of every catalog and map, every list of writes and every allowed order.
 abbrev pub AnyOrder : Type 0
 AnyOrder =
-    (catalog map : List ℕ) (other : Write) (ws : List Write) (order : List ℕ) → Allowed other ws order
-    → EndsAlike catalog map other ws order
+    (catalog registers : List ℕ) (other : Write) (ws : List Write) (order : List ℕ) → Allowed other ws order
+    → EndsAlike catalog registers other ws order
 
--- Each write with what it returns if it is made alone, to `map` as it is.
-abbrev pub resultsAlone : List ℕ → List ℕ → List Write → List (Answered Write Result)
-resultsAlone catalog registers ws = map (λ w. record { item = w; answer = writeResult catalog registers w }) ws
+-- Each write with what it returns if it is made alone, to the map `registers`.
+abbrev pub resultsAlone : List ℕ → List ℕ → List Write → List (Handled Write Result)
+resultsAlone catalog registers ws = map (λ w. record { item = w; result = writeResult catalog registers w }) ws

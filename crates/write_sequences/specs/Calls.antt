@@ -1,4 +1,5 @@
--- Calls of `write`, each of which is lent the map that the call before it left.
+-- The claim on the order of writes, of calls of `write`: each is lent the map that the call before it left.
+-- Proof: `proofs/AnyOrderCalls.antt`.
 use mathlib.Core.Path.{_≡_}
 use mathlib.Core.List.{List, [], _∷_}
 use Prim.Native.Nat.{ℕ}

@@ -4,7 +4,7 @@ use mathlib.Core.List.{List}
 use Prim.Native.Nat.{ℕ}
 use lib.Dec.{eqb}
 use lib.ListN.{getD}
-use Rattle.lists.specs.Runs.{stateAfter, Answered, answered}
+use Rattle.lists.specs.Runs.{stateAfter, Handled, handled}
 use Rattle.writing.specs.Writing.{Answer, writing, mapAfter, Result, result}
 
 -- A write: the index of the model, the number and the instance path of the point, and the raw value.
@@ -44,5 +44,5 @@ abbrev pub mapAfterWrites : List ℕ → List ℕ → List Write → List ℕ
 mapAfterWrites catalog = stateAfter (mapAfterWrite catalog)
 
 -- Each write with what it returns, by the map that the writes before it left.
-abbrev pub writeResults : List ℕ → List ℕ → List Write → List (Answered Write Result)
-writeResults catalog = answered (mapAfterWrite catalog) (writeResult catalog)
+abbrev pub writeResults : List ℕ → List ℕ → List Write → List (Handled Write Result)
+writeResults catalog = handled (mapAfterWrite catalog) (writeResult catalog)

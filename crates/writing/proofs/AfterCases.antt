@@ -14,8 +14,8 @@ use Rattle.listing.specs.Finding.{isRecord}
 use Rattle.writing.specs.AfterWriting.{isScaleFactorOf, SamePlace, Holds, rescaled, PointAfter, PointBecomes, OfSamePoint, RecordAfter}
 
 -- A point has its own place,
-pub own-place : (p : ModelPoint) → SamePlace p p
-own-place p = record { offset = refl; definition = refl; level2 = refl; level3 = refl; level4 = refl }
+pub keeps-place : (p : ModelPoint) → SamePlace p p
+keeps-place p = record { offset = refl; definition = refl; level2 = refl; level3 = refl; level4 = refl }
 
 -- and a point that equals q has the place of q.
 same-as : (p q r : ModelPoint) → SamePlace p q → r ≡ q → SamePlace p r
@@ -35,7 +35,7 @@ point-place top w raw p q = go (eqb (p .offset) (w .offset)) (isScaleFactorOf to
     go : (a b : Bool) → oneOf a (Holds raw p q) (oneOf b (q ≡ rescaled raw p) (q ≡ p)) → SamePlace p q
     go true b h = h .place
     go false true h = same-as p (rescaled raw p) q stays-rescaled h
-    go false false h = same-as p p q (own-place p) h
+    go false false h = same-as p p q (keeps-place p) h
 
 -- Index, number and path select the same record before and after the write.
 pub same-record : (index number : ℕ) (path : List ℕ) (r s : Record) → OfSamePoint r s

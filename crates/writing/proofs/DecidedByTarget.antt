@@ -35,16 +35,18 @@ module _ (catalog map : List ℕ) (index number : ℕ) (path : List ℕ) (raw : 
       go Finding.nothing = refl
       go (Finding.found r) = refl
 
--- What writing to a target returns depends on its refusal only.
+-- ---- Writing to a target
+
+-- What writing to a target results in, by its refusal.
+abbrev pub byRefusal : Option ℕ → Target → ℕ → List ℕ → Answer
+byRefusal o t raw map = elim o [ some n ↦ refused n 0 | none ↦ written (rewritten t raw map) ]
+
+-- What it returns depends on the refusal only.
 pub same-refusal : (t s : Target) (raw : ℕ) (map map′ : List ℕ) → refusal t raw ≡ refusal s raw
     → result (writingTo t raw map) ≡ result (writingTo s raw map′)
-same-refusal t s raw map map′ e =
-    go (refusal t raw) ∙ ap (λ o. result (by s o map′)) e
+same-refusal t s raw map map′ e = go (refusal t raw) ∙ ap (λ o. result (byRefusal o s raw map′)) e
   where
-    by : Target → Option ℕ → List ℕ → Answer
-    by t o m = elim o [ some n ↦ refused n 0 | none ↦ written (rewritten t raw m) ]
-
-    go : (o : Option ℕ) → result (by t o map) ≡ result (by s o map′)
+    go : (o : Option ℕ) → result (byRefusal o t raw map) ≡ result (byRefusal o s raw map′)
     go none = refl
     go (some n) = refl
 
@@ -54,16 +56,14 @@ same-result (Finding.refusedResult n place) raw map map′ = refl
 same-result Finding.nothingResult raw map map′ = refl
 same-result (Finding.foundResult t) raw map map′ = same-refusal t t raw map map′ refl
 
--- ---- Writing to a target
-
 module _ (t : Target) (raw : ℕ) (map : List ℕ) where
   -- The answer by the refusal of the target: its number,
   pub target-refused : {n : ℕ} → refusal t raw ≡ some n → writingTo t raw map ≡ refused n 0
-  target-refused e = ap {B = Answer} (λ o. elim o [ some n ↦ refused n 0 | none ↦ written (rewritten t raw map) ]) e
+  target-refused e = ap (λ o. byRefusal o t raw map) e
 
   -- or the new map.
   pub target-written : refusal t raw ≡ none → writingTo t raw map ≡ written (rewritten t raw map)
-  target-written e = ap {B = Answer} (λ o. elim o [ some n ↦ refused n 0 | none ↦ written (rewritten t raw map) ]) e
+  target-written e = ap (λ o. byRefusal o t raw map) e
 
 -- ---- By the records of the map
 
@@ -74,7 +74,7 @@ resultOf (some r) = Finding.foundResult (targetOf r)
 
 module _ (catalog map : List ℕ) (index number : ℕ) (path : List ℕ) where
   -- If listing is refused, finding returns that refusal.
-  pub refusal-returned : {n place headers : ℕ} → allRecords catalog map ≡ Listing.refused n place headers
+  refusal-returned : {n place headers : ℕ} → allRecords catalog map ≡ Listing.refused n place headers
       → Finding.result (finding catalog map index number path) ≡ Finding.refusedResult n place
   unfolding finding
   refusal-returned e = ap (λ a. Finding.result (Finding.findingIn index number path a)) e

@@ -30,7 +30,7 @@ use Rattle.writing.specs.Writing.{refusal, rewritten}
 use Rattle.writing.specs.AfterWriting.{PointAfter, PointBecomes, RecordAfter}
 use Rattle.writing.proofs.ModelAfter.{model-after}
 use Rattle.writing.proofs.WritingCases.{Writable, refusal-none}
-use Rattle.writing.proofs.AfterCases.{own-place, point-place}
+use Rattle.writing.proofs.AfterCases.{keeps-place, point-place}
 
 module _ (ds : List Definition) (w : Record) (raw : ℕ) where
   -- A record of another model stays as it is.
@@ -38,7 +38,7 @@ module _ (ds : List Definition) (w : Record) (raw : ℕ) where
   other-model r n =
       let P : Bool → Type 0 = λ b. PointBecomes b (topOf (w .id) ds) (w .point) raw (r .point) (r .point) in
       record {
-        same = record { index = refl; id = refl; address = refl; place = own-place (r .point) };
+        same = record { index = refl; id = refl; address = refl; place = keeps-place (r .point) };
         point = subst P (sym (ne-eqb (r .index) (w .index) n)) refl;
       }
 

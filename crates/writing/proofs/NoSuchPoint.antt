@@ -1,5 +1,5 @@
 -- 31 is exact: a write to a point that listing shows never returns 31; if a write returns 31, no record is that of the point.
-use mathlib.Core.Path.{_≡_, refl, sym, ap, subst, _∙_}
+use mathlib.Core.Path.{_≡_, refl, sym, subst, _∙_}
 use mathlib.Core.Bool.{false}
 use mathlib.Core.List.{List}
 use mathlib.Core.Option.{Option, none, some}

@@ -100,7 +100,7 @@ module _ (catalog map : List ℕ) (before : List Record) (headers : ℕ) (all : 
     (index number : ℕ) (path : List ℕ) (raw : ℕ) (new : List ℕ) where
   -- The claim holds of every accepted write.
   pub other-records : writing catalog map index number path raw ≡ written new
-      → OtherRecords catalog map before headers index number path raw new
+      → OtherRecords catalog map before headers all index number path raw new
   other-records e =
       let b = read-back catalog map before headers all index number path raw new e in
       let there = found-in (isRecord index number path) before (b .point) (b .found) .0 in
@@ -118,12 +118,12 @@ module _ (catalog map : List ℕ) (before : List Record) (headers : ℕ) (all : 
       }
 
 -- `Change` relates the records at the same position of the two lists.
-pub change-at : (catalog map : List ℕ) (before : List Record) (headers : ℕ) (index number : ℕ) (path : List ℕ) (raw : ℕ)
-    (new : List ℕ) (o : OtherRecords catalog map before headers index number path raw new)
+pub change-at : (catalog map : List ℕ) (before : List Record) (headers : ℕ) (all : allRecords catalog map ≡ listed before headers)
+    (index number : ℕ) (path : List ℕ) (raw : ℕ) (new : List ℕ) (o : OtherRecords catalog map before headers all index number path raw new)
     → (preceding : List Record) (r : Record) (following : List Record) → before ≡ preceding ++ r ∷ following
     → (preceding′ : List Record) (s : Record) (following′ : List Record) → o .after ≡ preceding′ ++ s ∷ following′
     → length preceding ≡ length preceding′ → Change (o .top) (o .point) raw r s
-change-at catalog map before headers index number path raw new o preceding r following old preceding′ s following′ now level =
+change-at catalog map before headers all index number path raw new o preceding r following old preceding′ s following′ now level =
     let R = Change (o .top) (o .point) raw in
     pairwise-at R preceding preceding′ r s following following′ level
     (subst (λ xs. Pairwise R xs (preceding′ ++ s ∷ following′)) old (subst (Pairwise R before) now (o .changes)))

@@ -151,7 +151,7 @@ module _ (catalog map : List ℕ) (before : List Record) (headers : ℕ) (all : 
     (index number : ℕ) (path : List ℕ) (raw : ℕ) (new : List ℕ) where
   -- It holds of every accepted write.
   pub read-back : writing catalog map index number path raw ≡ written new
-      → ReadBack catalog map before headers index number path raw new
+      → ReadBack catalog map before headers all index number path raw new
   read-back e =
       let a = accepted-write catalog map index number path raw new e before headers all in
       let w = a .point in
@@ -190,7 +190,7 @@ module _ (catalog map : List ℕ) (before : List Record) (headers : ℕ) (all : 
       }
 
   -- A listing with any capacity that shows the records before the write shows those after it.
-  pub shown-after : (b : ReadBack catalog map before headers index number path raw new) → (capacity : ℕ) (rs : List Record) (n : ℕ)
+  pub shown-after : (b : ReadBack catalog map before headers all index number path raw new) → (capacity : ℕ) (rs : List Record) (n : ℕ)
       → listing catalog map capacity ≡ listed rs n
       → (rs ≡ before) × (n ≡ headers) × (listing catalog new capacity ≡ listed (b .after) n)
   shown-after b capacity rs n e =

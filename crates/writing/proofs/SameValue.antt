@@ -27,7 +27,7 @@ pub same-value : (catalog map : List ℕ) (index number : ℕ) (path : List ℕ)
 unfolding rewritten
 same-value catalog map index number path raw new registers e rs headers all w found holds =
     let a = accepted-write catalog map index number path raw new e rs headers all in
-    let there = a .found in
+    let first = a .found in
     let point : a .point ≡ w = cc in
     let can = refusal-none (targetOf w) raw (rw point at (a .accepted)) in
     let there = found-in (isRecord index number path) rs w found .0 in

@@ -14,14 +14,15 @@ use Rattle.catalog_frames.specs.Frames.{readOnly}
 use Rattle.layout.specs.Points.{pointClass}
 use Rattle.listing.specs.Listing.{Record, allRecords, withCapacity, listing}
 use Rattle.listing.specs.Listing as Listing
-use Rattle.listing.specs.Finding.{isRecord, Target, targetOf}
+use Rattle.listing.specs.Finding.{isRecord, finding, Target, targetOf}
+use Rattle.listing.specs.Finding as Finding
 use Rattle.listing.proofs.RefusalNumbers.{Between, catalog-number, opening-number}
 use Rattle.listing.proofs.WalkSteps.{not-listed}
 use Rattle.listing.proofs.ListingInversion.{walk-number}
 use Rattle.listing.proofs.ListingCases as listings
 use Rattle.listing.proofs.ListingCases.{catalogRefused, openingRefused, walkRefused, tooShort, allListed, listing-case, listing-records, walk-records}
 use Rattle.writing.specs.Writing.{canHold, refusal, rewritten, refused, written, writingTo, writing}
-use Rattle.writing.proofs.DecidedByTarget.{target-refused, target-written, decided-by-listing, decided-by-record}
+use Rattle.writing.proofs.DecidedByTarget.{writingBy, by-target, target-refused, target-written, found-records, found-record}
 
 -- ---- The numbers of refusals
 
@@ -73,7 +74,7 @@ module _ (t : Target) (raw : ℕ) where
       }) (λ _. (omega arith, omega arith)))))
 
   -- The number of a refusal is 32 to 35,
-  pub refusal-number : {n : ℕ} → refusal t raw ≡ some n → Between 32 35 n
+  refusal-number : {n : ℕ} → refusal t raw ≡ some n → Between 32 35 n
   refusal-number e = rw e at outcome
 
   -- and a target that is not refused is writable.
@@ -103,30 +104,36 @@ pub record Accepted (rs : List Record) (index number : ℕ) (path : List ℕ) (r
 
 module _ (catalog map : List ℕ) (index number : ℕ) (path : List ℕ) (raw : ℕ) (new : List ℕ)
     (writes : writing catalog map index number path raw ≡ written new) where
-  -- A write is accepted only if the map has records,
-  pub accepted-records : (rs : List Record) × (headers : ℕ) × (allRecords catalog map ≡ Listing.listed rs headers)
-  accepted-records = go (allRecords catalog map) refl
+  -- An accepted write has found a target that is not refused.
+  accepted-target : (t : Target) × (Finding.foundResult t ≡ Finding.result (finding catalog map index number path))
+      × (refusal t raw ≡ none) × (new ≡ rewritten t raw map)
+  accepted-target =
+      by-finding (Finding.result (finding catalog map index number path)) (sym (by-target catalog map index number path raw) ∙ writes)
     where
-      go : (a : Listing.Answer) → allRecords catalog map ≡ a
-          → (rs : List Record) × (headers : ℕ) × (allRecords catalog map ≡ Listing.listed rs headers)
-      go (Listing.refused n place headers) e =
-          let a = sym (decided-by-listing catalog map index number path raw e) ∙ writes in
-          impossible (cc)
-      go (Listing.listed rs headers) e = (rs, headers, e)
+      by-refusal : (t : Target) (o : Option ℕ) → refusal t raw ≡ o → writingTo t raw map ≡ written new
+          → (refusal t raw ≡ none) × (new ≡ rewritten t raw map)
+      by-refusal t (some n) r q = let a = sym (target-refused t raw map r) ∙ q in impossible (cc)
+      by-refusal t none r q = let a = sym (target-written t raw map r) ∙ q in (r, cc)
 
-  -- and has found one of them.
+      by-finding : (f : Finding.Result) → writingBy f raw map ≡ written new
+          → (t : Target) × (Finding.foundResult t ≡ f) × (refusal t raw ≡ none) × (new ≡ rewritten t raw map)
+      by-finding (Finding.refusedResult n place) q = impossible (cc)
+      by-finding Finding.nothingResult q = impossible (cc)
+      by-finding (Finding.foundResult t) q = let r = by-refusal t (refusal t raw) refl q in (t, refl, r .0, r .1)
+
+  -- So the map has records,
+  pub accepted-records : (rs : List Record) × (headers : ℕ) × (allRecords catalog map ≡ Listing.listed rs headers)
+  accepted-records = found-records catalog map index number path (accepted-target .1)
+
+  -- and the target is that of one of them.
   pub accepted-write : (rs : List Record) (headers : ℕ) → allRecords catalog map ≡ Listing.listed rs headers
       → Accepted rs index number path raw map new
-  accepted-write rs headers e = go (firstWith (isRecord index number path) rs) refl
-    where
-      by-refusal : (w : Record) → firstWith (isRecord index number path) rs ≡ some w → writingTo (targetOf w) raw map ≡ written new
-          → (o : Option ℕ) → refusal (targetOf w) raw ≡ o → Accepted rs index number path raw map new
-      by-refusal w f q (some n) r = let a = sym (target-refused (targetOf w) raw map r) ∙ q in impossible (cc)
-      by-refusal w f q none r =
-          let a = sym (target-written (targetOf w) raw map r) ∙ q in
-          record { point = w; found = f; accepted = r; rewrites = cc }
-
-      go : (o : Option Record) → firstWith (isRecord index number path) rs ≡ o → Accepted rs index number path raw map new
-      go none f = let a = sym (decided-by-record catalog map index number path raw e f) ∙ writes in impossible (cc)
-      go (some w) f =
-          by-refusal w f (sym (decided-by-record catalog map index number path raw e f) ∙ writes) (refusal (targetOf w) raw) refl
+  accepted-write rs headers e =
+      let t = accepted-target in
+      let r = found-record catalog map index number path e (t .1) in
+      record {
+        point = r .0;
+        found = r .1;
+        accepted = ap (λ (x : Target). refusal x raw) (sym (r .2)) ∙ t .2;
+        rewrites = t .3 ∙ ap (λ (x : Target). rewritten x raw map) (r .2);
+      }

@@ -123,13 +123,13 @@ pub plant-records : (before : List Record) × (headers : ℕ) × (allRecords cat
 plant-records = done-records catalog plant 1 7 (instance 1) 0xFFFE rescaledPlant factor-call
 
 -- the point reads back,
-pub factor-reads-back : ReadBack catalog plant (plant-records .0) (plant-records .1) 1 7 (instance 1) 0xFFFE rescaledPlant
+pub factor-reads-back : ReadBack catalog plant (plant-records .0) (plant-records .1) (plant-records .2) 1 7 (instance 1) 0xFFFE rescaledPlant
 factor-reads-back =
     done-reads-back catalog plant 1 7 (instance 1) 0xFFFE rescaledPlant (plant-records .0) (plant-records .1) (plant-records .2)
     factor-call
 
 -- and the claim on all records holds.
-pub others : OtherRecords catalog plant (plant-records .0) (plant-records .1) 1 7 (instance 1) 0xFFFE rescaledPlant
+pub others : OtherRecords catalog plant (plant-records .0) (plant-records .1) (plant-records .2) 1 7 (instance 1) 0xFFFE rescaledPlant
 others =
     done-other-records catalog plant 1 7 (instance 1) 0xFFFE rescaledPlant (plant-records .0) (plant-records .1) (plant-records .2)
     factor-call

@@ -46,12 +46,12 @@ module _ (catalog map : List ℕ) (index number : ℕ) (path : List ℕ) (raw : 
   module _ (before : List Record) (headers : ℕ) (all : allRecords catalog map ≡ listed before headers) where
     -- and then the point reads back,
     pub done-reads-back : WriteCall catalog map index number path raw Written.Done after
-        → ReadBack catalog map before headers index number path raw after
+        → ReadBack catalog map before headers all index number path raw after
     done-reads-back c = read-back catalog map before headers all index number path raw after (done-accepts c)
 
     -- and every record is as before, except that of the point and those of the points that it scales.
     pub done-other-records : WriteCall catalog map index number path raw Written.Done after
-        → OtherRecords catalog map before headers index number path raw after
+        → OtherRecords catalog map before headers all index number path raw after
     done-other-records c = other-records catalog map before headers all index number path raw after (done-accepts c)
 
   -- If a call returns a refusal, the definition refuses with the same number and place, and the map is as it was.

@@ -26,11 +26,11 @@ pub record Change (top : Content) (w : Record) (raw : ℕ) (r s : Record) : Type
       → s ≡ record { index = r .index; id = r .id; address = r .address; point = rescaled raw (r .point) }
   pub holds : r .index ≡ w .index → r .address ≡ w .address → Holds raw (r .point) (s .point)
 
--- What holds of all records after an accepted write, and so of what a listing with any capacity shows, where `before` and `headers` are
--- the records and headers of the map before it: the same number of records in the same order, each changed as `Change` says by the
--- point that was found; and each that takes its scale from a point has the status and scale that the record of its scale factor gives.
-pub record OtherRecords (catalog map : List ℕ) (before : List Record) (headers : ℕ) (index number : ℕ) (path : List ℕ) (raw : ℕ)
-    (new : List ℕ) : Type 0 where
+-- What holds of all records after an accepted write, and so of what a listing with any capacity shows, where the map before it has the
+-- records `before` and these headers (`all`): the same number of records in the same order, each changed as `Change` says by the point
+-- that was found; and each that takes its scale from a point has the status and scale that the record of its scale factor gives.
+pub record OtherRecords (catalog map : List ℕ) (before : List Record) (headers : ℕ)
+    (all : allRecords catalog map ≡ listed before headers) (index number : ℕ) (path : List ℕ) (raw : ℕ) (new : List ℕ) : Type 0 where
   pub after : List Record
   pub allAfter : allRecords catalog new ≡ listed after headers
   pub point : Record

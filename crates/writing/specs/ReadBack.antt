@@ -33,12 +33,13 @@ pub record ScaledBy (top : Content) (before after : List Record) (w s : Record) 
   pub unscaled : (w .point .definition .scaleKind ≡ scaleByPoint → ⊥)
       → (s .point .status ≡ 0) × (s .point .scale ≡ scaleOf (w .point .definition) 0 0)
 
--- What holds after an accepted write of `raw`, where `new` is the map after it, and `before` and `headers` are the records and headers
--- of the map before it. `point` is the record of the point asked for, which is not refused. After: the same number of records and the
--- same headers, each record changed as `RecordAfter` says; the record of the point asked for is of the same point and has the value `raw`, and is neither
--- unimplemented nor out of range; its scale point, if it has one, gives its status and scale. All other registers stay.
-pub record ReadBack (catalog map : List ℕ) (before : List Record) (headers : ℕ) (index number : ℕ) (path : List ℕ) (raw : ℕ)
-    (new : List ℕ) : Type 0 where
+-- What holds after an accepted write of `raw`, where `new` is the map after it, and the map before it has the records `before` and these
+-- headers (`all`). `point` is the record of the point asked for, which is not refused. After the write there are the same number of
+-- records and the same headers, and each record has changed as `RecordAfter` says. `pointAfter` is the record of the point asked for: it
+-- is of the same point, holds `raw`, and is neither unimplemented nor out of range; its scale point, if it has one, gives its status and
+-- scale. All other registers stay.
+pub record ReadBack (catalog map : List ℕ) (before : List Record) (headers : ℕ) (all : allRecords catalog map ≡ listed before headers)
+    (index number : ℕ) (path : List ℕ) (raw : ℕ) (new : List ℕ) : Type 0 where
   pub point : Record
   pub found : firstWith (isRecord index number path) before ≡ some point
   pub accepted : refusal (targetOf point) raw ≡ none

@@ -15,7 +15,7 @@ use borrow.Author.Needs.{needs}
 use Rattle.writing.proofs.write.Statement.{statement}
 use Rattle.writing.proofs.write.Tie as tie
 
--- The two equations of the contract, and the call that they make, from those by what `find` returned.
+-- If result and map are those of writing by what `find` returned, the contract holds: its two equations, and both as one call.
 called : (catalog map : List ℕ) (index number : ℕ) (path : List ℕ) (raw : ℕ) (r : Written) {after : List ℕ} (f : Finding.Result)
     → f ≡ Finding.result (finding catalog map index number path)
     → (toSpecWritten r ≡ result (writingBy f raw map)) × (after ≡ mapAfter (writingBy f raw map) map)
