@@ -40,7 +40,7 @@ in-positions (suc n) k (suc i) h =
     let e : suc k + i ≡ k + suc i = omega arith in
     later (subst (λ j. In j (positionsFrom n (suc k))) e (in-positions n (suc k) i (omega arith)))
 
--- A function that gives the elements of xs, the first of them at k, gives xs at all positions from k on.
+-- A function that gives the elements of xs, the first of them at k, gives xs at the `length xs` positions from k on.
 pub tabulated : {A : Type 0} (other : A) (f : ℕ → A) (xs : List A) (k : ℕ)
     → ((i : ℕ) → i < length xs → f (k + i) ≡ getD xs i other) → map f (positionsFrom (length xs) k) ≡ xs
 tabulated other f [] k e = refl
@@ -56,7 +56,7 @@ pub all-picked : {A : Type 0} (other : A) (xs : List A) → picked other xs (pos
 all-picked other xs =
     tabulated other (λ i. getD xs i other) xs 0 (λ i h. let e : 0 + i ≡ i = omega arith in ap (λ j. getD xs j other) e)
 
--- A part of each of the elements at some positions.
+-- Picking elements and then applying f to each is applying f to each and then picking.
 pub map-picked : {A B : Type 0} (f : A → B) (other : A) (xs : List A) (order : List ℕ)
     → map f (picked other xs order) ≡ picked (f other) (map f xs) order
 map-picked f other xs [] = refl

@@ -1,4 +1,4 @@
--- However writers take turns (document 02, card 3): in every order that keeps the order of writes to the same point, the final map is
+-- However writers take turns (change request 3): in every order that keeps the order of writes to the same point, the final map is
 -- the same, and each write returns the same.
 use mathlib.Core.Path.{_≡_}
 use mathlib.Core.List.{List}

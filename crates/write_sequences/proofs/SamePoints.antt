@@ -20,7 +20,7 @@ pub record Agree (u v : Write) : Type 0 where
 
 module _ (u v : Write) where
   -- Two writes are to the same point if these agree,
-  same-if-agree : Agree u v → samePoint u v ≡ true
+  pub same-if-agree : Agree u v → samePoint u v ≡ true
   same-if-agree a =
       let at : (k : ℕ) → getD (levels (u .path)) k 0 ≡ getD (levels (v .path)) k 0 = λ k. ap (λ path. getD path k 0) (a .path) in
       simp (

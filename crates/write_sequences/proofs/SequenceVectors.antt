@@ -201,7 +201,7 @@ both-allowed = (either twoInstances refl refl, (either pointAndFactor refl refl,
 pub missing-not-exchanged : Allowed pastEnd (to 9 (instance 0) 1 ∷ to 9 (instance 0) 2 ∷ []) (1 ∷ 0 ∷ []) → ⊥
 missing-not-exchanged a = let h = a .keeps .0 .0 refl in omega arith
 
--- A map that listing refuses refuses every write with the same number, and stays as it is.
+-- To a map that listing refuses, here the empty one, every write is refused with the same number and place, and the map stays.
 pub map-refused : (mapAfterWrites catalog [] three ≡ [])
     × (resultsIn (writeResults catalog [] three) ≡ refusedResult 21 0 ∷ refusedResult 21 0 ∷ refusedResult 21 0 ∷ [])
 unfolding checkFrom checked framesFrom frameOf isSizeOf rows rowAmong mayScale registersOf twosComplement join shownRaw tooWide

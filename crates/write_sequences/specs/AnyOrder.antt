@@ -1,4 +1,4 @@
--- The claim on the order of writes (document 02, card 3): if writes to the same point keep their order, the final map is the same in
+-- The claim on the order of writes (change request 3): if writes to the same point keep their order, the final map is the same in
 -- every order, and each write returns the same. Proof: `proofs/AnyOrder.antt`.
 use mathlib.Core.Path.{_≡_}
 use mathlib.Core.List.{List, map}
@@ -8,13 +8,14 @@ use Rattle.lists.specs.Orders.{picked, Rearranges}
 use Rattle.writing.specs.Writing.{Result}
 use Rattle.write_sequences.specs.Writes.{Write, samePoint, writeResult, mapAfterWrites, writeResults}
 
--- An order in which the writes ws can be made: all their positions, with writes to the same point in the order of ws. (`other` is the
--- write at a position past the end; an order has none.)
+-- An order in which the writes ws can be made: all their positions, with writes to the same point in the order of ws. (`other` stands
+-- for the write at a position past the end; an allowed order has none.)
 abbrev pub Allowed : Write → List Write → List ℕ → Type 0
-Allowed = Rearranges samePoint
+Allowed other ws order = Rearranges samePoint other ws order
 
 -- The writes ws, made to the map `registers` in the order of the positions `order`, end as in their own order: in the same map; and each
--- write, wherever it comes in the order, returns the same: the k-th write made, with its result, is the one at position order[k] of ws.
+-- write, wherever it comes in the order, returns the same: the k-th write made and its result are those of position order[k] in ws.
+-- (`none` stands for a position past the end.)
 pub record EndsAlike (catalog registers : List ℕ) (other : Write) (ws : List Write) (order : List ℕ) : Type 0 where
   pub sameMap : mapAfterWrites catalog registers (picked other ws order) ≡ mapAfterWrites catalog registers ws
   pub sameResults : (none : Handled Write Result)

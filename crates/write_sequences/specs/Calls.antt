@@ -8,7 +8,7 @@ use Rattle.writing.specs.declared.Written.{Written}
 use Rattle.writing.specs.Calls.{WriteCall}
 use Rattle.write_sequences.specs.Writes.{Write}
 
--- Calls by one catalog for these writes, the first of which was lent `map`; what they returned, and the map that the last one left.
+-- One call by the catalog for each write, the first lent `map`; what they returned, and the map that the last one left.
 pub data WriteCalls (catalog : List ℕ) : List ℕ → List Write → List Written → List ℕ → Type 0 where
   noCall : {map : List ℕ} → WriteCalls catalog map [] [] map
   call : {map between after : List ℕ} {w : Write} {ws : List Write} {returned : Written} {rest : List Written}

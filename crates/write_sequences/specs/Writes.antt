@@ -1,4 +1,4 @@
--- Writes made one after the other by one catalog (document 02, card 3): the map after them, and what each of them returns.
+-- Writes made one after the other by one catalog (change request 3): the map after them, and what each of them returns.
 use mathlib.Core.Bool.{Bool, _&&_}
 use mathlib.Core.List.{List}
 use Prim.Native.Nat.{ℕ}
