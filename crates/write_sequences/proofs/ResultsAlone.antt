@@ -3,11 +3,11 @@
 use mathlib.Core.Path.{_≡_, refl, sym, ap, _∙_}
 use mathlib.Core.Bool.{Bool, true, false, not, _&&_}
 use mathlib.Core.List.{List}
-use mathlib.Core.Option.{Option, none, some}
+use mathlib.Core.Option.{Option}
 use Prim.Native.Nat.{ℕ}
 use lib.Dec.{eqb, ltb}
 use Rattle.lists.specs.Tests.{firstWith}
-use Rattle.lists.proofs.TestOutcomes.{both}
+use Rattle.lists.proofs.TestOutcomes.{clash, by-same-test, both}
 use Rattle.lists.proofs.Rearranging.{handled-alone}
 use Rattle.registers.specs.Registers.{tooWide}
 use Rattle.values.specs.Classes.{isValue, isUnimplementedClass}
@@ -28,26 +28,24 @@ use Rattle.write_sequences.proofs.DifferentPoints.{result-stays}
 
 -- ---- The refusal of an implemented point
 
--- The refusals of a point that is implemented: 32, 33 and 35.
-abbrev ifImplemented : Point → ℕ → Option ℕ
-ifImplemented p raw =
-    elim (eqb (p .access) readOnly) [
-      | true ↦ some 32
-      | false ↦ elim (ltb 4 (p .size)) [ true ↦ some 33 | false ↦ elim (canHold p raw) [ true ↦ none | false ↦ some 35 ] ]
-    ]
+-- A fact about the branches of two tests with the same outcome.
+by-equal-tests : {A : Type 0} (P : A → A → Type 0) (b c : Bool) {x y u v : A} → b ≡ c → (b ≡ true → P x u) → (b ≡ false → P y v)
+    → P (elim b [ true ↦ x | false ↦ y ]) (elim c [ true ↦ u | false ↦ v ])
+by-equal-tests P true true e t f = t refl
+by-equal-tests P false false e t f = f refl
+by-equal-tests P true false e t f = clash e
+by-equal-tests P false true e t f = clash (sym e)
 
--- They do not depend on what the point holds.
-implemented-refusal : (t : Target) (raw : ℕ) → isUnimplementedClass (pointClass (t .definition) (t .raw)) ≡ false
-    → refusal t raw ≡ ifImplemented (t .definition) raw
+-- Two targets with the same definition that are both implemented have the same refusal: it does not depend on what they hold.
+implemented-refusal : (p : Point) (a b x y raw : ℕ) → isUnimplementedClass (pointClass p x) ≡ false
+    → isUnimplementedClass (pointClass p y) ≡ false
+    → refusal (record { address = a; definition = p; raw = x }) raw ≡ refusal (record { address = b; definition = p; raw = y }) raw
 unfolding refusal
-implemented-refusal t raw e =
-    ap {B = Option ℕ} (λ b. elim (eqb (t .definition .access) readOnly) [
-      | true ↦ some 32
-      | false ↦ elim (ltb 4 (t .definition .size)) [
-        | true ↦ some 33
-        | false ↦ elim b [ true ↦ some 34 | false ↦ elim (canHold (t .definition) raw) [ true ↦ none | false ↦ some 35 ] ]
-      ]
-    ]) e
+implemented-refusal p a b x y raw e f =
+    let Same : Option ℕ → Option ℕ → Type 0 = λ o q. o ≡ q in
+    by-same-test Same (eqb (p .access) readOnly) (λ _. refl) (λ _.
+    by-same-test Same (ltb 4 (p .size)) (λ _. refl) (λ _.
+    by-equal-tests Same (isUnimplementedClass (pointClass p x)) (isUnimplementedClass (pointClass p y)) (e ∙ sym f) (λ _. refl) (λ _. refl)))
 
 -- A point that can hold a raw value is implemented when it holds it.
 held-implemented : (p : Point) (raw : ℕ) → canHold p raw ≡ true → isUnimplementedClass (pointClass p raw) ≡ false
@@ -81,15 +79,12 @@ module _ (catalog map₀ : List ℕ) (u v : Write) (same : samePoint u v ≡ tru
       decided-by-record catalog map₀ (v .index) (v .number) (v .path) (v .raw) (a .2) (names (a .0) ∙ b .found) in
       let after : writeAnswer catalog new v ≡ writingTo (targetOf q) (v .raw) new =
       decided-by-record catalog new (v .index) (v .number) (v .path) (v .raw) (b .allAfter) (names (b .after) ∙ b .foundAfter) in
-      let held : isUnimplementedClass (pointClass (q .point .definition) (q .point .raw)) ≡ false =
-      ap (λ (d : Point). isUnimplementedClass (pointClass d (q .point .raw))) (b .same .place .definition)
-      ∙ ap (λ (raw : ℕ). isUnimplementedClass (pointClass p raw)) (b .holds)
-      ∙ held-implemented p (u .raw) (can .holds) in
+      let held : isUnimplementedClass (pointClass p (q .point .raw)) ≡ false =
+      ap (λ (raw : ℕ). isUnimplementedClass (pointClass p raw)) (b .holds) ∙ held-implemented p (u .raw) (can .holds) in
       ap result after
       ∙ same-refusal (targetOf q) (targetOf (b .point)) (v .raw) new map₀
-      (implemented-refusal (targetOf q) (v .raw) held
-      ∙ ap (λ (d : Point). ifImplemented d (v .raw)) (b .same .place .definition)
-      ∙ sym (implemented-refusal (targetOf (b .point)) (v .raw) (can .implemented)))
+      (ap (λ (d : Point). refusal (record { address = q .address; definition = d; raw = q .point .raw }) (v .raw)) (b .same .place .definition)
+      ∙ implemented-refusal p (q .address) (b .point .address) (q .point .raw) (b .point .point .raw) (v .raw) held (can .implemented))
       ∙ sym (ap result before)
 
 -- ---- Lists of writes

@@ -42,12 +42,10 @@ module _ (catalog map : List ℕ) (rs : List Record) (headers : ℕ) (all : allR
     change-of r s i a =
         record {
           same = a .same;
-          target = λ n. same-target (isScaleFactorOf top (w .point) (r .point)) refl n;
+          target = λ n. same-target (eqb (r .index) (w .index)) (isScaleFactorOf top (w .point) (r .point)) refl refl n;
           unchanged = apart;
           unscaled = λ n f. stays (eqb (r .index) (w .index)) refl n f;
-          scaled = λ same n t.
-              with-point r s (a .same) (rescaled raw (r .point))
-              (after-scaled ds w raw r s a same top known (λ e. n (same-address same e)) t);
+          scaled = changes;
           holds = λ same e. after-here ds w raw r s a same top known (same-offset same e);
         }
       where
@@ -78,18 +76,20 @@ module _ (catalog map : List ℕ) (rs : List Record) (headers : ℕ) (all : allR
             after-unscaled ds w raw r s a same top known (λ e. n (same-address same e)) f
         stays false t n f = apart (eqb-false (r .index) (w .index) t)
 
-        -- What a write to a record at another address needs stays: a new status and scale do not matter to it.
-        same-target : (b : Bool) → isScaleFactorOf top (w .point) (r .point) ≡ b → (r .address ≡ w .address → ⊥)
-            → targetOf s ≡ targetOf r
-        same-target false f n = ap targetOf (stays (eqb (r .index) (w .index)) refl n f)
-        same-target true f n = by-model (eqb (r .index) (w .index)) refl
-          where
-            by-model : (b : Bool) → eqb (r .index) (w .index) ≡ b → targetOf s ≡ targetOf r
-            by-model false t = ap targetOf (apart (eqb-false (r .index) (w .index) t))
-            by-model true t =
-                let same = eqb-true (r .index) (w .index) t in
-                ap targetOf (with-point r s (a .same) (rescaled raw (r .point))
-                (after-scaled ds w raw r s a same top known (λ e. n (same-address same e)) f))
+        -- A record of the same model whose scale factor is written has a new status and scale.
+        changes : r .index ≡ w .index → (r .address ≡ w .address → ⊥) → isScaleFactorOf top (w .point) (r .point) ≡ true
+            → s ≡ record { index = r .index; id = r .id; address = r .address; point = rescaled raw (r .point) }
+        changes same n t =
+            with-point r s (a .same) (rescaled raw (r .point))
+            (after-scaled ds w raw r s a same top known (λ e. n (same-address same e)) t)
+
+        -- What a write to a record at another address needs stays, by whether it is of the same model and its scale factor is written:
+        -- a new status and scale do not matter to a write.
+        same-target : (b c : Bool) → eqb (r .index) (w .index) ≡ b → isScaleFactorOf top (w .point) (r .point) ≡ c
+            → (r .address ≡ w .address → ⊥) → targetOf s ≡ targetOf r
+        same-target b false t f n = ap targetOf (stays b t n f)
+        same-target false true t f n = ap targetOf (apart (eqb-false (r .index) (w .index) t))
+        same-target true true t f n = ap targetOf (changes (eqb-true (r .index) (w .index) t) n f)
 
     -- All records of a map.
     pub changes-of : (ss : List Record) → Pairwise (RecordAfter (definitions catalog) w raw) rs ss
