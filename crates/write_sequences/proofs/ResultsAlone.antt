@@ -16,7 +16,7 @@ use Rattle.catalog_frames.specs.Frames.{Point, readOnly}
 use Rattle.layout.specs.Points.{pointClass}
 use Rattle.layout.specs.Paths.{isAt}
 use Rattle.listing.specs.Listing.{Record}
-use Rattle.listing.specs.Finding.{Target, targetOf}
+use Rattle.listing.specs.Finding.{targetOf}
 use Rattle.writing.specs.Writing.{canHold, refusal, Answer, refused, written, writingTo, mapAfter, result}
 use Rattle.writing.proofs.DecidedByTarget.{same-refusal, decided-by-record}
 use Rattle.writing.proofs.WritingCases.{refusal-none, accepted-records}
