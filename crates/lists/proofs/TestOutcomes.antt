@@ -18,11 +18,18 @@ pub by-test : {A : Type 0} (P : A → Type 0) (b : Bool) {x y : A} → (b ≡ tr
 by-test P true t f = t refl
 by-test P false t f = f refl
 
--- The same for two branchings on one test.
+-- The same for two tests with the same outcome,
+pub by-equal-tests : {A : Type 0} (P : A → A → Type 0) (b c : Bool) {x y u v : A} → b ≡ c → (b ≡ true → P x u) → (b ≡ false → P y v)
+    → P (elim b [ true ↦ x | false ↦ y ]) (elim c [ true ↦ u | false ↦ v ])
+by-equal-tests P true true e t f = t refl
+by-equal-tests P false false e t f = f refl
+by-equal-tests P true false e t f = clash e
+by-equal-tests P false true e t f = clash (sym e)
+
+-- and so for two branchings on one test.
 pub by-same-test : {A : Type 0} (P : A → A → Type 0) (b : Bool) {x y u v : A} → (b ≡ true → P x u) → (b ≡ false → P y v)
     → P (elim b [ true ↦ x | false ↦ y ]) (elim b [ true ↦ u | false ↦ v ])
-by-same-test P true t f = t refl
-by-same-test P false t f = f refl
+by-same-test P b t f = by-equal-tests P b b refl t f
 
 -- If two tests hold together, each of them holds.
 pub both : (a b : Bool) → a && b ≡ true → (a ≡ true) × (b ≡ true)

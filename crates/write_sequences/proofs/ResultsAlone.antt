@@ -7,7 +7,7 @@ use mathlib.Core.Option.{Option}
 use Prim.Native.Nat.{ℕ}
 use lib.Dec.{eqb, ltb}
 use Rattle.lists.specs.Tests.{firstWith}
-use Rattle.lists.proofs.TestOutcomes.{clash, by-same-test, both}
+use Rattle.lists.proofs.TestOutcomes.{by-equal-tests, by-same-test, both}
 use Rattle.lists.proofs.Rearranging.{handled-alone}
 use Rattle.registers.specs.Registers.{tooWide}
 use Rattle.values.specs.Classes.{isValue, isUnimplementedClass}
@@ -27,14 +27,6 @@ use Rattle.write_sequences.proofs.SamePoints.{Agree, agree-if-same, isN
 use Rattle.write_sequences.proofs.DifferentPoints.{result-stays}
 
 -- ---- The refusal of an implemented point
-
--- A fact about the branches of two tests with the same outcome.
-by-equal-tests : {A : Type 0} (P : A → A → Type 0) (b c : Bool) {x y u v : A} → b ≡ c → (b ≡ true → P x u) → (b ≡ false → P y v)
-    → P (elim b [ true ↦ x | false ↦ y ]) (elim c [ true ↦ u | false ↦ v ])
-by-equal-tests P true true e t f = t refl
-by-equal-tests P false false e t f = f refl
-by-equal-tests P true false e t f = clash e
-by-equal-tests P false true e t f = clash (sym e)
 
 -- Two targets with the same definition that are both implemented have the same refusal: it does not depend on what they hold.
 implemented-refusal : (p : Point) (a b x y raw : ℕ) → isUnimplementedClass (pointClass p x) ≡ false
