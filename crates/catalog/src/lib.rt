@@ -1,4 +1,6 @@
 // Checks a catalog of model definitions (refusals 1 to 11). `check` accepts any words and writes nothing.
+#![tactic(auto)]
+
 mod frames;
 mod rules;
 mod scans;
@@ -23,7 +25,7 @@ const FRAMES: usize = 4096;
 
 // What `check` returns: the number of models, or the number of a refusal (1 to 11) and its place: the index of the
 // frame, the number of frames for 11, and 0 for 1 and 2.
-#[derive(Drop)]
+#[derive(Clone, Copy)]
 pub enum Checked {
     Models(usize),
     Refused { number: u16, place: usize },

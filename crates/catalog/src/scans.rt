@@ -13,7 +13,7 @@ use catalog_frames::{
 use number_sets::{SET_WORDS, is_in, mark};
 
 // The kind of point that a reference names.
-#[derive(Drop)]
+#[derive(Clone, Copy)]
 pub(crate) enum Target {
     ScaleFactor,
     CountPoint,

@@ -10,7 +10,7 @@ use frame_rules::LEVELS;
 // `models` is the number of models so far, an open one included; `depth` the number of open groups; `firsts` the first
 // frame inside each open group, the top group's first. `has_group` says whether a group is directly in the innermost
 // open group, `has_fill` whether a fill group is in the top group.
-#[derive(Drop)]
+#[derive(Clone, Copy)]
 pub(crate) struct State {
     pub(crate) models: usize,
     pub(crate) depth: usize,

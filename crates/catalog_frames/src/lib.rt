@@ -1,4 +1,6 @@
 // The frames of a catalog: eight words each; word 0 is the kind. `read_frame` accepts any words.
+#![tactic(auto)]
+
 ghost use Rattle.std.specs.Prelude.{◌≡◌, ◌/◌, ◌-◌, ◌<◌, ◌≤◌, length};
 ghost use Rattle.catalog_frames.specs.Frames.{word, frame_at, frame_in};
 ghost use Rattle.catalog_frames.specs.CodeTypes.{to_spec_frame};
@@ -40,7 +42,7 @@ pub const SUNSSF: u16 = 8;
 pub const READ_ONLY: u16 = 0;
 
 // The named words of a point frame. `scale` is the fixed scale factor or the number of the point that gives it.
-#[derive(Drop)]
+#[derive(Clone, Copy)]
 pub struct Point {
     pub number: u16,
     pub type_code: u16,
@@ -52,7 +54,7 @@ pub struct Point {
 }
 
 // The named words of a group frame. `count` is the constant count or the number of the point that gives it.
-#[derive(Drop)]
+#[derive(Clone, Copy)]
 pub struct Head {
     pub number: u16,
     pub group_type: u16,
@@ -61,7 +63,7 @@ pub struct Head {
 }
 
 // A frame by its kind. It is malformed if its kind is not 1 to 4, or a word that its kind does not name is not 0.
-#[derive(Drop)]
+#[derive(Clone, Copy)]
 pub enum Frame {
     Model(u16),
     Group(Head),

@@ -7,14 +7,14 @@ ghost use Rattle.definition_frames.specs.CodeTypes.{to_spec_point_or, to_spec_gr
 use catalog::{Frame, Head, Point, read_frame};
 
 // The point of a point frame, or any other frame.
-#[derive(Drop)]
+#[derive(Clone, Copy)]
 pub enum PointOr {
     Point(Point),
     Other,
 }
 
 // The head of a group frame, or any other frame.
-#[derive(Drop)]
+#[derive(Clone, Copy)]
 pub enum GroupOr {
     Group(Head),
     Other,

@@ -1,5 +1,7 @@
 // The frames of a model's definition as a walk visits them: the point or group of a frame, the frame after a group,
 // and the run of points from a frame on. Every public function accepts any arguments.
+#![tactic(auto)]
+
 mod frames;
 mod runs;
 

@@ -12,7 +12,7 @@ use catalog::PAD;
 const FRAMES: usize = 4096;
 
 // A run of points: its registers, its number of points, the frame after it, and whether its last point is a pad.
-#[derive(Drop)]
+#[derive(Clone, Copy)]
 pub struct Run {
     pub size: usize,
     pub points: usize,

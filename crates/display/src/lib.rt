@@ -1,6 +1,8 @@
 // What a screen shows of a SunSpec point: an exact decimal number, and whether two quantities are the same
 // amount. The text of a string and the bits of an event field are re-exported from crates of their own. Every
 // public call takes any arguments and carries an equation with the definitions of specs/.
+#![tactic(auto)]
+
 mod comparison;
 mod decimals;
 mod powers;
@@ -13,7 +15,7 @@ pub use point_types::Presence;
 pub use strings::text;
 
 // The length of the text that was written. Refused: 43 to 46, at place 0.
-#[derive(Drop)]
+#[derive(Clone, Copy)]
 pub enum DecimalText {
     Length(usize),
     Refused { number: u16 },
@@ -23,7 +25,7 @@ pub enum DecimalText {
 pub const MOST_DIGITS: usize = 20;
 
 // The digits of a number, at the start of `bytes`, and their number. The bytes after them are 0.
-#[derive(Drop)]
+#[derive(Clone, Copy)]
 pub struct Digits {
     pub bytes: [u8; MOST_DIGITS],
     pub count: usize,
@@ -31,7 +33,7 @@ pub struct Digits {
 
 // A raw value under its type, of a mandatory or an optional point, and its scale factor as a register: in two's
 // complement.
-#[derive(Drop)]
+#[derive(Clone, Copy)]
 pub struct Quantity {
     pub type_code: u16,
     pub presence: Presence,
@@ -40,7 +42,7 @@ pub struct Quantity {
 }
 
 // Whether two quantities are the same amount. Refused: 43 to 45, at place 0.
-#[derive(Drop)]
+#[derive(Clone, Copy)]
 pub enum Equality {
     Equal,
     Different,

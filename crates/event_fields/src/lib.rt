@@ -1,4 +1,6 @@
 // The bits of an event field.
+#![tactic(auto)]
+
 ghost use Rattle.std.specs.Prelude.{◌≡◌};
 ghost use Rattle.event_fields.specs.Events.{is_bitfield, event_bits};
 ghost use Rattle.event_fields.specs.CodeTypes.{to_spec_event_bits};
@@ -6,7 +8,7 @@ ghost use Rattle.event_fields.specs.CodeTypes.{to_spec_event_bits};
 use point_types::Presence;
 
 // The number of bits that are set and the lowest set position, 64 if none. Refused: 41 or 42, at place 0.
-#[derive(Drop)]
+#[derive(Clone, Copy)]
 pub enum EventBits {
     Of { count: u32, lowest: u32 },
     Refused { number: u16 },

@@ -1,5 +1,7 @@
 // Runs the example plants. The arguments are pairs of files: an input of `readplant` and the expected output. For each
 // pair it writes whether `read_plant`, the call that `readplant` makes, gives that output.
+#![tactic(auto)]
+
 ghost use Rattle.io.specs.Counts.{IsPrefixLen};
 
 use libc::STDOUT_FILENO;

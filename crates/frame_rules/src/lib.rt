@@ -1,5 +1,7 @@
 // Rules 4 to 10 for a single frame, given facts about the frames around it. For each kind of frame a function returns
 // the number of the first rule that the frame breaks, or 0. `depth` is the number of open groups.
+#![tactic(auto)]
+
 ghost use Rattle.std.specs.Prelude.{◌≡◌, ◌&&◌, ◌||◌, eqb};
 ghost use Rattle.lists.specs.Tests.{first_broken, one_holds};
 ghost use Rattle.number_sets.specs.NumberSets.{in_set};

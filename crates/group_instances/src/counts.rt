@@ -10,7 +10,7 @@ use crate::tables::entry_of;
 use catalog::{CONSTANT_COUNT, COUNT_BY_POINT, Head};
 
 // The count of a fill group, or that the model's length does not fit (29).
-#[derive(Drop)]
+#[derive(Clone, Copy)]
 pub enum Fill {
     Count(usize),
     NoFit,

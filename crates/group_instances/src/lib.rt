@@ -1,5 +1,7 @@
 // An instance of a group: its path, the registers of the points in its scope, and the number of instances of a group.
 // Every public function accepts any arguments.
+#![tactic(auto)]
+
 mod counts;
 mod paths;
 mod tables;

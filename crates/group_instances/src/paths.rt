@@ -8,7 +8,7 @@ use registers::{all_zero, part};
 pub const LOWER_LEVELS: usize = 3;
 
 // The instance numbers at levels 2, 3 and 4, 0 where absent.
-#[derive(Drop)]
+#[derive(Clone, Copy)]
 pub struct InstancePath {
     pub instances: [u16; 3],
 }

@@ -4,7 +4,7 @@ ghost use Rattle.input.specs.Digits.{digit_value, is_digit, digit_or0, are_digit
 ghost use Rattle.input.specs.CodeTypes.{to_spec_digit};
 
 // The value of a hexadecimal digit; none for any other byte.
-#[derive(Drop)]
+#[derive(Clone, Copy)]
 pub enum Digit {
     Of(u16),
     None,

@@ -1,4 +1,6 @@
 // The text of a catalog and a register map, as words (refusals 50 to 52).
+#![tactic(auto)]
+
 mod digits;
 mod lines;
 
@@ -14,7 +16,7 @@ pub const FRAME_WORDS: usize = 8;
 
 // The result of `parse`: the number of frames and of registers, or the number of a refusal and its place, a line counted
 // from 1.
-#[derive(Drop)]
+#[derive(Clone, Copy)]
 pub enum Parsed {
     Of { frames: usize, registers: usize },
     Refused { number: u16, place: usize },

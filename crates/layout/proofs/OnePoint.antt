@@ -57,6 +57,7 @@ number_among (point_frame q ∷ fs) p (later i) =
     among_later p.number q.number (numbers_of fs) (number_among fs p i)
 number_among (end_frame ∷ fs) p i = number_among fs p i
 number_among (malformed ∷ fs) p i = number_among fs p i
+number_among [] p i = elim i [ ]
 
 -- Two points with the same number are equal where no number is used twice.
 same_point : (fs : List Frame) → Distinct (numbers_of fs) → (p q : Point) → In p (frame_points fs) → In q (frame_points fs)
@@ -71,6 +72,7 @@ same_point (point_frame r ∷ fs) d p q (later i) first e =
 same_point (point_frame r ∷ fs) d p q (later i) (later j) e = same_point fs d.1 p q i j e
 same_point (end_frame ∷ fs) d p q i j e = same_point fs d p q i j e
 same_point (malformed ∷ fs) d p q i j e = same_point fs d p q i j e
+same_point [] d p q i j e = elim i [ ]
 
 -- So two points of a sound definition with the same number are equal.
 pub one_point_lem : (d : Definition) → SoundDefinition d → (p q : Point) → In p (defined_points d) → In q (defined_points d)

@@ -35,6 +35,7 @@ read_only_in p (q ∷ ps) i = go p q (eqb q.access read_only) refl (read_only_in
     go p q true e rest first = (first, eqb-true p.access read_only e)
     go p q true e rest (later i) = let r = rest i in (later r.0, r.1)
     go p q false e rest i = let r = rest i in (later r.0, r.1)
+read_only_in p [] i = elim i [ ]
 
 -- A count point is among them.
 count_point_kept : (n : ℕ) (ps : List Point) → has_count_point n ps ≡ true → has_count_point n (read_only_points ps) ≡ true

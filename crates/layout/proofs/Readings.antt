@@ -84,6 +84,8 @@ unfolding ends_with_pad all_but_last
 not_last q (p ∷ []) e t first = let z = eqb-true q.type_code pad e in absurd (omega (arith, z, t))
 not_last q (p ∷ r ∷ ps) e t first = first
 not_last q (p ∷ r ∷ ps) e t (later i) = later (not_last q (r ∷ ps) e t i)
+not_last q [] e t i = elim i [ ]
+not_last q (p ∷ []) e t (later i) = elim i [ ]
 
 -- So the scale factors of the points that are left resolve among these.
 pub resolves_left : (ps qs : List Point) → ends_with_pad ps ≡ true → Each (ScaleResolves ps) qs

@@ -28,6 +28,7 @@ module _ {A : Type 0} (at size : A → ℕ) where
       let u = upward (from + size x) to xs t.2 in (omega (arith, t.0), t.1, omega (arith, t.0, u))
   inside from to (y ∷ xs) t x (later i) =
       let r = inside (from + size y) to xs t.2 x i in (omega (arith, r.0), r.1, r.2)
+  inside from to [] t x i = elim i [ ]
 
   -- Elements that rise from `high` rise from any lower address.
   pub rises_lower : (low high : ℕ) (xs : List A) → low ≤ high → Rises at size high xs → Rises at size low xs
@@ -50,6 +51,7 @@ module _ {A : Type 0} (at size : A → ℕ) where
   pub above : (from : ℕ) (xs : List A) → Rises at size from xs → (x : A) → In x xs → (from ≤ at x) × (1 ≤ size x)
   above from (y ∷ xs) r x first = (r.0, r.1)
   above from (y ∷ xs) r x (later i) = let a = above (at y + size y) xs r.2 x i in (omega (arith, r.0, a.0), a.1)
+  above from [] r x i = elim i [ ]
 
   -- Of two elements, one ends before the other begins, or they are the same.
   pub apart : (from : ℕ) (xs : List A) → Rises at size from xs → (x y : A) → In x xs → In y xs
@@ -58,6 +60,7 @@ module _ {A : Type 0} (at size : A → ℕ) where
   apart from (z ∷ xs) r x y first (later j) = inr (inr (above (at z + size z) xs r.2 y j).0)
   apart from (z ∷ xs) r x y (later i) first = inr (inl (above (at z + size z) xs r.2 x i).0)
   apart from (z ∷ xs) r x y (later i) (later j) = apart (at z + size z) xs r.2 x y i j
+  apart from [] r x y i _ = elim i [ ]
 
   -- Elements that begin at the same address are the same.
   pub same_start : (from : ℕ) (xs : List A) → Rises at size from xs → (x y : A) → In x xs → In y xs → at y ≡ at x → y ≡ x

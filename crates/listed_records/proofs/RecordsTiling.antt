@@ -32,6 +32,7 @@ use Rattle.listed_records.proofs.ModelRecords.{RecordsOf, model_records}
 id_among : (d : Definition) (ds : List Definition) → In d ds → among d.id (ids_of ds) ≡ true
 id_among d (other ∷ ds) first = rw (eq-eqb d.id d.id refl)
 id_among d (other ∷ ds) (later o) = among_later d.id other.id (ids_of ds) (id_among d ds o)
+id_among d [] i = elim i [ ]
 
 -- A model is read by the definition of its id: no other has that id.
 reading_known : (ds : List Definition) → Distinct (ids_of ds) → (d : Definition) → In d ds → (m : Model) → d.id ≡ m.id
@@ -41,6 +42,7 @@ reading_known (other ∷ ds) distinct d (later o) m e =
     let differ : other.id ≡ m.id → ⊥ = λ q.
     clash (sym (id_among d ds o) ∙ ap (λ n. among n (ids_of ds)) (e ∙ sym q) ∙ distinct.0) in
     reading_later other ds m (ne_eqb other.id m.id differ) ∙ reading_known ds distinct.1 d o m e
+reading_known [] distinct d i m e = elim i [ ]
 
 -- ---- The points of one model
 

@@ -21,10 +21,13 @@ pub in_records : (i at id : ℕ) (ps : List ModelPoint) (r : Record) → In r (m
     → In r.point ps × (r ≡ record_of i at id r.point)
 in_records i at id (p ∷ ps) r first = (first, refl)
 in_records i at id (p ∷ ps) r (later o) = let s = in_records i at id ps r o in (later s.0, s.1)
+in_records i at id [] r k = elim k [ ]
 
 -- A reading that has a point is a reading as points.
 read_points : (r : Reading) (p : ModelPoint) → In p (points_of r) → r ≡ points (points_of r)
 read_points (points ps) p i = refl
+read_points unknown p i = elim i [ ]
+read_points (faulty _) p i = elim i [ ]
 
 -- Record r is that of a point of `own`, one of the models ms, the first of which has this index and address.
 pub record OfModel (read : Model → Reading) (index at : ℕ) (ms : List Model) (r : Record) : Type 0 where

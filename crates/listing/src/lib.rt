@@ -1,5 +1,7 @@
 // Lists the points of a register map by a catalog of model definitions (refusals 1 to 11 and 20 to 30), and finds
 // one of them.
+#![tactic(auto)]
+
 mod extents;
 mod frames;
 mod locating;
@@ -31,7 +33,7 @@ use surveys::{Survey, survey_model};
 
 // What `list` returns: the count of points and the number of headers; or a refusal's number, its place and the
 // number of headers before the refused one, with 30 all of them.
-#[derive(Drop)]
+#[derive(Clone, Copy)]
 pub enum Listing {
     Listed {
         points: usize,

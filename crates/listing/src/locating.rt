@@ -18,7 +18,7 @@ use definition_frames::{GroupOr, PointOr, group_at, point_at, run_extent};
 use group_instances::{InstancePath, LOWER_LEVELS, count_of, is_zero_from, number_at};
 
 // The search key: a point's number and its instance path.
-#[derive(Drop)]
+#[derive(Clone, Copy)]
 pub(crate) struct Key {
     pub(crate) number: u16,
     pub(crate) path: InstancePath,

@@ -22,7 +22,7 @@ use shown_points::show;
 pub const WIDTH: usize = 10;
 
 // The visited model: its index, its id, and the address of its header.
-#[derive(Drop)]
+#[derive(Clone, Copy)]
 pub(crate) struct Visit {
     pub(crate) index: usize,
     pub(crate) id: u16,
@@ -36,7 +36,7 @@ struct Instance {
 }
 
 // The visited model and the count of its fill group.
-#[derive(Drop)]
+#[derive(Clone, Copy)]
 struct Model {
     visit: Visit,
     fill: usize,

@@ -22,7 +22,7 @@ use register_map::{FIRST_HEADER, Header, body_address, header_at};
 use registers::{part, raw_value};
 
 // A point: its address, its definition in the catalog, and its raw value (0 if it has over four registers).
-#[derive(Drop)]
+#[derive(Clone, Copy)]
 pub struct Target {
     pub address: usize,
     pub point: Point,
@@ -30,7 +30,7 @@ pub struct Target {
 }
 
 // What `find` returns: the point, that there is no such point, or a refusal of listing (1 to 29) with its place.
-#[derive(Drop)]
+#[derive(Clone, Copy)]
 pub enum Finding {
     Found(Target),
     Nothing,

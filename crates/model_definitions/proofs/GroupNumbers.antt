@@ -68,6 +68,7 @@ part_numbers ps inside following =
 pub point_among : (p : Point) (ps : List Point) → In p ps → among p.number (numbers_of (point_frames ps)) ≡ true
 point_among p (q ∷ ps) first = rw (eq-eqb p.number p.number refl)
 point_among p (q ∷ ps) (later i) = among_later p.number q.number (numbers_of (point_frames ps)) (point_among p ps i)
+point_among p [] i = elim i [ ]
 
 -- If `a` excludes `b`, then `b` excludes `a`.
 excluded : (a b : Bool) → (a ≡ true → b ≡ false) → b ≡ true → a ≡ false

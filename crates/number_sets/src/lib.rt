@@ -1,4 +1,6 @@
 // Sets of 16-bit numbers: a bit for each of the 65,536, 64 to a word.
+#![tactic(auto)]
+
 ghost use Rattle.std.specs.Prelude.{◌≡◌, eqb};
 ghost use Rattle.number_sets.specs.NumberSets.{in_set, with_number, without_number, marked, Marks};
 

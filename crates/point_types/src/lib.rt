@@ -1,6 +1,8 @@
 // The point types: the code's table of rows, proved to be that of specs/Rows.antt, and what is looked up in it; and
 // the presence of a point, which decides whether an accumulator's 0 is a value.
 // Every public call takes any arguments and carries an equation with the definitions of specs/.
+#![tactic(auto)]
+
 ghost use Rattle.std.specs.Prelude.{◌≡◌};
 ghost use Rattle.std.proofs.Math.Option.{some};
 ghost use Rattle.point_types.specs.Presence.{presence_of};
@@ -13,21 +15,21 @@ use crate::Range::{NotNan, Only, ScaleFactor, UpTo, Whole};
 use crate::Unimplemented::{At, Never};
 
 // Whether a model must have a point.
-#[derive(Drop)]
+#[derive(Clone, Copy)]
 pub enum Presence {
     Mandatory,
     Optional,
 }
 
 // The formats of IEEE 754 for float32 and float64.
-#[derive(Drop)]
+#[derive(Clone, Copy)]
 pub enum Format {
     Binary32,
     Binary64,
 }
 
 // How the bits of a value are read; those of an accumulator as unsigned.
-#[derive(Drop)]
+#[derive(Clone, Copy)]
 pub enum Kind {
     Signed,
     Unsigned,
@@ -36,14 +38,14 @@ pub enum Kind {
 }
 
 // The pattern that marks a point as unimplemented, if there is one.
-#[derive(Drop)]
+#[derive(Clone, Copy)]
 pub enum Unimplemented {
     Never,
     At(u64),
 }
 
 // The patterns in range. ScaleFactor is -10 to 10 in one register.
-#[derive(Drop)]
+#[derive(Clone, Copy)]
 pub enum Range {
     Whole,
     UpTo(u64),
@@ -54,7 +56,7 @@ pub enum Range {
 
 // A type row. Its code is there for the proofs: by it they state that the row is one of the table. Its unimplemented
 // pattern is that of an optional point.
-#[derive(Drop)]
+#[derive(Clone, Copy)]
 pub struct TypeRow {
     pub code: u16,
     pub fewest: u16,
@@ -66,14 +68,14 @@ pub struct TypeRow {
 }
 
 // The result of looking up a type code.
-#[derive(Drop)]
+#[derive(Clone, Copy)]
 pub enum Found {
     Row(TypeRow),
     Nothing,
 }
 
 // The number of registers of a point of a type: from fewest to most.
-#[derive(Drop)]
+#[derive(Clone, Copy)]
 pub enum RegisterCount {
     Between { fewest: u16, most: u16 },
     UnknownType,

@@ -2,6 +2,8 @@
 // line is a command's word and its fields, with one space before each field. A line of more than 524,288 bytes
 // without its LF has no result line, and neither has any line after it. Every line that begins in the first
 // 16,777,216 bytes is processed.
+#![tactic(auto)]
+
 mod checking;
 mod decimal;
 mod decode;

@@ -1,4 +1,6 @@
 // Reads a catalog and a register map from standard input, and prints every point of the map: see docs/FORMAT.md.
+#![tactic(auto)]
+
 ghost use Rattle.std.specs.Prelude.{◌≡◌, ◌++◌, ◌+◌, ◌≤◌, length, take};
 ghost use Rattle.io.specs.Counts.{IsPrefixLen};
 ghost use Rattle.report.specs.CodeTypes.{length_of, written_by};

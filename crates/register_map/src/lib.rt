@@ -1,4 +1,6 @@
 // The headers of a register map (refusals 20 to 26). No catalog is needed.
+#![tactic(auto)]
+
 ghost use Rattle.std.specs.Prelude.{◌≡◌, ◌+◌, eqb, drop};
 ghost use Rattle.register_map.specs.Headers as Headers;
 ghost use Rattle.register_map.specs.CodeTypes.{to_spec_header, to_spec_opening};
@@ -18,7 +20,7 @@ pub const FIRST_HEADER: usize = 2;
 const END_ID: u16 = 0xFFFF;
 
 // What is found at a header: a model with its id and length, the end marker, or a refusal (22 to 26).
-#[derive(Drop)]
+#[derive(Clone, Copy)]
 pub enum Header {
     Model { id: u16, length: u16 },
     End,
@@ -26,7 +28,7 @@ pub enum Header {
 }
 
 // Whether a map can be read at all, or a refusal (20 or 21).
-#[derive(Drop)]
+#[derive(Clone, Copy)]
 pub enum Opening {
     Opened,
     Refused(u16),

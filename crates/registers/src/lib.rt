@@ -1,5 +1,7 @@
 // Registers and the raw value that they hold.
 // Every public call takes any arguments and carries an equation with the definitions of specs/.
+#![tactic(auto)]
+
 ghost use Rattle.std.specs.Prelude.{◌≡◌, ◌-◌, ◌*◌, ◌^◌, ◌<◌, min, length, take, drop};
 ghost use Rattle.registers.specs.Registers.{shown_raw, all_zero, too_wide};
 

@@ -1,5 +1,7 @@
 // What `readplant` does between reading its input and writing its output: it makes the text of a listing, or of a
 // refusal, from the text of a catalog and a map.
+#![tactic(auto)]
+
 mod text;
 
 ghost use Rattle.std.specs.Prelude.{◌≡◌, ◌≤◌, length};
@@ -37,7 +39,7 @@ pub const TEXT_BYTES: usize = 64 + ENTRIES * 21;
 pub const OUTPUT_BYTES: usize = 8 + TEXT_BYTES;
 
 // The length of the text that `read_plant` made: of a listing, or of what follows `refused ` in the line of a refusal.
-#[derive(Drop)]
+#[derive(Clone, Copy)]
 pub enum Report {
     Listing(usize),
     Refusal(usize),

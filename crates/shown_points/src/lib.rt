@@ -1,4 +1,6 @@
 // What a record shows of a point: its status, raw value and scale (document 01, "Status of a point" and "Listing").
+#![tactic(auto)]
+
 ghost use Rattle.std.specs.Prelude.{◌≡◌};
 ghost use Rattle.values.specs.Classes.{of_class};
 ghost use Rattle.point_types.specs.CodeTypes.{to_spec_presence};
@@ -13,7 +15,7 @@ use registers::{all_zero, raw_value};
 use values::{Class, Classified, classify};
 
 // The status, raw value and scale of a point.
-#[derive(Drop)]
+#[derive(Clone, Copy)]
 pub struct Shown {
     pub status: u64,
     pub raw: u64,

@@ -1,4 +1,6 @@
 // The text in a string's registers.
+#![tactic(auto)]
+
 ghost use Rattle.std.specs.Prelude.{◌≡◌, length};
 ghost use Rattle.strings.specs.Text.{has_string, until_zero_byte, text_at};
 

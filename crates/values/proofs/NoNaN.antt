@@ -2,6 +2,7 @@
 use mathlib.Core.Path.{◌≡◌, sym, ap, subst, ◌∙◌}
 use mathlib.Core.Bool.{true, false, not}
 use mathlib.Core.List.{List}
+use mathlib.Core.Option.{some}
 use Prim.Native.Nat.{ℕ}
 use borrow.Author.Tests.{not-true}
 use lib.Dec.{T}
@@ -11,11 +12,11 @@ use Rattle.point_types.specs.Presence.{Presence}
 use Rattle.point_types.specs.Rows.{TypeRow, Kind, Listed}
 use Rattle.point_types.proofs.Table.{float_row, listed}
 use Rattle.values.specs.Classes.{Class, holds_nan, in_range, class_of}
-use Rattle.values.specs.Decoding.{pattern_in, float, decoded}
+use Rattle.values.specs.Decoding.{pattern_in, float, decodable, decoded}
 use Rattle.values.proofs.Ranges.{in_not_nan}
 use Rattle.values.proofs.ClassCases.{row_of_decodable}
 use Rattle.values.proofs.ThreeClasses.{value_in_range}
-use Rattle.values.proofs.DecodedCases.{as_float, Cases, value_by_row, cases}
+use Rattle.values.proofs.DecodedCases.{ResultOf, as_float, Cases, value_by_row, cases}
 
 module _ (row : TypeRow) (raw : ℕ) (f : Format) (l : Listed row) (k : row.kind ≡ Kind.float f) where
   -- In the range of a float type is every pattern but a NaN's,
@@ -33,7 +34,12 @@ pub no_nan : (code : ℕ) (presence : Presence) (registers : List ℕ) (f : Form
     → T (not (is_nan x))
 no_nan code presence registers f x e = go f x (subst (Cases code presence registers) e (cases code presence registers))
   where
-    go : (g : Format) (y : Float) → Cases code presence registers (float g y) → T (not (is_nan y))
-    go g y (value_by_row row is (as_float h k v)) =
+    -- the case of a row, its pattern's float last, since that depends on the row
+    by_result : (row : TypeRow) → decodable code ≡ some row → (g : Format) (y : Float)
+        → ResultOf row presence (pattern_in row registers) (float g y) → T (not (is_nan y))
+    by_result row is g y (as_float h k v) =
         let raw = pattern_in row registers in
         rw (← nan_bits_is h raw, no_nan_pattern row raw h (listed code row (row_of_decodable code row is)) k presence v) tt
+
+    go : (g : Format) (y : Float) → Cases code presence registers (float g y) → T (not (is_nan y))
+    go g y (value_by_row row is r) = by_result row is g y r

@@ -15,7 +15,7 @@ use Rattle.point_types.specs.Rows.{TypeRow, row_of}
 use Rattle.point_types.proofs.Table.{row_at, no_row_outside, four_registers}
 use Rattle.values.specs.Decoding.{DecodedCode, refused, decoded}
 use Rattle.values.proofs.ClassCases.{no_row_lem, too_long, decodes}
-use Rattle.values.proofs.DecodedCases.{Cases, no_row, cases}
+use Rattle.values.proofs.DecodedCases.{Cases, no_row, value_by_row, cases}
 
 module _ (code : ℕ) (presence : Presence) (registers : List ℕ) where
   pub outside_refused : (DecodedCode code → ⊥) → decoded code presence registers ≡ refused 40 0
@@ -51,3 +51,4 @@ module _ (code : ℕ) (presence : Presence) (registers : List ℕ) where
           let most = leb-true r.0.most 4 (four_registers code r.0 r.1 ∙ b.2) in
           let d = decodes code r.0 r.1 most in
           impossible (cc)
+      go m p (value_by_row row is r) = elim r [ ]

@@ -13,7 +13,7 @@ use Rattle.registers.proofs.RegisterParts.{first_registers}
 use Rattle.registers.proofs.Splitting.{join_bound, split_join}
 use Rattle.point_types.specs.Presence.{Presence}
 use Rattle.point_types.specs.Rows.{TypeRow}
-use Rattle.point_types.proofs.Table.{float_row, listed}
+use Rattle.point_types.proofs.Table.{float_row}
 use Rattle.values.specs.Classes.{Class, width, class_of, PatternOf}
 use Rattle.values.specs.Decoding.{pattern_in, Decoded, decodable, decoded}
 use Rattle.values.specs.Encoding.{raw_value_of, encoded}

@@ -1,6 +1,8 @@
 // Values of SunSpec points: the class of a raw value under its type, `decode`, and the integer that a scale
 // factor multiplies.
 // Every public call takes any arguments and carries an equation with the definitions of specs/.
+#![tactic(auto)]
+
 mod classes;
 mod unscaled;
 
@@ -19,7 +21,7 @@ use registers::{all_ones, raw_value};
 pub use unscaled::unscaled_value;
 
 // A pattern of a type is a value, marks the point as unimplemented, or is out of the type's range.
-#[derive(Drop)]
+#[derive(Clone, Copy)]
 pub enum Class {
     Value,
     Unimplemented,
@@ -28,7 +30,7 @@ pub enum Class {
 
 // The result of `classify`: the class of a raw value, or why it has none. A string's width is that of the
 // longest string: for a point of another size, call `too_wide` as well.
-#[derive(Drop)]
+#[derive(Clone, Copy)]
 pub enum Classified {
     Of(Class),
     TooWide,
@@ -37,7 +39,7 @@ pub enum Classified {
 
 // The result of `decode`: a number, or why there is none. NotDecodable is refusal 40 at place 0: the code is
 // not 1–18, 21 or 22. (string and ipv6addr are types, but may take more than four registers.)
-#[derive(Drop)]
+#[derive(Clone, Copy)]
 pub enum Value {
     Signed(i64),
     Unsigned(u64),
@@ -50,7 +52,7 @@ pub enum Value {
 
 // The integer that a scale factor multiplies, by its sign and magnitude; negative is below 0. Or why there
 // is none: the raw value is no value of its type, or the type may carry no scale factor.
-#[derive(Drop)]
+#[derive(Clone, Copy)]
 pub enum UnscaledValue {
     Of { negative: bool, magnitude: u64 },
     NoValue,

@@ -40,6 +40,8 @@ calls_made catalog map₀ (w ∷ ws) (r ∷ returned) after (call {between = bet
     let first = c.result in
     let others = m.1 ∙ ap (λ l. results_in (write_results catalog l ws)) c.leaves in
     (m.0 ∙ ap (λ l. map_after_writes catalog l ws) c.leaves, λ k. first k ∷ others k)
+calls_made catalog map₀ [] (r ∷ returned) after i = elim i [ ]
+calls_made catalog map₀ (w ∷ ws) [] after i = elim i [ ]
 
 -- ---- The claim
 

@@ -1,4 +1,6 @@
 // Writes a raw value to a point of a register map (refusals 1 to 11, 20 to 29 and 31 to 35).
+#![tactic(auto)]
+
 ghost use Rattle.std.specs.Prelude.{◌≡◌, ◌+◌, ◌/◌, ◌%◌, ◌^◌, ◌≤◌, length};
 ghost use Rattle.std.proofs.lemmas.List.Edits.{sets};
 ghost use Rattle.registers.specs.Registers.{split};
@@ -18,7 +20,7 @@ use shown_points::point_class;
 use values::{Class, Classified, is_value_in};
 
 // What `write` returns: the point is written, or a refusal with its number and place.
-#[derive(Drop)]
+#[derive(Clone, Copy)]
 pub enum Written {
     Done,
     Refused { number: u16, place: usize },

@@ -1,0 +1,29 @@
+-- `catalog::scans::first_stop` meets its contract: as long as no frame stops the search, the frames left decide.
+use mathlib.Core.Path.{◌≡◌, refl, sym, ◌∙◌}
+use Prim.Native.Nat.{ℕ, ◌-◌, ◌/◌, ◌≤◌}
+use native.Mathlib.Omega.{arith}
+use lib.ListN.{length}
+use Rattle.catalog.specs.InternalMarks.{first_stop}
+use Rattle.catalog.proofs.MarkLaws as laws
+use borrow.Author.Rules.{rules}
+use Rattle.catalog.proofs.scans.first_stop.Goals as goal
+
+pub returns-then-is_stop : goal.returns-then-is_stop
+returns-then-is_stop c =
+    let l = c.loop-j in
+    let a = c.args in
+    let stop = sym c.is_stop.ensures ∙ c.if-is_stop.true in
+    sym (laws.stop_here a.catalog.now a.counts.now l.j (omega arith) stop) ∙ l.invariant.1
+
+pub loop-j-preserved : goal.loop-j-preserved
+loop-j-preserved c =
+    let l = c.loop-j in
+    let a = c.args in
+    let go = sym c.is_stop.ensures ∙ c.if-is_stop.false in
+    (omega arith, sym (laws.stop_later a.catalog.now a.counts.now l.j (omega arith) go) ∙ l.invariant.1)
+
+pub returns : goal.returns
+returns c =
+    let l = c.loop-j in
+    let a = c.args in
+    sym (laws.stop_none a.catalog.now a.counts.now l.j (omega arith)) ∙ l.invariant.1

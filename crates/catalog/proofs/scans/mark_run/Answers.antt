@@ -1,0 +1,37 @@
+-- `catalog::scans::mark_run` meets its contract: the rest of the run is still to be marked.
+use mathlib.Core.Path.{ap}
+use mathlib.Core.List.{List}
+use Prim.Native.Nat.{ℕ, ◌-◌}
+use native.Mathlib.Omega.{arith}
+use Rattle.number_sets.specs.NumberSets.{Marks}
+use Rattle.number_sets.proofs.MarkLaws as marks
+use Rattle.catalog.specs.Rules.{run}
+use Rattle.catalog.specs.InternalMarks.{in_run}
+use Rattle.catalog.proofs.WordScans.{run_continues, run_ends, frames_none}
+use Rattle.catalog.proofs.MarkLaws as laws
+use borrow.Author.Rules.{rules}
+use Rattle.catalog.proofs.scans.mark_run.Goals as goal
+
+pub returns-then-word_of-ne-POINT : goal.returns-then-word_of-ne-POINT
+returns-then-word_of-ne-POINT c =
+    let l = c.loop-j in
+    let a = c.args in
+    let ends = run_ends a.catalog.now l.j _ (omega arith) c.word_of.ensures c.if-word_of-ne-POINT.true in
+    l.invariant _ (marks.marks_none _ _ _ (λ n. laws.no_run a.catalog.now l.j a.target n ends))
+
+pub loop-j-preserved : goal.loop-j-preserved
+loop-j-preserved c =
+    λ after m.
+    let l = c.loop-j in
+    let a = c.args in
+    let kind = c.word_of.ensures in
+    let goes = run_continues a.catalog.now l.j _ (omega arith) kind c.if-word_of-ne-POINT.false in
+    l.invariant after
+    (marks.marks_then _ _ _ _ _ _ _ c.mark_point.ensures m (λ n. laws.run_more a.catalog.now l.j a.target n goes))
+
+pub returns : goal.returns
+returns c =
+    let l = c.loop-j in
+    let a = c.args in
+    let ends = ap run (frames_none a.catalog.now l.j (omega arith)) in
+    l.invariant _ (marks.marks_none _ _ _ (λ n. laws.no_run a.catalog.now l.j a.target n ends))

@@ -1,0 +1,29 @@
+-- `catalog::scans::take_numbers_out` meets its contract: the numbers of the frames so far are taken out.
+use mathlib.Core.Path.{◌≡◌}
+use mathlib.Core.Bool.{false}
+use Prim.Native.Nat.{◌+◌, ◌-◌, ◌≤◌}
+use native.Mathlib.Omega.{arith}
+use Rattle.lists.specs.Members.{among}
+use Rattle.number_sets.specs.NumberSets.{Marks}
+use Rattle.number_sets.proofs.MarkLaws as marks
+use Rattle.catalog.specs.InternalScans.{numbers_in}
+use Rattle.catalog.proofs.WordScans.{number_next, number_nowhere}
+use borrow.Author.Rules.{rules}
+use Rattle.catalog.proofs.scans.take_numbers_out.Goals as goal
+
+pub loop-j-init : goal.loop-j-init
+loop-j-init c =
+    let a = c.args in
+    let none = a.first - a.first in
+    (search rules, search rules, marks.marks_none _ _ _ (λ n. number_nowhere a.catalog.now a.first n none (omega arith)))
+
+pub loop-j-preserved : goal.loop-j-preserved
+loop-j-preserved c =
+    let l = c.loop-j in
+    let a = c.args in
+    let first = a.first in (
+      omega arith,
+      omega arith,
+      marks.marks_then _ _ _ _ _ _ _ l.invariant.2 c.mark_number.ensures
+          (λ n. number_next a.catalog.now first n (l.j + 1 - first) (l.j - first) l.j (omega arith) (omega arith)),
+    )
