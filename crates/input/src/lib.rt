@@ -6,7 +6,8 @@ mod lines;
 
 ghost use Rattle.std.specs.Prelude.{◌≡◌};
 ghost use Rattle.input.specs.Parsing.{stored_catalog, stored_map};
-ghost use Rattle.input.specs.CodeTypes.{to_spec_parsed, result, parsed_into, CountsFit};
+ghost use Rattle.input.specs.CodeTypes as CodeTypes;
+ghost use Rattle.input.specs.CodeTypes.{to_spec_parsed, parsed_into, CountsFit};
 
 pub use digits::{Digit, digit_of};
 use lines::{CatalogLines, MapLines, store_words, survey_catalog, survey_map};
@@ -25,10 +26,10 @@ pub enum Parsed {
 // Stores the catalog and the map of `text` at the start of the two lists; the lengths of the lists are the capacity for
 // frames and registers. All lines are checked before anything is stored, so a refusal changes neither list.
 pub fn parse(text: &[u8], catalog: &mut [u16], map: &mut [u16]) -> Parsed
-    ensures* r_value { λ r. ⌜ to_spec_parsed r ≡ result (parsed_into text.now catalog.old map.old) ⌝ }
-    ensures* catalog_after { λ _. ⌜ catalog.new ≡ stored_catalog (parsed_into text.now catalog.old map.old) catalog.old ⌝ }
-    ensures* map_after { λ _. ⌜ map.new ≡ stored_map (parsed_into text.now catalog.old map.old) map.old ⌝ }
-    ensures* fact { λ r. ⌜ CountsFit catalog.new map.new r ⌝ }
+    ensures result_value { to_spec_parsed result ≡ CodeTypes.result (parsed_into text.now catalog.old map.old) }
+    ensures catalog_after { catalog.new ≡ stored_catalog (parsed_into text.now catalog.old map.old) catalog.old }
+    ensures map_after { map.new ≡ stored_map (parsed_into text.now catalog.old map.old) map.old }
+    ensures counts_fit { CountsFit catalog.new map.new result }
 {
     let found = survey_catalog(text, catalog.len() / FRAME_WORDS);
     match found {
