@@ -35,6 +35,7 @@ pub enum Opening {
 }
 
 // Checks the map as a whole (20 and 21).
+#[tactic(auto, unfolding(crate::specs::Headers::opening))]
 pub fn opened(map: &[u16]) -> Opening
     ensures { to_spec_opening result ≡ Headers.opening map.now }
 {

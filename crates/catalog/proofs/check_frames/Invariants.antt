@@ -14,7 +14,7 @@ use borrow.Author.Rules.{rules}
 use Rattle.catalog.proofs.check_frames.Given as goal
 
 abbrev pub invariant-loop-i : goal.invariant-loop-i
-invariant-loop-i l = (l.i ≤ l.frames) × frame.Holds l.catalog l.ids-1 l.numbers-1 l.scales-1 l.uncounted l.i l.state
+invariant-loop-i l = (l.i ≤ l.frames) × frame.Holds l.catalog l.ids l.numbers l.scales l.uncounted l.i l.state
 
 abbrev pub decreases-loop-i : goal.decreases-loop-i
 decreases-loop-i l = l.frames - l.i
