@@ -2,7 +2,6 @@
 use mathlib.Core.Path.{sym, ◌∙◌}
 use native.Mathlib.Omega.{arith}
 use Rattle.catalog.proofs.CheckSteps as steps
-use borrow.Author.Rules.{rules}
 use Rattle.catalog.proofs.check.Goals as goal
 
 pub returns-then-catalog-ne0 : goal.returns-then-catalog-ne0

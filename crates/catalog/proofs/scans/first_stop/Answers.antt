@@ -1,11 +1,7 @@
 -- `catalog::scans::first_stop` meets its contract: as long as no frame stops the search, the frames left decide.
-use mathlib.Core.Path.{◌≡◌, refl, sym, ◌∙◌}
-use Prim.Native.Nat.{ℕ, ◌-◌, ◌/◌, ◌≤◌}
+use mathlib.Core.Path.{sym, ◌∙◌}
 use native.Mathlib.Omega.{arith}
-use lib.ListN.{length}
-use Rattle.catalog.specs.InternalMarks.{first_stop}
 use Rattle.catalog.proofs.MarkLaws as laws
-use borrow.Author.Rules.{rules}
 use Rattle.catalog.proofs.scans.first_stop.Goals as goal
 
 pub returns-then-is_stop : goal.returns-then-is_stop

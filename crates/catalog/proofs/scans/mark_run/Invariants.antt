@@ -1,15 +1,8 @@
 -- `catalog::scans::mark_run` meets its contract: the rest of the run is still to be marked.
-use mathlib.Core.Path.{ap}
 use mathlib.Core.List.{List}
 use Prim.Native.Nat.{ℕ, ◌-◌}
-use native.Mathlib.Omega.{arith}
 use Rattle.number_sets.specs.NumberSets.{Marks}
-use Rattle.number_sets.proofs.MarkLaws as marks
-use Rattle.catalog.specs.Rules.{run}
 use Rattle.catalog.specs.InternalMarks.{in_run}
-use Rattle.catalog.proofs.WordScans.{run_continues, run_ends, frames_none}
-use Rattle.catalog.proofs.MarkLaws as laws
-use borrow.Author.Rules.{rules}
 use Rattle.catalog.proofs.scans.mark_run.Given as goal
 
 abbrev pub invariant-loop-j : goal.invariant-loop-j

@@ -1,14 +1,9 @@
 -- `catalog::scans::take_numbers_out` meets its contract: the numbers of the frames so far are taken out.
-use mathlib.Core.Path.{◌≡◌}
 use mathlib.Core.Bool.{false}
-use Prim.Native.Nat.{◌+◌, ◌-◌, ◌≤◌}
-use native.Mathlib.Omega.{arith}
+use Prim.Native.Nat.{◌-◌, ◌≤◌}
 use Rattle.lists.specs.Members.{among}
 use Rattle.number_sets.specs.NumberSets.{Marks}
-use Rattle.number_sets.proofs.MarkLaws as marks
 use Rattle.catalog.specs.InternalScans.{numbers_in}
-use Rattle.catalog.proofs.WordScans.{number_next, number_nowhere}
-use borrow.Author.Rules.{rules}
 use Rattle.catalog.proofs.scans.take_numbers_out.Given as goal
 
 abbrev pub invariant-loop-j : goal.invariant-loop-j

@@ -1,0 +1,20 @@
+-- `definition_frames::frames::after_group` meets its contract: the frames visited and the frames to the end are together those
+-- of the group.
+use mathlib.Core.Path.{◌≡◌, refl, ap, ◌∙◌}
+use Prim.Native.Nat.{ℕ, ◌+◌, ◌-◌, ◌/◌, ◌≤◌}
+use native.Mathlib.Omega.{arith}
+use lib.ListN.{length}
+use Rattle.catalog_frames.specs.Frames.{frame_in}
+use Rattle.layout.specs.FrameWalk.{onward, frames_to_end, frames_of_group}
+use Rattle.layout.proofs.PassedFrames as passed
+use Rattle.definition_frames.proofs.frames.after_group.Given as goal
+
+abbrev pub invariant-loop-at : goal.invariant-loop-at
+invariant-loop-at l =
+    (l.at + frames_to_end (onward l.catalog l.at) l.depth ≡ l.i + frames_of_group (onward l.catalog l.i))
+    × (l.depth ≤ l.at)
+    × (l.at ≤ l.frames)
+    × (l.frames ≡ length l.catalog / 8)
+
+abbrev pub decreases-loop-at : goal.decreases-loop-at
+decreases-loop-at l = l.frames - l.at
