@@ -1,6 +1,5 @@
 -- `shown_points::class_of` meets its contract: by the raw value of up to four registers, else by whether all are 0.
 use mathlib.Core.Path.{◌≡◌, sym, ap, ◌∙◌}
-use borrow.Author.Rules.{rules}
 use Rattle.registers.specs.Registers.{join}
 use Rattle.registers.proofs.Joining.{shown}
 use Rattle.catalog_frames.specs.CodeTypes.{to_spec_point}

@@ -1,12 +1,9 @@
 -- `definition_frames::frames::after_group` meets its contract: the frames visited and the frames to the end are together those
 -- of the group.
-use mathlib.Core.Path.{◌≡◌, refl, ap, ◌∙◌}
-use Prim.Native.Nat.{ℕ, ◌+◌, ◌-◌, ◌/◌, ◌≤◌}
-use native.Mathlib.Omega.{arith}
+use mathlib.Core.Path.{◌≡◌}
+use Prim.Native.Nat.{◌+◌, ◌-◌, ◌/◌, ◌≤◌}
 use lib.ListN.{length}
-use Rattle.catalog_frames.specs.Frames.{frame_in}
 use Rattle.layout.specs.FrameWalk.{onward, frames_to_end, frames_of_group}
-use Rattle.layout.proofs.PassedFrames as passed
 use Rattle.definition_frames.proofs.frames.after_group.Given as goal
 
 abbrev pub invariant-loop-at : goal.invariant-loop-at

@@ -1,18 +1,10 @@
 -- `definition_frames::runs::run_extent` meets its contract: the points counted and the points that are left are together those
 -- of the run.
-use mathlib.Core.Path.{◌≡◌, sym, ap, ◌∙◌}
-use mathlib.Core.List.{◌∷◌}
-use Prim.Native.Nat.{ℕ, suc, ◌+◌, ◌-◌, ◌≤◌}
-use native.Mathlib.Omega.{arith}
-use borrow.Author.Rules.{rules}
+use Prim.Native.Nat.{◌-◌, ◌≤◌}
 use lib.ListN.{take}
-use lib.Seq.{take-nil}
 use Rattle.catalog.specs.Rules.{run}
-use Rattle.catalog_frames.specs.CodeTypes.{to_spec_point}
 use Rattle.layout.specs.FrameWalk.{onward}
-use Rattle.definition_frames.specs.CodeTypes.{to_spec_point_or}
-use Rattle.layout.proofs.FrameRuns.{run_more, run_ends}
-use Rattle.definition_frames.proofs.RunSteps.{RunFrom, run_begins, run_goes, run_stops, to_spec_run_lem}
+use Rattle.definition_frames.proofs.RunSteps.{RunFrom}
 use Rattle.definition_frames.proofs.runs.run_extent.Given as goal
 
 abbrev pub invariant-loop-points : goal.invariant-loop-points
