@@ -16,7 +16,7 @@ pub(crate) const CAP: usize = 65536;
 // Sibling groups: their registers and points, without those of a fill group; the registers and points of one
 // instance of the fill group, 0 if there is none; whether a count point is unimplemented; and the frame after
 // the end frame of the group that contains them.
-#[derive(Drop)]
+#[derive(Clone, Copy)]
 pub(crate) struct Extent {
     pub(crate) size: usize,
     pub(crate) points: usize,

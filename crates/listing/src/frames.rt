@@ -10,7 +10,7 @@ ghost use Rattle.listing.specs.InternalContracts.{FoundParses};
 use catalog::{Frame, read_frame};
 
 // The frame where a definition begins, right after its model frame; or that the catalog lacks it.
-#[derive(Drop)]
+#[derive(Clone, Copy)]
 pub(crate) enum Found {
     At(usize),
     Nothing,

@@ -25,21 +25,21 @@ pub(crate) struct Key {
 }
 
 // A point that was located: its offset in the body, and its definition in the catalog.
-#[derive(Drop)]
+#[derive(Clone, Copy)]
 pub(crate) struct Location {
     pub(crate) offset: usize,
     pub(crate) point: Point,
 }
 
 // The point with the search key, or that there is none.
-#[derive(Drop)]
+#[derive(Clone, Copy)]
 pub(crate) enum Located {
     At(Location),
     Nothing,
 }
 
 // A frame of the definition, and the offset in the body where its points or groups begin.
-#[derive(Drop)]
+#[derive(Clone, Copy)]
 pub(crate) struct Position {
     pub(crate) frame: usize,
     pub(crate) offset: usize,
@@ -77,7 +77,7 @@ pub(crate) fn locate_model(
 
 // A group: the number of its instances, the registers of one instance's own points and of one whole instance, the frame of the
 // groups in it, and the frame after its end frame.
-#[derive(Drop)]
+#[derive(Clone, Copy)]
 struct Shape {
     count: usize,
     own_size: usize,

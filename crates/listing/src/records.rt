@@ -30,7 +30,7 @@ pub(crate) struct Visit {
 }
 
 // An instance of a group: its path. The points in its scope are in the table.
-#[derive(Drop)]
+#[derive(Clone, Copy)]
 struct Instance {
     path: InstancePath,
 }
@@ -43,7 +43,7 @@ struct Model {
 }
 
 // The progress of the walk: the number of records written, the offset in the body, and the frame.
-#[derive(Drop)]
+#[derive(Clone, Copy)]
 pub(crate) struct Progress {
     pub(crate) records: usize,
     pub(crate) offset: usize,

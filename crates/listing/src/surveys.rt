@@ -14,7 +14,7 @@ use group_instances::{Fill, LOWER_LEVELS, fill_count, record_run};
 
 // The result of a survey: the catalog lacks the model's id; a refusal (27 to 29); or the frame where the definition
 // begins, the number of points and the count of the fill group.
-#[derive(Drop)]
+#[derive(Clone, Copy)]
 pub(crate) enum Survey {
     Unknown,
     Refused(u16),

@@ -1,0 +1,25 @@
+-- `listing::locating::locate_run` meets its contract: the result among the remaining points is the result among all.
+use mathlib.Core.Path.{◌≡◌, refl, sym, ap, ◌∙◌}
+use mathlib.Core.List.{List}
+use Prim.Native.Nat.{◌+◌, ◌-◌, ◌/◌}
+use native.Mathlib.Omega.{arith}
+use borrow.Author.Rules.{rules}
+use lib.ListN.{length}
+use Rattle.catalog_frames.specs.Frames.{Point}
+use Rattle.catalog_frames.specs.CodeTypes.{to_spec_point}
+use Rattle.layout.specs.PointTables.{present_within}
+use Rattle.layout.specs.InternalWalks.{content_from, ParsesAt}
+use Rattle.layout.specs.Locating.{located_among}
+use Rattle.layout.proofs.FramePosition as position
+use Rattle.layout.proofs.LocatingSteps.{none_left, none_past, found_first, not_first}
+use Rattle.definition_frames.specs.CodeTypes.{to_spec_point_or}
+use Rattle.listing.proofs.locating.locate_run.Given as goal
+
+abbrev pub invariant-loop-at : goal.invariant-loop-at
+invariant-loop-at l =
+    (located_among l.number l.at.offset (present_within l.limit l.at.offset (content_from l.catalog l.at.frame).points)
+    ≡ located_among l.number l.initial.at.offset (present_within l.limit l.initial.at.offset (content_from l.catalog l.initial.at.frame).points))
+    × ParsesAt l.catalog l.at.frame
+
+abbrev pub decreases-loop-at : goal.decreases-loop-at
+decreases-loop-at l = length l.catalog / 8 - l.at.frame

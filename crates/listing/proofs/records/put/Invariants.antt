@@ -1,0 +1,16 @@
+-- `listing::records::put` meets its contract: storing the remaining numbers gives what storing all gives.
+use mathlib.Core.Path.{◌≡◌, refl, ◌∙◌}
+use Prim.Native.Nat.{◌+◌, ◌-◌, ◌≤◌}
+use native.Mathlib.Nat.{add-zero}
+use native.Mathlib.Omega.{arith}
+use borrow.Author.Rules.{rules}
+use lib.ListN.{length, drop, length-set, drop_of_length-le}
+use lib.Seq.{sets}
+use Rattle.listing.proofs.WrittenRecords.{sets_more}
+use Rattle.listing.proofs.records.put.Given as goal
+
+abbrev pub invariant-loop-k : goal.invariant-loop-k
+invariant-loop-k l = (sets l.out (l.at + l.k) (drop l.k l.numbers) ≡ sets l.initial.out l.at l.numbers) × (length l.out ≡ length l.initial.out) × (l.k ≤ length l.numbers)
+
+abbrev pub decreases-loop-k : goal.decreases-loop-k
+decreases-loop-k l = length l.numbers - l.k

@@ -1,0 +1,33 @@
+-- `listing::records::put_run` meets its contract: writing the remaining points gives what writing all gives.
+use mathlib.Core.Path.{sym, ap, ◌∙◌}
+use Prim.Native.Nat.{◌-◌, ◌/◌}
+use native.Mathlib.Omega.{arith}
+use borrow.Author.Rules.{rules}
+use lib.ListN.{length}
+use Rattle.catalog_frames.specs.CodeTypes.{to_spec_point}
+use Rattle.definition_frames.specs.CodeTypes.{to_spec_point_or}
+use Rattle.listing.proofs.PointRuns.{StillWrites, still_all, still_within, still_past, still_other, first_fits, still_first}
+use Rattle.listing.proofs.records.put_run.Goals as goal
+
+pub put_record-requires-clause-point_fits : goal.put_record-requires-clause-point_fits
+put_record-requires-clause-point_fits c =
+    let i = c.loop-at.invariant in
+    let f = sym c.point_at-next.ensures ∙ ap to_spec_point_or c.in-Point.is in
+    let fits = first_fits i (to_spec_point c.in-Point.point) c.loop-at-test.true f in
+    fits.0
+
+pub put_record-requires-clause-records_in_bounds : goal.put_record-requires-clause-records_in_bounds
+put_record-requires-clause-records_in_bounds c =
+    let i = c.loop-at.invariant in
+    let f = sym c.point_at-next.ensures ∙ ap to_spec_point_or c.in-Point.is in
+    let fits = first_fits i (to_spec_point c.in-Point.point) c.loop-at-test.true f in
+    fits.1
+
+pub overflow_add-at-in-Point-2 : goal.overflow_add-at-in-Point-2
+overflow_add-at-in-Point-2 c =
+    let i = c.loop-at.invariant in
+    omega (arith, i.asks.few, still_within i)
+
+pub loop-at-smaller : goal.loop-at-smaller
+loop-at-smaller c =
+    omega (arith, still_within c.loop-at.invariant)
