@@ -22,19 +22,83 @@ pub loop-at-init : goal.loop-at-init
 loop-at-init c =
     (survey_starts (reading (definitions c.args.catalog.now)) c.args.map.now, c.requires.table)
 
-pub returns-in-End-clause-result_value : goal.returns-in-End-clause-result_value
-returns-in-End-clause-result_value c =
+pub survey_model-survey-requires : goal.survey_model-survey-requires
+survey_model-survey-requires c =
+    let l = c.loop-at in
+    let h = sym c.header_at-header.ensures ∙ ap to_spec_header c.in-Model.is in
+    let short = (opening_none c.args.map.now c.requires.map_value).0 in
+    let ends = model_ends (eqb l.at 2) c.args.map.now l.at h in
+    let all = ap length c.part.ensures ∙ body_length c.args.map.now l.at c.in-Model.id c.in-Model.length h in
+    record {
+      accepted = c.requires.accepted;
+      table = (l.invariant.1, omega (arith, all, short, ends));
+    }
+
+pub returns-in-Refused-survey : goal.returns-in-Refused-survey
+returns-in-Refused-survey c =
+    let l = c.loop-at in
+    let h = sym c.header_at-header.ensures ∙ ap to_spec_header c.in-Model.is in
+    let short = (opening_none c.args.map.now c.requires.map_value).0 in
+    let read = reading (definitions c.args.catalog.now) in
+    let seen = c.survey_model-survey.ensures.result_value
+    ∙ ap (λ body. surveyed (read (record { id = c.in-Model.id; body = body }))) c.part.ensures in
+    let e = sym (ap to_spec_survey c.in-Refused-survey.is) ∙ seen in
+    record {
+      result_value = c.refused.ensures ∙ survey_faulty l.invariant.0 short h e;
+      table_2 = c.survey_model-survey.ensures.table_2;
+    }
+
+pub overflow_add-points : goal.overflow_add-points
+overflow_add-points c =
+    let l = c.loop-at in
+    let h = sym c.header_at-header.ensures ∙ ap to_spec_header c.in-Model.is in
+    let short = (opening_none c.args.map.now c.requires.map_value).0 in
+    let read = reading (definitions c.args.catalog.now) in
+    let seen = c.survey_model-survey.ensures.result_value
+    ∙ ap (λ body. surveyed (read (record { id = c.in-Model.id; body = body }))) c.part.ensures in
+    let e = sym (ap to_spec_survey c.in-Points.is) ∙ seen in
+    let more = more_fit l.invariant.0 short h (points_few c.args.catalog.now c.requires.accepted) e in
+    record { fits = omega (arith, more) }
+
+pub loop-at-preserved : goal.loop-at-preserved
+loop-at-preserved c =
+    let l = c.loop-at in
+    let h = sym c.header_at-header.ensures ∙ ap to_spec_header c.in-Model.is in
+    let short = (opening_none c.args.map.now c.requires.map_value).0 in
+    let read = reading (definitions c.args.catalog.now) in
+    let seen = c.survey_model-survey.ensures.result_value
+    ∙ ap (λ body. surveyed (read (record { id = c.in-Model.id; body = body }))) c.part.ensures in
+    let few = points_few c.args.catalog.now c.requires.accepted in
+    let Goes : ℕ → Type 0 = λ n. Surveying read c.args.map.now (l.at + (2 + c.in-Model.length)) (l.headers + 1) n in
+    let next : Goes c.match-survey.points = elim c.match-survey.branch [
+      | goal.in-Unknown w ↦ subst Goes (sym w.points-is) (survey_unknown l.invariant.0 short h (sym (ap to_spec_survey w.in-Unknown.is) ∙ seen))
+      | goal.in-Points w ↦ subst Goes (sym w.points-is) (survey_points l.invariant.0 short h few (sym (ap to_spec_survey w.in-Points.is) ∙ seen))
+    ] in
+    let Reached : ℕ → Type 0 = λ at. Surveying read c.args.map.now at (l.headers + 1) c.match-survey.points in
+    (subst Reached (sym c.after_model-at.ensures) next, c.survey_model-survey.ensures.table_2)
+
+pub returns-in-End : goal.returns-in-End
+returns-in-End c =
     let l = c.loop-at in
     let h = sym c.header_at-header.ensures ∙ ap to_spec_header c.in-End.is in
-    survey_ends l.invariant.0 (omega arith) h
+    record {
+      result_value = survey_ends l.invariant.0 (omega arith) h;
+      table_2 = l.invariant.1;
+    }
 
-pub returns-in-Refused-clause-result_value : goal.returns-in-Refused-clause-result_value
-returns-in-Refused-clause-result_value c =
+pub returns-in-Refused : goal.returns-in-Refused
+returns-in-Refused c =
     let l = c.loop-at in
     let h = sym c.header_at-header.ensures ∙ ap to_spec_header c.in-Refused.is in
-    c.refused-in-Refused.ensures ∙ survey_refused l.invariant.0 (omega arith) h
+    record {
+      result_value = c.refused-in-Refused.ensures ∙ survey_refused l.invariant.0 (omega arith) h;
+      table_2 = l.invariant.1;
+    }
 
-pub returns-clause-result_value : goal.returns-clause-result_value
-returns-clause-result_value c =
+pub returns : goal.returns
+returns c =
     let l = c.loop-at in
-    c.refused-2.ensures ∙ survey_late l.invariant.0 (omega arith)
+    record {
+      result_value = c.refused-2.ensures ∙ survey_late l.invariant.0 (omega arith);
+      table_2 = l.invariant.1;
+    }
