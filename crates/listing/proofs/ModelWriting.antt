@@ -1,10 +1,9 @@
 -- Writing the records of a model: its top points, and then its groups.
 use mathlib.Core.Path.{◌≡◌, refl, sym, ap, subst, ◌∙◌}
 use mathlib.Core.List.{List, ◌++◌, append-nil}
-use Prim.Native.Nat.{ℕ, ◌+◌, ◌*◌, ◌-◌, ◌≤◌, ◌<◌}
+use Prim.Native.Nat.{ℕ, ◌+◌, ◌*◌, ◌≤◌, ◌<◌}
 use native.Mathlib.Omega.{arith}
 use lib.ListN.{length, get_or}
-use Rattle.lists.specs.Members.{first}
 use Rattle.catalog_frames.specs.Frames.{Point}
 use Rattle.model_definitions.specs.Definitions.{Groups, Content, points_size, definitions}
 use Rattle.model_definitions.specs.Soundness.{ScaleResolves}

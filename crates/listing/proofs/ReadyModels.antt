@@ -9,14 +9,13 @@ use native.Mathlib.Omega.{arith}
 use lib.Dec.{ltb}
 use lib.ListN.{length, get_or}
 use Rattle.lists.specs.Each.{Each}
-use Rattle.lists.specs.Members.{first}
 use Rattle.catalog_frames.specs.Frames.{Point}
 use Rattle.model_definitions.specs.Definitions.{Content, points_size, definitions}
 use Rattle.model_definitions.specs.Soundness.{SoundPoint, SoundGroups, ScaleResolves}
 use Rattle.model_definitions.proofs.References.{points_resolve}
 use Rattle.layout.specs.Points.{ModelPoint, Scope}
 use Rattle.layout.specs.Layout.{nothing, within, top_scope, count_of, measured, groups_size, fill_size_of, fill_of, counts_of, points_at, entered, groups_at, no_instance, top_instance, content_at, rest_size}
-use Rattle.layout.specs.Reading.{Reading, points, read_by, reading}
+use Rattle.layout.specs.Reading.{Reading, read_by, reading}
 use Rattle.layout.specs.PointTables.{scope_in, present_within}
 use Rattle.layout.specs.InternalWalks.{content_from, Accepted, instance_in, IsTable, HasPoints, Ready}
 use Rattle.layout.proofs.Readings.{Full, HowRead, how_read}

@@ -5,7 +5,6 @@ use Rattle.register_map.specs.CodeTypes.{to_spec_opening}
 use Rattle.layout.specs.Reading.{reading}
 use Rattle.listing.specs.Listing.{result}
 use Rattle.listing.proofs.ListingCases.{opened, unopened}
-use borrow.Author.Rules.{rules}
 use Rattle.listing.proofs.survey_checked.Goals as goal
 
 pub returns-in-Opened-clause-result_value : goal.returns-in-Opened-clause-result_value

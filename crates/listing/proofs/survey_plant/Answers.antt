@@ -3,7 +3,6 @@ use mathlib.Core.Path.{sym, ap, ◌∙◌}
 use Rattle.catalog.specs.CodeTypes as Catalog
 use Rattle.listing.specs.Listing.{result}
 use Rattle.listing.proofs.ListingCases.{records_accepted, records_refused}
-use borrow.Author.Rules.{rules}
 use Rattle.listing.proofs.survey_plant.Goals as goal
 
 pub returns-in-Models-clause-result_value : goal.returns-in-Models-clause-result_value

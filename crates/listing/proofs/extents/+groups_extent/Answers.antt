@@ -1,78 +1,107 @@
 -- `listing::extents::groups_extent` meets its contract: the groups summed up and those that remain are all groups of the group.
 use mathlib.Core.Path.{◌≡◌, refl, sym, ap, subst, ◌∙◌}
-use Prim.Native.Nat.{ℕ, ◌+◌, ◌-◌, ◌/◌, ◌<◌}
+use mathlib.Core.Option.{some}
+use mathlib.Core.List.{List}
+use Prim.Native.Nat.{ℕ, ◌+◌, ◌-◌, ◌≤◌}
 use native.Mathlib.Omega.{arith}
-use lib.ListN.{length}
+use lib.ListN.{take}
+use Rattle.catalog.specs.Rules.{run}
+use Rattle.catalog_frames.specs.Frames.{Head, frame_in}
+use Rattle.layout.specs.FrameWalk.{onward, head_of}
 use Rattle.layout.specs.PointTables.{scope_in}
-use Rattle.layout.specs.InternalWalks.{content_from, AtGroups}
+use Rattle.layout.specs.InternalWalks.{AtGroups}
 use Rattle.layout.proofs.FramePosition as position
-use Rattle.definition_frames.proofs.RunSteps.{content_run}
 use Rattle.layout.proofs.GroupDescent as groups
-use Rattle.definition_frames.specs.CodeTypes.{to_spec_group_or}
+use Rattle.definition_frames.specs.CodeTypes.{to_spec_group_or, to_spec_run, run_of}
+use Rattle.definition_frames.specs.declared.runs.Run.{Run}
+use Rattle.definition_frames.proofs.RunSteps.{content_run}
 use Rattle.listing.specs.InternalContracts.{RunOf}
 use Rattle.listing.proofs.ExtentSteps as steps
 use Rattle.listing.proofs.ExtentWalks as walks
-use borrow.Author.Rules.{rules}
 use Rattle.listing.proofs.extents.+groups_extent.Goals as goal
 
--- The run is that of the points of the group at this frame.
-own-run : (c : goal.After-run_extent-run (known t) (asked t) reads.Post invariant-loop decreases-loop)
-    → RunOf c.args.catalog.now
-    (c.loop-sum.sum.next + 1) c.run_extent-run.result
-own-run c =
-    let l = c.loop-sum in
-    let a = c.args in
-    let at = l.invariant.0.position in
-    let ws = a.catalog.now in
-    let group = c.group_at-next.ensures in
-    let found = sym group ∙ ap to_spec_group_or c.in-Group.is in
-    let within = (position.group_next ws l.sum.next at.parses at.no_point _ found).1 in
-    content_run ws (l.sum.next + 1) within at.few c.run_extent-run.result c.run_extent-run.ensures
+-- The run is that of the points of the group at frame i.
+own_run : (ws : List ℕ) (i levels : ℕ) → AtGroups ws i levels → (h : Head) → head_of (frame_in ws i) ≡ some h
+    → (r : Run) → to_spec_run r ≡ run_of (take 4096 (run (onward ws (i + 1)))) (i + 1) → RunOf ws (i + 1) r
+own_run ws i levels at h e r c =
+    content_run ws (i + 1) (position.group_next ws i at.parses at.no_point h e).1 at.few r c
 
--- The step over a group.
-on_step : (c : goal.After-with_group-sum (known t) (asked t) reads.Post invariant-loop decreases-loop)
-    → let a = c.args in
-    walks.Walked a.catalog.now (scope_in a.table.now) a.levels a.first c.with_group-sum.result
-    × (c.loop-sum.sum.next < c.with_group-sum.result.next)
-on_step c =
-    let l = c.loop-sum in
-    let a = c.args in
-    let group = c.group_at-next.ensures in
-    let found = sym group ∙ ap to_spec_group_or c.in-Group.is in
-    let inside = c.groups_extent-inside.ensures in
-    walks.walks_on a.catalog.now (scope_in a.table.now) a.levels a.first l.sum l.invariant.0 _ found _
-    (own-run c.before) _ inside.0 inside.1 _ c.with_group-sum.ensures
+pub loop-sum-init : goal.loop-sum-init
+loop-sum-init t c =
+    let none_visited = steps.none_visited (scope_in c.args.table.now) _ _ refl refl refl refl refl in
+    (record { position = c.requires.at_groups; few = c.requires.levels_bound; end = refl; summed = none_visited }, refl)
 
 pub groups_extent-inside-requires : goal.groups_extent-inside-requires
 groups_extent-inside-requires t c =
-    let l = c.loop-sum in
-    let a = c.args in
-    let w = l.invariant.0 in
-    let group = c.group_at-next.ensures in
-    let found = sym group ∙ ap to_spec_group_or c.in-Group.is in
-    let into = groups.into_group a.catalog.now l.sum.next a.levels w.position w.few _ found in
-    let after_run = sym (own-run c).next in
-    let there = subst (λ n. AtGroups a.catalog.now n (a.levels - 1)) after_run into.1 in
-    (omega (arith, c.requires.at_groups, into.0), (there, (c.requires.levels_bound.0, omega (arith, w.few))))
+    let ws = c.args.catalog.now in
+    let i = c.loop-sum.sum.next in
+    let levels = c.args.levels in
+    let w = c.loop-sum.invariant.0 in
+    let found = sym c.group_at-next.ensures ∙ ap to_spec_group_or c.in-Group.is in
+    let into = groups.into_group ws i levels w.position w.few _ found in
+    let own = own_run ws i levels w.position _ found _ c.run_extent-run.ensures in
+    let there = subst (λ n. AtGroups ws n (levels - 1)) (sym own.next) into.1 in
+    let l : 1 ≤ levels = into.0 in
+    (omega (arith, c.decreases), (there, (c.requires.table, omega (arith, w.few))))
 
-pub with_group-sum-requires-clause-size_bound_2 : goal.with_group-sum-requires-clause-size_bound_2
-with_group-sum-requires-clause-size_bound_2 t c =
-    let l = c.loop-sum in
-    let a = c.args in
-    let w = l.invariant.0 in
-    let group = c.group_at-next.ensures in
-    let found = sym group ∙ ap to_spec_group_or c.in-Group.is in
-    let own = walks.own_few a.catalog.now l.sum.next a.levels w.position w.few _ found in
-    let run = own-run c.before in
+pub with_group-sum-requires : goal.with_group-sum-requires
+with_group-sum-requires t c =
+    let ws = c.args.catalog.now in
+    let i = c.loop-sum.sum.next in
+    let levels = c.args.levels in
+    let w = c.loop-sum.invariant.0 in
+    let found = sym c.group_at-next.ensures ∙ ap to_spec_group_or c.in-Group.is in
+    let few = walks.own_few ws i levels w.position w.few _ found in
+    let own = own_run ws i levels w.position _ found _ c.run_extent-run.ensures in
     let inside = c.groups_extent-inside.ensures.extent_of in
-    let capped = w.summed.capped in (omega (arith, run.size, own.1), omega (arith, run.points, own.0))
+    let capped = w.summed.capped in
+    record {
+      table = c.requires.table;
+      size_bound = (capped.0, capped.1, omega (arith, inside.size), omega (arith, inside.points));
+      size_bound_2 = (omega (arith, own.size, few.1), omega (arith, own.points, few.0));
+    }
+
+pub loop-sum-smaller : goal.loop-sum-smaller
+loop-sum-smaller t c =
+    let ws = c.args.catalog.now in
+    let i = c.loop-sum.sum.next in
+    let levels = c.args.levels in
+    let w = c.loop-sum.invariant.0 in
+    let found = sym c.group_at-next.ensures ∙ ap to_spec_group_or c.in-Group.is in
+    let own = own_run ws i levels w.position _ found _ c.run_extent-run.ensures in
+    let inside = c.groups_extent-inside.ensures in
+    let on = walks.walks_on ws (scope_in c.args.table.now) levels c.args.first c.loop-sum.sum w _ found _ own _
+    inside.extent_of inside.next_value _ c.with_group-sum.ensures in
+    omega (arith, on.1, c.loop-sum.invariant.1, c.loop-sum-test.true)
 
 pub loop-sum-preserved : goal.loop-sum-preserved
-loop-sum-preserved t c = ((on_step c).0, refl)
+loop-sum-preserved t c =
+    let ws = c.args.catalog.now in
+    let i = c.loop-sum.sum.next in
+    let levels = c.args.levels in
+    let w = c.loop-sum.invariant.0 in
+    let found = sym c.group_at-next.ensures ∙ ap to_spec_group_or c.in-Group.is in
+    let own = own_run ws i levels w.position _ found _ c.run_extent-run.ensures in
+    let inside = c.groups_extent-inside.ensures in
+    let on = walks.walks_on ws (scope_in c.args.table.now) levels c.args.first c.loop-sum.sum w _ found _ own _
+    inside.extent_of inside.next_value _ c.with_group-sum.ensures in
+    (on.0, refl)
+
+pub returns-in-Other : goal.returns-in-Other
+returns-in-Other t c =
+    let other = sym c.group_at-next.ensures ∙ ap to_spec_group_or c.in-Other.is in
+    let e = c.at_end.ensures in
+    let end = walks.walk_ends c.args.catalog.now (scope_in c.args.table.now) c.args.levels c.args.first c.loop-sum.sum
+    c.loop-sum.invariant.0 other _ e.0 e.1 in
+    record { extent_of = end.0; next_value = end.1 }
 
 pub at_end-requires-2 : goal.at_end-requires-2
 at_end-requires-2 t c =
-    let l = c.loop-sum in
-    let a = c.args in
-    let at = l.invariant.0.position in
-    omega (arith, position.parses_within a.catalog.now l.sum.next at.parses, at.few)
+    let at = c.loop-sum.invariant.0.position in
+    omega (arith, position.parses_within c.args.catalog.now c.loop-sum.sum.next at.parses, at.few)
+
+pub returns : goal.returns
+returns t c =
+    let within = position.parses_within c.args.catalog.now c.loop-sum.sum.next c.loop-sum.invariant.0.position.parses in
+    let test = c.loop-sum-test.false in
+    absurd (omega (arith, within, test, c.loop-sum.invariant.1))

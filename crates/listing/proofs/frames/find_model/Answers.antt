@@ -1,9 +1,7 @@
 -- `listing::frames::find_model` meets its contract: the definition is at the current frame, at a later one, or nowhere.
-use mathlib.Core.Path.{◌≡◌, refl, sym, ◌∙◌}
-use Prim.Native.Nat.{◌-◌}
+use mathlib.Core.Path.{sym, ◌∙◌}
 use native.Mathlib.Omega.{arith}
-use borrow.Author.Rules.{rules}
-use Rattle.layout.proofs.ModelSearch.{top_from, search_found, search_on, search_end, model_accepted}
+use Rattle.layout.proofs.ModelSearch.{search_found, search_on, search_end, model_accepted}
 use Rattle.listing.proofs.frames.find_model.Goals as goal
 
 pub returns-then-is_model-clause-result_value : goal.returns-then-is_model-clause-result_value

@@ -1,9 +1,7 @@
 -- `listing::frames::find_model` meets its contract: the definition is at the current frame, at a later one, or nowhere.
-use mathlib.Core.Path.{◌≡◌, refl, sym, ◌∙◌}
+use mathlib.Core.Path.{◌≡◌}
 use Prim.Native.Nat.{◌-◌}
-use native.Mathlib.Omega.{arith}
-use borrow.Author.Rules.{rules}
-use Rattle.layout.proofs.ModelSearch.{top_from, search_found, search_on, search_end, model_accepted}
+use Rattle.layout.proofs.ModelSearch.{top_from}
 use Rattle.listing.proofs.frames.find_model.Given as goal
 
 abbrev pub invariant-loop-i : goal.invariant-loop-i

@@ -1,21 +1,12 @@
 -- `listing::locating::locate_groups` meets its contract: at each group the result is the instance's, else that past the group.
-use mathlib.Core.Path.{◌≡◌, refl, sym, ap, ◌∙◌}
-use mathlib.Core.Logic.{⊎_elim}
-use Prim.Native.Nat.{ℕ, ◌-◌, ◌/◌, ◌<◌}
-use native.Mathlib.Omega.{arith}
-use borrow.Author.Rules.{rules}
-use lib.ListN.{length, get_or}
-use Rattle.catalog_frames.specs.CodeTypes.{to_spec_head}
+use mathlib.Core.Path.{◌≡◌}
+use Prim.Native.Nat.{◌-◌, ◌/◌}
+use lib.ListN.{length}
 use Rattle.layout.specs.Layout.{count_of}
 use Rattle.layout.specs.PointTables.{scope_in}
 use Rattle.layout.specs.InternalWalks.{content_from, level_of}
 use Rattle.layout.specs.Locating.{located_in}
-use Rattle.layout.proofs.FramePosition as position
-use Rattle.definition_frames.specs.CodeTypes.{to_spec_group_or}
-use Rattle.listing.specs.InternalCodeTypes.{to_spec_located}
 use Rattle.listing.specs.InternalContracts.{LocateAsks}
-use Rattle.listing.proofs.LocatedGroups as steps
-use Rattle.listing.proofs.LocatedGroups.{AtGroup}
 use Rattle.listing.proofs.locating.+locate_groups.Given as goal
 
 abbrev pub invariant-loop-at : goal.invariant-loop-at

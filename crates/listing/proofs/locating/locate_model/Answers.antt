@@ -1,13 +1,11 @@
 -- `listing::locating::locate_model` meets its contract: the top points are searched, then the groups.
 use mathlib.Core.Path.{◌≡◌, sym, ap, subst, ◌∙◌}
-use mathlib.Core.Option.{Option}
 use Prim.Native.Nat.{ℕ}
-use borrow.Author.Rules.{rules}
-use Rattle.model_definitions.specs.Definitions.{Groups, points_size}
+use Rattle.model_definitions.specs.Definitions.{points_size}
 use Rattle.layout.specs.Layout.{count_of}
 use Rattle.layout.specs.PointTables.{scope_in}
 use Rattle.layout.specs.InternalWalks.{content_from}
-use Rattle.layout.specs.Locating.{Located, or_else, located_in}
+use Rattle.layout.specs.Locating.{or_else, located_in}
 use Rattle.layout.proofs.FramePosition as position
 use Rattle.definition_frames.proofs.RunSteps.{content_run}
 use Rattle.listing.specs.InternalCodeTypes.{to_spec_located}

@@ -1,18 +1,10 @@
 -- `listing::locating::locate_run` meets its contract: the result among the remaining points is the result among all.
-use mathlib.Core.Path.{◌≡◌, refl, sym, ap, ◌∙◌}
-use mathlib.Core.List.{List}
-use Prim.Native.Nat.{◌+◌, ◌-◌, ◌/◌}
-use native.Mathlib.Omega.{arith}
-use borrow.Author.Rules.{rules}
+use mathlib.Core.Path.{◌≡◌}
+use Prim.Native.Nat.{◌-◌, ◌/◌}
 use lib.ListN.{length}
-use Rattle.catalog_frames.specs.Frames.{Point}
-use Rattle.catalog_frames.specs.CodeTypes.{to_spec_point}
 use Rattle.layout.specs.PointTables.{present_within}
 use Rattle.layout.specs.InternalWalks.{content_from, ParsesAt}
 use Rattle.layout.specs.Locating.{located_among}
-use Rattle.layout.proofs.FramePosition as position
-use Rattle.layout.proofs.LocatingSteps.{none_left, none_past, found_first, not_first}
-use Rattle.definition_frames.specs.CodeTypes.{to_spec_point_or}
 use Rattle.listing.proofs.locating.locate_run.Given as goal
 
 abbrev pub invariant-loop-at : goal.invariant-loop-at

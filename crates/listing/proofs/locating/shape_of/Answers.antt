@@ -2,7 +2,6 @@
 use mathlib.Core.Path.{sym, subst}
 use Prim.Native.Nat.{◌+◌, ◌-◌}
 use native.Mathlib.Omega.{arith}
-use borrow.Author.Rules.{rules}
 use Rattle.layout.specs.InternalWalks.{AtGroups}
 use Rattle.layout.proofs.FramePosition as position
 use Rattle.definition_frames.proofs.RunSteps.{content_run}

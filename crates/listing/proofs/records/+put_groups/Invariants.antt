@@ -1,18 +1,10 @@
 -- `listing::records::put_groups` meets its contract: at each instance, writing what remains gives the list that the contract
 -- requires.
-use borrow.Author.Rules.{rules}
-use native.Mathlib.Omega.{arith}
-use mathlib.Core.Path.{◌≡◌, refl, sym, ap, subst, ◌∙◌}
+use mathlib.Core.Path.{◌≡◌}
 use mathlib.Core.List.{[]}
-use Prim.Native.Nat.{ℕ, ◌+◌, ◌*◌, ◌-◌, ◌/◌, ◌≤◌, ◌<◌}
-use lib.ListN.{length, get_or, length-set}
-use Rattle.catalog_frames.specs.CodeTypes.{to_spec_head}
-use Rattle.layout.specs.InternalWalks.{content_from, ParsesAt, past_end, level_of}
-use Rattle.layout.proofs.FramePosition as position
-use Rattle.layout.proofs.PassedFrames.{group_passed}
-use Rattle.definition_frames.specs.CodeTypes.{to_spec_group_or}
-use Rattle.listing.specs.declared.records.Progress.{Progress}
-use Rattle.listing.proofs.InstanceSteps as steps
+use Prim.Native.Nat.{◌+◌, ◌*◌, ◌-◌, ◌/◌, ◌≤◌}
+use lib.ListN.{length}
+use Rattle.layout.specs.InternalWalks.{content_from, ParsesAt, level_of}
 use Rattle.listing.proofs.GroupsWriting.{Writing}
 use Rattle.listing.proofs.records.+put_groups.Given as goal
 

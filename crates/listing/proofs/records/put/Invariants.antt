@@ -1,12 +1,8 @@
 -- `listing::records::put` meets its contract: storing the remaining numbers gives what storing all gives.
-use mathlib.Core.Path.{◌≡◌, refl, ◌∙◌}
+use mathlib.Core.Path.{◌≡◌}
 use Prim.Native.Nat.{◌+◌, ◌-◌, ◌≤◌}
-use native.Mathlib.Nat.{add-zero}
-use native.Mathlib.Omega.{arith}
-use borrow.Author.Rules.{rules}
-use lib.ListN.{length, drop, length-set, drop_of_length-le}
+use lib.ListN.{length, drop}
 use lib.Seq.{sets}
-use Rattle.listing.proofs.WrittenRecords.{sets_more}
 use Rattle.listing.proofs.records.put.Given as goal
 
 abbrev pub invariant-loop-k : goal.invariant-loop-k

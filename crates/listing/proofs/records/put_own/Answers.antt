@@ -1,9 +1,8 @@
 -- `listing::records::put_own` meets its contract: the points are recorded in the table, and then written by it.
-use mathlib.Core.Path.{◌≡◌, sym, ap, subst, ◌∙◌}
+use mathlib.Core.Path.{◌≡◌, ap, ◌∙◌}
 use mathlib.Core.List.{List}
 use Prim.Native.Nat.{ℕ, ◌+◌, ◌<◌}
 use native.Mathlib.Omega.{arith}
-use borrow.Author.Rules.{rules}
 use lib.ListN.{length, get_or}
 use Rattle.catalog_frames.specs.Frames.{Point}
 use Rattle.layout.specs.Points.{ModelPoint}
@@ -11,10 +10,17 @@ use Rattle.layout.specs.PointTables.{table_with, present_within}
 use Rattle.layout.specs.InternalWalks.{content_from}
 use Rattle.layout.proofs.FramePosition.{parses_within}
 use Rattle.layout.proofs.FrameRuns.{content_recorded}
-use Rattle.layout.proofs.RecordedPoints.{table_with_length, numbers_in_table, present_all, own_points_lem}
-use Rattle.listing.specs.InternalContracts.{written, RunAsks, AfterRun}
+use Rattle.layout.proofs.RecordedPoints.{numbers_in_table, present_all, own_points_lem}
+use Rattle.listing.specs.InternalContracts.{written, RunAsks}
 use Rattle.listing.specs.declared.records.Progress.{Progress}
+use Rattle.listing.specs.declared.records.Visit.{Visit}
 use Rattle.listing.proofs.records.put_own.Goals as goal
+
+-- The points that begin before the end of the body are all of them.
+all_are_present : (ws body out : List ℕ) (visit : Visit) (at : Progress) → RunAsks ws body out visit at (content_from ws at.frame).points
+    → present_within (length body) at.offset (content_from ws at.frame).points ≡ (content_from ws at.frame).points
+all_are_present ws body out visit at asks =
+    present_all (length body) at.offset (content_from ws at.frame).points asks.sized asks.inside
 
 pub overflow_add-inside : goal.overflow_add-inside
 overflow_add-inside c =
@@ -22,7 +28,22 @@ overflow_add-inside c =
 
 pub put_run-requires-clause-run_asks : goal.put_run-requires-clause-run_asks
 put_run-requires-clause-run_asks c =
-    let all_are_present : (present_within (length c.args.body.now) c.args.at.offset (((content_from c.args.catalog.now (c.args.at.frame + 1)).points))) ≡ ((content_from c.args.catalog.now (c.args.at.frame + 1)).points) = present_all (length c.args.body.now) c.args.at.offset (((content_from c.args.catalog.now (c.args.at.frame + 1)).points)) c.requires.run_asks.sized c.requires.run_asks.inside in
+    rw (all_are_present _ _ _ _ _ c.requires.run_asks) c.requires.run_asks
+
+pub returns : goal.returns
+returns c =
     let a = c.args in
-    let is_table = ap length c.record_run.ensures ∙ table_with_length _ _ _ _ ∙ c.requires.table.0 in subst (λ (ps : List Point). RunAsks a.catalog.now a.body.now a.out.now a.visit ((record { records = c.args.at.records; offset = c.args.at.offset; frame = c.args.at.frame + 1 })) ps)
-          (sym all_are_present) c.requires.run_asks
+    let body = a.body.now in
+    let own = (content_from a.catalog.now (a.at.frame + 1)).points in
+    let all = all_are_present _ _ _ _ _ c.requires.run_asks in
+    let filled = c.record_run.ensures
+    ∙ content_recorded a.catalog.now (a.at.frame + 1) c.requires.run_asks.parses body a.at.offset a.table.now in
+    let words : (k : ℕ) → get_or a.catalog.now k 0 < 65536 = λ k. omega (arith, c.type_inv.catalog k) in
+    let numbers = numbers_in_table a.catalog.now words (a.at.frame + 1) c.requires.run_asks.parses in
+    let points = own_points_lem body a.at.offset own a.table.now a.instance.path.instances
+    c.record_run.new.table c.requires.table.0 numbers all filled in
+    record {
+      after_run = rw all at c.put_run.ensures.after_run;
+      out_after = c.put_run.ensures.out_after ∙ ap (λ (ps : List ModelPoint). written a.visit a.at.records ps a.out.now) points;
+      table_after = filled ∙ ap (λ (ps : List Point). table_with body a.at.offset ps a.table.now) all;
+    }

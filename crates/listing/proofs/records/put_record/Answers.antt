@@ -3,7 +3,6 @@ use mathlib.Core.Path.{ap, ◌∙◌}
 use mathlib.Core.List.{List}
 use Prim.Native.Nat.{ℕ, ◌*◌}
 use native.Mathlib.Omega.{arith}
-use lib.ListN.{get_or}
 use lib.Seq.{sets}
 use Rattle.catalog_frames.specs.CodeTypes.{to_spec_point}
 use Rattle.layout.specs.Points.{point_at}
@@ -13,16 +12,7 @@ use Rattle.shown_points.proofs.PointClasses.{shown_at_lem}
 use Rattle.listing.specs.Listing.{record_width}
 use Rattle.listing.proofs.PointRuns.{shown_numbers}
 use Rattle.listing.proofs.WrittenRecords.{written_one}
-use mir.Syntax.{w16, w64}
-use mir.Val.{Fits}
-use borrow.Author.Rules.{rules, elem_fits_field}
 use Rattle.listing.proofs.records.put_record.Goals as goal
-
--- An instance number is 16 bits.
-instance-fits : (c : goal.Start) (k : ℕ) → Fits w64 (get_or c.args.instance.path.instances k 0)
-instance-fits c k =
-    let held = c.well-formed.1.1.1.1.0.1.1.0.1.1.0 in
-    elem_fits_field w16 w64 c.args.instance.path.instances held.0 k held.1.1 tt
 
 pub returns : goal.returns
 returns c =
@@ -32,7 +22,7 @@ returns c =
     let shown = c.show-shown.result in
     let fits = c.requires.point_fits in
     let part = c.part-registers in
-    let is = shown_at_lem p a.body.now a.at.offset (λ k. omega (arith, c.shared_slice_known-2-1.given k)) fits.sized
+    let is = shown_at_lem p a.body.now a.at.offset (λ k. omega (arith, c.type_inv.body k)) fits.sized
     fits.inside part.result.now part.ensures register shown c.show-shown.ensures in
     c.put.ensures
     ∙ ap (λ (ns : List ℕ). sets a.out.now (record_width * a.at.records) ns)

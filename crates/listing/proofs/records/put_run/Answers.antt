@@ -1,12 +1,9 @@
 -- `listing::records::put_run` meets its contract: writing the remaining points gives what writing all gives.
 use mathlib.Core.Path.{sym, ap, ◌∙◌}
-use Prim.Native.Nat.{◌-◌, ◌/◌}
 use native.Mathlib.Omega.{arith}
-use borrow.Author.Rules.{rules}
-use lib.ListN.{length}
 use Rattle.catalog_frames.specs.CodeTypes.{to_spec_point}
 use Rattle.definition_frames.specs.CodeTypes.{to_spec_point_or}
-use Rattle.listing.proofs.PointRuns.{StillWrites, still_all, still_within, still_past, still_other, first_fits, still_first}
+use Rattle.listing.proofs.PointRuns.{still_within, still_past, still_other, first_fits, still_first}
 use Rattle.listing.proofs.records.put_run.Goals as goal
 
 pub put_record-requires-clause-point_fits : goal.put_record-requires-clause-point_fits
@@ -31,3 +28,20 @@ overflow_add-at-in-Point-2 c =
 pub loop-at-smaller : goal.loop-at-smaller
 loop-at-smaller c =
     omega (arith, still_within c.loop-at.invariant)
+
+pub loop-at-preserved : goal.loop-at-preserved
+loop-at-preserved c =
+    let f = sym c.point_at-next.ensures ∙ ap to_spec_point_or c.in-Point.is in
+    still_first c.loop-at.invariant (to_spec_point c.in-Point.point) c.loop-at-test.true f
+    c.put_record.new.out c.put_record.ensures
+
+pub returns-in-Other : goal.returns-in-Other
+returns-in-Other c =
+    let f = sym c.point_at-next.ensures ∙ ap to_spec_point_or c.in-Other.is in
+    let h = still_other c.loop-at.invariant f in
+    record { after_run = h.0; out_after = h.1 }
+
+pub returns : goal.returns
+returns c =
+    let h = still_past c.loop-at.invariant c.loop-at-test.false in
+    record { after_run = h.0; out_after = h.1 }

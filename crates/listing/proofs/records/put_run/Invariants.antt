@@ -1,12 +1,7 @@
 -- `listing::records::put_run` meets its contract: writing the remaining points gives what writing all gives.
-use mathlib.Core.Path.{sym, ap, ◌∙◌}
 use Prim.Native.Nat.{◌-◌, ◌/◌}
-use native.Mathlib.Omega.{arith}
-use borrow.Author.Rules.{rules}
 use lib.ListN.{length}
-use Rattle.catalog_frames.specs.CodeTypes.{to_spec_point}
-use Rattle.definition_frames.specs.CodeTypes.{to_spec_point_or}
-use Rattle.listing.proofs.PointRuns.{StillWrites, still_all, still_within, still_past, still_other, first_fits, still_first}
+use Rattle.listing.proofs.PointRuns.{StillWrites}
 use Rattle.listing.proofs.records.put_run.Given as goal
 
 abbrev pub invariant-loop-at : goal.invariant-loop-at

@@ -1,9 +1,8 @@
 -- `listing::search::search_map` meets its contract: at each header, the remaining models give the result of the whole map.
 use mathlib.Core.Path.{sym, ap, ◌∙◌}
 use mathlib.Core.List.{List}
-use Prim.Native.Nat.{ℕ, ◌-◌}
+use Prim.Native.Nat.{ℕ}
 use native.Mathlib.Omega.{arith}
-use borrow.Author.Rules.{rules}
 use lib.Dec.{eqb}
 use lib.ListN.{length}
 use Rattle.lists.specs.Tests.{first_with}
@@ -13,11 +12,11 @@ use Rattle.register_map.proofs.HeaderLaws.{opening_none}
 use Rattle.register_map.proofs.HeaderCases.{model_ends}
 use Rattle.layout.specs.Paths.{is_point}
 use Rattle.layout.specs.Reading.{reading}
-use Rattle.layout.specs.InternalWalks.{IsTable, points_of, read_in}
+use Rattle.layout.specs.InternalWalks.{points_of, read_in}
 use Rattle.listing.specs.Finding.{Result}
 use Rattle.listing.specs.InternalContracts.{result_at}
 use Rattle.listing.proofs.MapSteps.{body_length}
-use Rattle.listing.proofs.MapSearch.{Searching, search_starts, search_at, search_ends, search_refused, search_late, search_other, search_own}
+use Rattle.listing.proofs.MapSearch.{search_starts, search_at, search_ends, search_refused, search_late, search_other, search_own}
 use Rattle.listing.proofs.search.search_map.Goals as goal
 
 pub loop-at-init : goal.loop-at-init
@@ -27,6 +26,16 @@ loop-at-init c =
           c.requires.listed,
       c.requires.table.0,
     )
+
+pub search_model-requires-clause-body_len_bound : goal.search_model-requires-clause-body_len_bound
+search_model-requires-clause-body_len_bound c =
+    let map = c.args.map.now in
+    let at = c.loop-at.at in
+    let h = sym c.header_at-header.ensures ∙ ap to_spec_header c.in-Model.is in
+    let short = (opening_none map c.requires.map_value).0 in
+    let ends = model_ends (eqb at 2) map at h in
+    let all = ap length c.part-body.ensures ∙ body_length map at c.in-Model.id c.in-Model.length h in
+    (omega (arith, all, short, ends), omega (arith, short, ends))
 
 pub returns-then-index-model : goal.returns-then-index-model
 returns-then-index-model c =

@@ -1,11 +1,9 @@
 -- `listing::surveys::survey_model` meets its contract: it surveys by the definition that is found.
-use mathlib.Core.Path.{sym, ap, subst, ◌∙◌}
+use mathlib.Core.Path.{sym, ap, ◌∙◌}
 use Rattle.model_definitions.specs.Definitions.{definitions}
 use Rattle.layout.specs.InternalWalks.{content_from, surveyed}
 use Rattle.layout.proofs.AcceptedModels.{read_known, read_unknown}
 use Rattle.listing.specs.InternalCodeTypes.{to_spec_found}
-use Rattle.listing.specs.InternalContracts.{FoundParses}
-use borrow.Author.Rules.{rules}
 use Rattle.listing.proofs.surveys.survey_model.Goals as goal
 
 pub returns-in-At : goal.returns-in-At
