@@ -77,6 +77,7 @@ fn write_to(map: &mut [u16], target: Target, raw: u64) -> Written
 }
 
 // Refusals 32 to 35, in order. The facts that 32 and 34 test are computed first, so the order of refusals is the order of the ifs.
+#[tactic(auto, unfolding(crate::specs::Writing::refusal))]
 fn judge(target: Target, raw: u64) -> Verdict
     ensures { to_spec_verdict result ≡ Writings.refusal (to_spec_target target) raw }
 {
