@@ -16,7 +16,6 @@ put_listing-requires-clause-record_width_in_bounds c =
     let capacity : length a.list.now ≡ list_capacity = search rules in
     let found = listing a.catalog.now a.map.now list_capacity in
     let reports = ap to_spec_listing (sym c.in-Listed.is) ∙ (rw capacity at c.list-listing.ensures.result_value) in
-    let stores = rw capacity at c.list-listing.ensures.out_after in
     let r = result_listed found c.in-Listed.points c.in-Listed.headers reports in
     let h = records_fit a.catalog.now a.map.now list_capacity r.records c.in-Listed.headers r.is in
     omega (arith, h, r.count)
@@ -27,7 +26,6 @@ returns-in-Refused-clause-out_after c =
     let capacity : length a.list.now ≡ list_capacity = search rules in
     let found = listing a.catalog.now a.map.now list_capacity in
     let reports = ap to_spec_listing (sym c.in-Refused.is) ∙ (rw capacity at c.list-listing.ensures.result_value) in
-    let stores = rw capacity at c.list-listing.ensures.out_after in
     let made = refusal_made found c.in-Refused.number c.in-Refused.place c.in-Refused.headers (result_refused found c.in-Refused.number c.in-Refused.place c.in-Refused.headers reports) c.put_refusal.ensures.put c.put_refusal.ensures.upper_bound in
     made.holds
 
