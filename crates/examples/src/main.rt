@@ -4,11 +4,14 @@
 
 ghost use Rattle.io.specs.Counts.{IsPrefixLen};
 
-use libc::STDOUT_FILENO;
 use report::{
     CATALOG_WORDS, ENTRIES, INPUT_BYTES, MAP_REGISTERS, OUTPUT_BYTES, Report, TEXT_BYTES,
     read_plant,
 };
+use std::env::FillError;
+use std::io::Read;
+use std::rt::{Env, Files};
+use std::{fs, io};
 
 // The longest name of a file.
 const NAME: usize = 255;
@@ -16,50 +19,85 @@ const NAME: usize = 255;
 // The length of `refused `.
 const REFUSED: usize = 8;
 
-fn main() {
+fn main(rt: HostRuntime) -> io::Result<()> {
     // `arg_count` counts the program's own name too.
-    let pairs = os::arg_count() / 2;
-    let mut k = 0;
-    while k < pairs {
-        try_pair(2 * k + 1, 2 * k + 2);
-        k += 1;
+    let pairs = arg_count(&rt) / 2;
+    for k in 0..pairs {
+        try_pair(&rt, 2 * k + 1, 2 * k + 2)?;
     }
+    Ok(())
+}
+
+// How many arguments there are, the program's own name among them.
+fn arg_count(rt: &impl Env) -> usize {
+    for i in 0..usize::MAX {
+        if let Err(FillError::NotPresent) = rt.arg(i, &mut []) {
+            return i;
+        }
+    }
+    usize::MAX
 }
 
 // Compares the pair of files that the arguments `first` and `second` name.
-fn try_pair(first: usize, second: usize) {
+fn try_pair(rt: &(impl Env + Files + Print), first: usize, second: usize) -> io::Result<()> {
     let mut input = [0u8; INPUT_BYTES];
-    let n = read_argument(first, &mut input);
+    let n = read_argument(rt, first, &mut input);
     let mut expected = [0u8; OUTPUT_BYTES];
-    let m = read_argument(second, &mut expected);
-    write_argument(first);
+    let m = read_argument(rt, second, &mut expected);
+    write_argument(rt, first)?;
     if gives(&input[..n], &expected[..m]) {
-        write(b" gives ");
+        rt.write_all(b" gives ")?;
     } else {
-        write(b" does not give ");
+        rt.write_all(b" does not give ")?;
     }
-    write_argument(second);
-    write(b"\n");
+    write_argument(rt, second)?;
+    rt.write_all(b"\n")
 }
 
 // Writes argument `i`.
-fn write_argument(i: usize) {
+fn write_argument(rt: &(impl Env + Print), i: usize) -> io::Result<()> {
     let mut name = [0u8; NAME];
-    let length = os::arg(i, &mut name);
-    write(&name[..length]);
+    let length = arg(rt, i, &mut name);
+    rt.write_all(&name[..length])
+}
+
+// Puts argument `i` at the start of `name`. Returns its length: 0 if it is missing or longer than `name`.
+fn arg(rt: &impl Env, i: usize, name: &mut [u8]) -> usize
+    ensures { IsPrefixLen result name.new }
+{
+    rt.arg(i, name).unwrap_or(0)
 }
 
 // Reads the file that argument `i` names into `out`, until the file ends, `out` is full or a read fails. Returns the
-// number of bytes read: 0 if the file cannot be opened.
-fn read_argument(i: usize, out: &mut [u8]) -> usize
+// number of bytes read: 0 if the file cannot be opened, as one whose name is not text.
+fn read_argument(rt: &(impl Env + Files), i: usize, out: &mut [u8]) -> usize
     ensures { IsPrefixLen result out.new }
 {
     let mut name = [0u8; NAME];
-    let length = os::arg(i, &mut name);
-    let file = os::open_read(&name[..length]);
-    let n = io::read_full(file, out);
-    libc::close(file);
-    n
+    let length = arg(rt, i, &mut name);
+    let Ok(path) = str::from_utf8(&name[..length]) else {
+        return 0;
+    };
+    let Ok(mut file) = fs::open(rt, path) else {
+        return 0;
+    };
+    read_full(&mut file, out)
+}
+
+// Reads until `out` is full, the input ends or a read fails. Returns the number of bytes read, which it put at the start
+// of `out`.
+fn read_full(reader: &mut impl Read, out: &mut [u8]) -> usize
+    ensures { IsPrefixLen result out.new }
+{
+    let mut done = 0;
+    while done < out.len() {
+        let n = reader.read(&mut out[done..]).unwrap_or(0);
+        if n == 0 {
+            break;
+        }
+        done += n;
+    }
+    done
 }
 
 // Is `expected` the text that `read_plant` makes of `input`, after `refused ` if it is a refusal? This does not run
@@ -85,9 +123,4 @@ fn is_refusal(expected: &[u8], text: &[u8]) -> bool {
         return false;
     }
     check::same(&expected[REFUSED..], text)
-}
-
-// Writes to standard output. A write that fails is ignored: there is nowhere to report it.
-fn write(bytes: &[u8]) {
-    io::write_all(STDOUT_FILENO, bytes);
 }

@@ -19,8 +19,11 @@ mod text;
 mod writes;
 
 ghost use Rattle.std.specs.Prelude.{◌≤◌, length};
+ghost use Rattle.io.specs.Counts.{IsPrefixLen};
 
-use libc::STDIN_FILENO;
+use output::Results;
+use std::io;
+use std::io::Read;
 
 // The size of the input buffer: the longest line and its LF.
 const INPUT_BYTES: usize = 524289;
@@ -49,44 +52,67 @@ const WRITE: u64 = 0x05_77_72_69_74_65;
 
 const PARSE: u64 = 0x05_70_61_72_73_65;
 
-fn main() {
+fn main(rt: HostRuntime) -> io::Result<()> {
     let mut input = [0u8; INPUT_BYTES];
-    process_input(&mut input);
+    let mut results = Results::new(rt.stdout());
+    process_input(&mut rt.stdin(), &mut results, &mut input);
+    results.into_outcome()
 }
 
 // Processes the input, round by round. Once it has ended, or after a line that is longer than the buffer, the rounds
 // that are left write nothing.
-fn process_input(input: &mut [u8]) {
+fn process_input(reader: &mut impl Read, results: &mut Results, input: &mut [u8]) {
     let mut kept = 0;
     let mut round = 0;
     while round < ROUNDS {
-        kept = process_round(input, kept);
+        kept = process_round(reader, results, input, kept);
         round += 1;
     }
 }
 
 // Fills the buffer after the bytes that were kept, and processes its whole lines. The line that is cut moves to the
 // front, so that each round begins with a line's first byte. Returns the number of bytes kept.
-fn process_round(input: &mut [u8], kept: usize) -> usize
+fn process_round(
+    reader: &mut impl Read,
+    results: &mut Results,
+    input: &mut [u8],
+    kept: usize,
+) -> usize
     requires { kept ≤ length input.old }
     ensures { result ≤ length input.new }
 {
-    let count = fill(input, kept);
-    let at = process_lines(&input[0..count]);
+    let count = fill(reader, input, kept);
+    let at = process_lines(results, &input[0..count]);
     move_to_front(input, at, count)
 }
 
 // Fills the buffer after the bytes that were kept, and returns the number of bytes that it then holds.
-fn fill(input: &mut [u8], kept: usize) -> usize
+fn fill(reader: &mut impl Read, input: &mut [u8], kept: usize) -> usize
     requires { kept ≤ length input.old }
     ensures { result ≤ length input.new }
 {
-    kept + io::read_full(STDIN_FILENO, &mut input[kept..])
+    kept + read_full(reader, &mut input[kept..])
+}
+
+// Reads until `buf` is full, the input ends or a read fails. Returns the number of bytes read, which it put at the start
+// of `buf`.
+fn read_full(reader: &mut impl Read, buf: &mut [u8]) -> usize
+    ensures { IsPrefixLen result buf.new }
+{
+    let mut done = 0;
+    while done < buf.len() {
+        let n = reader.read(&mut buf[done..]).unwrap_or(0);
+        if n == 0 {
+            break;
+        }
+        done += n;
+    }
+    done
 }
 
 // Processes the whole lines, and returns the start of the line that is cut, or the end of `input` if none is. A line
 // is cut where no LF ends it and the buffer is full: otherwise the input has ended.
-fn process_lines(input: &[u8]) -> usize
+fn process_lines(results: &mut Results, input: &[u8]) -> usize
     ensures { result ≤ length input.now }
 {
     let mut at = 0;
@@ -95,7 +121,7 @@ fn process_lines(input: &[u8]) -> usize
         if end == INPUT_BYTES {
             return at;
         }
-        process_line(&input[at..end]);
+        process_line(results, &input[at..end]);
         at = end + 1;
     }
     input.len()
@@ -115,27 +141,27 @@ fn move_to_front(input: &mut [u8], start: usize, end: usize) -> usize
 }
 
 // Writes the one result line of a line.
-fn process_line(line: &[u8]) {
-    if !run(line) {
-        output::say(output::BAD_LINE);
+fn process_line(results: &mut Results, line: &[u8]) {
+    if !run(results, line) {
+        results.say(output::BAD_LINE);
     }
-    output::say(output::END_LINE);
+    results.say(output::END_LINE);
 }
 
 // Runs the command that the line begins with. False, with nothing written, where the line is bad.
-fn run(line: &[u8]) -> bool {
+fn run(results: &mut Results, line: &[u8]) -> bool {
     let at = fields::find(line, 0, b' ');
     let word = word_of(line, at);
     match word {
-        DECODE => decode::run(line, at),
-        TEXT => text::run(line, at),
-        EVENTS => events::run(line, at),
-        DECIMAL => decimal::run(line, at),
-        EQUAL => equal::run(line, at),
-        CHECK => checking::run(line, at),
-        LIST => listings::run(line, at),
-        WRITE => writes::run(line, at),
-        PARSE => parsing::run(line, at),
+        DECODE => decode::run(results, line, at),
+        TEXT => text::run(results, line, at),
+        EVENTS => events::run(results, line, at),
+        DECIMAL => decimal::run(results, line, at),
+        EQUAL => equal::run(results, line, at),
+        CHECK => checking::run(results, line, at),
+        LIST => listings::run(results, line, at),
+        WRITE => writes::run(results, line, at),
+        PARSE => parsing::run(results, line, at),
         _ => false,
     }
 }

@@ -1,12 +1,12 @@
-// The parts of a result line, written to standard output. A write that fails is ignored: there is nowhere to report
-// it.
+// The parts of a result line, written to standard output.
 ghost use Rattle.std.specs.Prelude.{◌<◌};
 
 use crate::fields;
-use libc::STDOUT_FILENO;
+use std::io;
+use std::io::Stdout;
 
-// The texts of results, by their number in `say`. (A byte string at each place where one is written costs the prover
-// six times as much as a number.)
+// The texts of results, by their number in `Results::say`. (A byte string at each place where one is written costs the
+// prover six times as much as a number.)
 pub(crate) const MODELS: usize = 0;
 
 pub(crate) const REFUSED: usize = 1;
@@ -49,112 +49,140 @@ pub(crate) const DASH: usize = 19;
 
 pub(crate) const END_LINE: usize = 20;
 
-// Writes the text with this number.
-pub(crate) fn say(number: usize) {
-    say_part(
-        b"models |refused | at |points | headers | / | |parsed |written |signed |signed -|unsigned |float |double |not given|out of range|yes|no|bad line|-|\n|",
-        number,
-    );
+// Where the result lines go, and the outcome of the writes so far. After one that failed nothing more is written, and
+// `outcome` keeps its error.
+#[derive(Drop)]
+pub(crate) struct Results {
+    stdout: Stdout,
+    outcome: io::Result<()>,
 }
 
-// Writes the part of `texts` with `bars` bars before it, up to the next bar.
-fn say_part(texts: &[u8], bars: usize) {
-    let mut start = 0;
-    let mut i = 0;
-    while i < bars {
-        start = fields::find(texts, start, b'|') + 1;
-        i += 1;
-    }
-    let end = fields::find(texts, start, b'|');
-    if start < end {
-        text(&texts[start..end]);
-    }
-}
-
-pub(crate) fn text(s: &[u8]) {
-    io::write_all(STDOUT_FILENO, s);
-}
-
-// Writes the first `count` bytes of `s`; nothing where it has fewer.
-pub(crate) fn text_of(s: &[u8], count: usize) {
-    if count <= s.len() {
-        text(&s[0..count]);
-    }
-}
-
-pub(crate) fn unsigned(n: u64) {
-    io::print_decimal(STDOUT_FILENO, n);
-}
-
-// Writes a text and then a number.
-pub(crate) fn counted(number: usize, n: u64) {
-    say(number);
-    unsigned(n);
-}
-
-// Writes a number in decimal, with a minus below 0. For the least number, -n is out of range and -1 - n is not.
-pub(crate) fn signed(n: i64) {
-    if n < 0 {
-        counted(MINUS, (-1 - n) as u64 + 1);
-    } else {
-        counted(SIGNED, n as u64);
-    }
-}
-
-// Writes a refusal without a place,
-pub(crate) fn refused(number: u16) {
-    counted(REFUSED, number as u64);
-}
-
-// and with a place.
-pub(crate) fn refused_at(number: u16, place: usize) {
-    refused(number);
-    counted(AT, place as u64);
-}
-
-// Writes the first `count` words of `s`, as far as it goes: four hexadecimal digits each, run together; `-` for none.
-pub(crate) fn words(s: &[u16], count: usize) {
-    if count == 0 {
-        say(DASH);
-    }
-    let mut i = 0;
-    while i < count {
-        if s.len() <= i {
-            return;
+impl Results {
+    pub(crate) fn new(stdout: Stdout) -> Results {
+        Results {
+            stdout,
+            outcome: Ok(()),
         }
-        hex4(s[i]);
-        i += 1;
     }
-}
 
-// Writes the bits of a 32-bit float in eight hexadecimal digits,
-pub(crate) fn float(bits: u32) {
-    say(FLOAT);
-    hex8(bits);
-}
+    // The first error of a write, if there was one.
+    pub(crate) fn into_outcome(self) -> io::Result<()> {
+        self.outcome
+    }
 
-// and those of a 64-bit float in sixteen.
-pub(crate) fn double(bits: u64) {
-    say(DOUBLE);
-    hex8((bits / 4294967296) as u32);
-    hex8((bits % 4294967296) as u32);
-}
+    // Writes the text with this number.
+    pub(crate) fn say(&mut self, number: usize) {
+        self.say_part(
+            b"models |refused | at |points | headers | / | |parsed |written |signed |signed -|unsigned |float |double |not given|out of range|yes|no|bad line|-|\n|",
+            number,
+        );
+    }
 
-// Writes eight hexadecimal digits in upper case.
-fn hex8(n: u32) {
-    hex4((n / 65536) as u16);
-    hex4((n % 65536) as u16);
-}
+    // Writes the part of `texts` with `bars` bars before it, up to the next bar.
+    fn say_part(&mut self, texts: &[u8], bars: usize) {
+        let mut start = 0;
+        let mut i = 0;
+        while i < bars {
+            start = fields::find(texts, start, b'|') + 1;
+            i += 1;
+        }
+        let end = fields::find(texts, start, b'|');
+        if start < end {
+            self.text(&texts[start..end]);
+        }
+    }
 
-// Writes four hexadecimal digits in upper case.
-fn hex4(n: u16) {
-    let digits = [
-        hex_glyph(n / 4096),
-        hex_glyph(n / 256 % 16),
-        hex_glyph(n / 16 % 16),
-        hex_glyph(n % 16),
-    ];
-    text(&digits);
+    // Writes `s`, if no write before it failed.
+    pub(crate) fn text(&mut self, s: &[u8]) {
+        if self.outcome.is_ok() {
+            self.outcome = self.stdout.write_all(s);
+        }
+    }
+
+    // Writes the first `count` bytes of `s`; nothing where it has fewer.
+    pub(crate) fn text_of(&mut self, s: &[u8], count: usize) {
+        if count <= s.len() {
+            self.text(&s[0..count]);
+        }
+    }
+
+    // Writes a number in decimal, if no write before it failed.
+    pub(crate) fn unsigned(&mut self, n: u64) {
+        if self.outcome.is_ok() {
+            self.outcome = self.stdout.print(n);
+        }
+    }
+
+    // Writes a text and then a number.
+    pub(crate) fn counted(&mut self, number: usize, n: u64) {
+        self.say(number);
+        self.unsigned(n);
+    }
+
+    // Writes a number in decimal, with a minus below 0. For the least number, -n is out of range and -1 - n is not.
+    pub(crate) fn signed(&mut self, n: i64) {
+        if n < 0 {
+            self.counted(MINUS, (-1 - n) as u64 + 1);
+        } else {
+            self.counted(SIGNED, n as u64);
+        }
+    }
+
+    // Writes a refusal without a place,
+    pub(crate) fn refused(&mut self, number: u16) {
+        self.counted(REFUSED, number as u64);
+    }
+
+    // and with a place.
+    pub(crate) fn refused_at(&mut self, number: u16, place: usize) {
+        self.refused(number);
+        self.counted(AT, place as u64);
+    }
+
+    // Writes the first `count` words of `s`, as far as it goes: four hexadecimal digits each, run together; `-` for none.
+    pub(crate) fn words(&mut self, s: &[u16], count: usize) {
+        if count == 0 {
+            self.say(DASH);
+        }
+        let mut i = 0;
+        while i < count {
+            if s.len() <= i {
+                return;
+            }
+            self.hex4(s[i]);
+            i += 1;
+        }
+    }
+
+    // Writes the bits of a 32-bit float in eight hexadecimal digits,
+    pub(crate) fn float(&mut self, bits: u32) {
+        self.say(FLOAT);
+        self.hex8(bits);
+    }
+
+    // and those of a 64-bit float in sixteen.
+    pub(crate) fn double(&mut self, bits: u64) {
+        self.say(DOUBLE);
+        self.hex8((bits / 4294967296) as u32);
+        self.hex8((bits % 4294967296) as u32);
+    }
+
+    // Writes eight hexadecimal digits in upper case.
+    fn hex8(&mut self, n: u32) {
+        self.hex4((n / 65536) as u16);
+        self.hex4((n % 65536) as u16);
+    }
+
+    // Writes four hexadecimal digits in upper case.
+    fn hex4(&mut self, n: u16) {
+        let digits = [
+            hex_glyph(n / 4096),
+            hex_glyph(n / 256 % 16),
+            hex_glyph(n / 16 % 16),
+            hex_glyph(n % 16),
+        ];
+        self.text(&digits);
+    }
 }
 
 fn hex_glyph(d: u16) -> u8

@@ -1,5 +1,6 @@
 // The command `parse BYTES`: the catalog and the map in the bytes of an input, with the capacity of `readplant`.
 use crate::fields::FIELD_WORDS;
+use crate::output::Results;
 use crate::{fields, output};
 use input::{FRAME_WORDS, Parsed};
 
@@ -10,10 +11,11 @@ const BYTE_DIGITS: usize = 2;
 const PARSED_CAPACITY: usize = 8192;
 
 // Runs the command on the fields from `at` on. False, with nothing written, where they are bad.
-pub(crate) fn run(line: &[u8], at: usize) -> bool {
+pub(crate) fn run(results: &mut Results, line: &[u8], at: usize) -> bool {
     let mut words = [0u16; FIELD_WORDS];
     let stored = fields::words_field(line, at, BYTE_DIGITS, FIELD_WORDS, &mut words);
     parse_if(
+        results,
         fields::nothing_left(line, stored.next),
         &words,
         stored.count,
@@ -21,11 +23,16 @@ pub(crate) fn run(line: &[u8], at: usize) -> bool {
 }
 
 // Writes the result if the line is good, and returns whether it is.
-fn parse_if(is_good: bool, words: &[u16; FIELD_WORDS], count: usize) -> bool {
+fn parse_if(
+    results: &mut Results,
+    is_good: bool,
+    words: &[u16; FIELD_WORDS],
+    count: usize,
+) -> bool {
     if is_good {
         let mut bytes = [0u8; FIELD_WORDS];
         copy_bytes(words, &mut bytes);
-        parse_bytes(&bytes, count);
+        parse_bytes(results, &bytes, count);
     }
     is_good
 }
@@ -40,37 +47,42 @@ fn copy_bytes(words: &[u16; FIELD_WORDS], bytes: &mut [u8; FIELD_WORDS]) {
 }
 
 // Writes the result for the first `count` bytes. (Lent as an array, `bytes` needs no proof of its length.)
-fn parse_bytes(bytes: &[u8; FIELD_WORDS], count: usize) {
-    parse_part(bytes, count);
+fn parse_bytes(results: &mut Results, bytes: &[u8; FIELD_WORDS], count: usize) {
+    parse_part(results, bytes, count);
 }
 
 // The same for a slice; nothing where it has fewer.
-fn parse_part(bytes: &[u8], count: usize) {
+fn parse_part(results: &mut Results, bytes: &[u8], count: usize) {
     if count <= bytes.len() {
-        parse_in(&bytes[0..count]);
+        parse_in(results, &bytes[0..count]);
     }
 }
 
 // Writes the result of `parse`.
-fn parse_in(text: &[u8]) {
+fn parse_in(results: &mut Results, text: &[u8]) {
     let mut catalog = [0u16; PARSED_CAPACITY];
     let mut map = [0u16; PARSED_CAPACITY];
     let parsed = input::parse(text, &mut catalog, &mut map);
-    write_parsed(parsed, &catalog, &map);
+    write_parsed(results, parsed, &catalog, &map);
 }
 
 // Writes a result of `parse`, with what it stored.
-fn write_parsed(parsed: Parsed, catalog: &[u16; PARSED_CAPACITY], map: &[u16; PARSED_CAPACITY]) {
+fn write_parsed(
+    results: &mut Results,
+    parsed: Parsed,
+    catalog: &[u16; PARSED_CAPACITY],
+    map: &[u16; PARSED_CAPACITY],
+) {
     match parsed {
         Parsed::Of { frames, registers } => {
             // The frames fit the capacity, so the remainder is their number. It shows the prover that the product
             // fits.
             let words = frames % PARSED_CAPACITY * FRAME_WORDS;
-            output::say(output::PARSED);
-            output::words(catalog, words);
-            output::say(output::SPACE);
-            output::words(map, registers);
+            results.say(output::PARSED);
+            results.words(catalog, words);
+            results.say(output::SPACE);
+            results.words(map, registers);
         }
-        Parsed::Refused { number, place } => output::refused_at(number, place),
+        Parsed::Refused { number, place } => results.refused_at(number, place),
     }
 }

@@ -1,5 +1,6 @@
 // The command `text ADDRESS SIZE FALLBACK MAP`: the words of a text in a register map, or of the fallback.
 use crate::fields::FIELD_WORDS;
+use crate::output::Results;
 use crate::plants::{Plant, plant_at};
 use crate::{fields, output};
 
@@ -18,7 +19,7 @@ struct Asked {
 }
 
 // Runs the command on the fields from `at` on. False, with nothing written, where they are bad.
-pub(crate) fn run(line: &[u8], at: usize) -> bool {
+pub(crate) fn run(results: &mut Results, line: &[u8], at: usize) -> bool {
     let mut fallback = [0u16; FIELD_WORDS];
     let mut map = [0u16; FIELD_WORDS];
     let asked = asked_at(line, at);
@@ -30,7 +31,7 @@ pub(crate) fn run(line: &[u8], at: usize) -> bool {
         MAP_CAPACITY,
         &mut map,
     );
-    text_if(plant, &fallback, &map, asked)
+    text_if(results, plant, &fallback, &map, asked)
 }
 
 // The address and size from `at` on.
@@ -46,6 +47,7 @@ fn asked_at(line: &[u8], at: usize) -> Asked {
 
 // Writes the result if the line is good, and returns whether it is.
 fn text_if<'a>(
+    results: &mut Results,
     plant: Plant,
     fallback: &'a [u16; FIELD_WORDS],
     map: &'a [u16; FIELD_WORDS],
@@ -53,6 +55,7 @@ fn text_if<'a>(
 ) -> bool {
     if plant.is_whole {
         write_text(
+            results,
             fields::first(map, plant.registers),
             asked,
             fields::first(fallback, plant.words),
@@ -62,7 +65,7 @@ fn text_if<'a>(
 }
 
 // Writes the result of `text`, which is a part of one of the two slices: hence one lifetime for both.
-fn write_text<'a>(map: &'a [u16], asked: Asked, fallback: &'a [u16]) {
+fn write_text<'a>(results: &mut Results, map: &'a [u16], asked: Asked, fallback: &'a [u16]) {
     let words = display::text(map, asked.address as usize, asked.size as usize, fallback);
-    output::words(words, words.len());
+    results.words(words, words.len());
 }

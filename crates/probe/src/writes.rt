@@ -1,6 +1,7 @@
 // The command `write MODEL POINT I2 I3 I4 RAW CATALOG MAP`: writes RAW to a point of a register map, by the index of
 // its model, its number and its instance numbers at levels 2, 3 and 4.
 use crate::fields::FIELD_WORDS;
+use crate::output::Results;
 use crate::plants::{CATALOG_CAPACITY, MAP_CAPACITY, Plant, plant_at};
 use crate::{fields, output};
 use listing::InstancePath;
@@ -24,7 +25,7 @@ struct Path {
 }
 
 // Runs the command on the fields from `at` on. False, with nothing written, where they are bad.
-pub(crate) fn run(line: &[u8], at: usize) -> bool {
+pub(crate) fn run(results: &mut Results, line: &[u8], at: usize) -> bool {
     let mut catalog = [0u16; FIELD_WORDS];
     let mut map = [0u16; FIELD_WORDS];
     let asked = write_at(line, at);
@@ -36,7 +37,7 @@ pub(crate) fn run(line: &[u8], at: usize) -> bool {
         MAP_CAPACITY,
         &mut map,
     );
-    write_if(plant, &catalog, &mut map, asked)
+    write_if(results, plant, &catalog, &mut map, asked)
 }
 
 // The point and the raw value from `at` on.
@@ -71,6 +72,7 @@ fn path_at(line: &[u8], at: usize) -> Path {
 
 // Writes the result if the line is good, and returns whether it is.
 fn write_if(
+    results: &mut Results,
     plant: Plant,
     catalog: &[u16; FIELD_WORDS],
     map: &mut [u16; FIELD_WORDS],
@@ -78,6 +80,7 @@ fn write_if(
 ) -> bool {
     if plant.is_whole {
         write_part(
+            results,
             fields::first(catalog, plant.words),
             map,
             plant.registers,
@@ -88,14 +91,20 @@ fn write_if(
 }
 
 // The same in the first `registers` registers of `map`; nothing where it has fewer.
-fn write_part(catalog: &[u16], map: &mut [u16], registers: usize, asked: Write) {
+fn write_part(
+    results: &mut Results,
+    catalog: &[u16],
+    map: &mut [u16],
+    registers: usize,
+    asked: Write,
+) {
     if registers <= map.len() {
-        write_in(catalog, &mut map[0..registers], asked);
+        write_in(results, catalog, &mut map[0..registers], asked);
     }
 }
 
 // Writes the result of `write`, and the map after it.
-fn write_in(catalog: &[u16], map: &mut [u16], asked: Write) {
+fn write_in(results: &mut Results, catalog: &[u16], map: &mut [u16], asked: Write) {
     let path = asked.path;
     let written = writing::write(
         catalog,
@@ -105,16 +114,16 @@ fn write_in(catalog: &[u16], map: &mut [u16], asked: Write) {
         path,
         asked.raw,
     );
-    write_written(written, map);
+    write_written(results, written, map);
 }
 
 // Writes a result of `write`, with the map after it.
-fn write_written(written: Written, map: &[u16]) {
+fn write_written(results: &mut Results, written: Written, map: &[u16]) {
     match written {
         Written::Done => {
-            output::say(output::WRITTEN);
-            output::words(map, map.len());
+            results.say(output::WRITTEN);
+            results.words(map, map.len());
         }
-        Written::Refused { number, place } => output::refused_at(number, place),
+        Written::Refused { number, place } => results.refused_at(number, place),
     }
 }

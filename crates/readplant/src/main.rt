@@ -6,20 +6,21 @@ ghost use Rattle.io.specs.Counts.{IsPrefixLen};
 ghost use Rattle.report.specs.CodeTypes.{length_of, written_by};
 ghost use Rattle.readplant.specs.Printing.{Prints};
 
-use libc::{STDIN_FILENO, STDOUT_FILENO};
 use report::{
     CATALOG_WORDS, ENTRIES, INPUT_BYTES, MAP_REGISTERS, OUTPUT_BYTES, Report, TEXT_BYTES,
     read_plant,
 };
+use std::io;
+use std::io::Read;
 
-fn main() {
+fn main(rt: HostRuntime) -> io::Result<()> {
     let mut input = [0u8; INPUT_BYTES];
     let mut catalog = [0u16; CATALOG_WORDS];
     let mut map = [0u16; MAP_REGISTERS];
     let mut list = [0u64; ENTRIES];
     let mut text = [0u8; TEXT_BYTES];
     let mut output = [0u8; OUTPUT_BYTES];
-    let count = io::read_full(STDIN_FILENO, &mut input);
+    let count = read_full(&mut rt.stdin(), &mut input);
     let report = read_plant(
         &input[..count],
         &mut catalog,
@@ -28,16 +29,30 @@ fn main() {
         &mut text,
     );
     let length = put_output(&mut output, report, &text);
-    print(&input, count, &output[..length]);
+    print(&rt, &input, count, &output[..length])
+}
+
+// Reads until `buf` is full, the input ends or a read fails, and returns how many bytes it put at the start of `buf`.
+fn read_full(reader: &mut impl Read, buf: &mut [u8]) -> usize
+    ensures { IsPrefixLen result buf.new }
+{
+    let mut done = 0;
+    while done < buf.len() {
+        let n = reader.read(&mut buf[done..]).unwrap_or(0);
+        if n == 0 {
+            break;
+        }
+        done += n;
+    }
+    done
 }
 
 // Writes `bytes`, which must be the output for the input whose first `count` bytes are in `input`. What is left to trust is
-// the one line of this function, and that `main` passes on `input` and `count` as it read them. A write that fails is
-// ignored: there is nowhere to report it.
-fn print(input: &[u8], count: usize, bytes: &[u8])
+// the one line of this function, and that `main` passes on `input` and `count` as it read them.
+fn print(rt: &impl Print, input: &[u8], count: usize, bytes: &[u8]) -> io::Result<()>
     requires { Prints input.now count bytes.now }
 {
-    io::write_all(STDOUT_FILENO, bytes);
+    rt.write_all(bytes)
 }
 
 // Puts the whole output at the start of `out`: the text, after `refused ` if it is a refusal's. Returns its length.
