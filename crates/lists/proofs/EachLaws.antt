@@ -23,7 +23,7 @@ each_parts P (x ∷ xs) ys e = let r = each_parts P xs ys e.1 in ((e.0, r.0), r.
 pub each_one : {A : Type 0} (P : A → Type 0) (xs : List A) → Each P xs → (x : A) → In x xs → P x
 each_one P (y ∷ ys) e x first = e.0
 each_one P (y ∷ ys) e x (later i) = each_one P ys e.1 x i
-each_one {A = A} P [] e x x4 = elim x4 [ ]
+each_one P [] e x i = elim i [ ]
 
 -- A fact that holds of every member holds of each element.
 pub each_any : {A : Type 0} (P : A → Type 0) (xs : List A) → ((x : A) → In x xs → P x) → Each P xs

@@ -12,7 +12,7 @@ module _ {A : Type 0} (x : A) where
   pub in_append_left : (xs ys : List A) → In x xs → In x (xs ++ ys)
   in_append_left (y ∷ xs) ys first = first
   in_append_left (y ∷ xs) ys (later i) = later (in_append_left xs ys i)
-  in_append_left [] ys x'' = elim x'' [ ]
+  in_append_left [] ys i = elim i [ ]
 
   pub in_append_right : (xs ys : List A) → In x ys → In x (xs ++ ys)
   in_append_right [] ys i = i
@@ -42,7 +42,7 @@ all_in (x ∷ xs) = (first, each_implied (λ y. In y xs) (λ y. In y (x ∷ xs))
 -- An empty list has no members.
 pub not_in_none : {A B : Type 0} (x : A) (xs : List A) → xs ≡ [] → In x xs → B
 not_in_none x (y ∷ ys) e i = impossible (cc)
-not_in_none {A = A} {B = B} x [] e i = elim i [ ]
+not_in_none x [] e i = elim i [ ]
 
 -- If a member of xs is one of ys, this stays so with the element y added to both lists.
 pub in_more : {A : Type 0} (x y : A) (xs ys : List A) → (In x xs → In x ys) → In x (y ∷ xs) → In x (y ∷ ys)
@@ -53,4 +53,4 @@ in_more x y xs ys f (later i) = later (f i)
 pub in_map : {A B : Type 0} (f : A → B) (x : A) (xs : List A) → In x xs → In (f x) (map f xs)
 in_map f x (y ∷ ys) first = first
 in_map f x (y ∷ ys) (later i) = later (in_map f x ys i)
-in_map {A = A} {B = B} f x [] x'' = elim x'' [ ]
+in_map f x [] i = elim i [ ]

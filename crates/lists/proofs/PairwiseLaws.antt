@@ -117,4 +117,4 @@ pub pairwise_in : {A : Type 0} (R : A → A → Type 0) (xs ys : List A) → Pai
 pairwise_in R (x ∷ xs) [] p z i = absurd p
 pairwise_in R (x ∷ xs) (y ∷ ys) p z first = (y, first, p.0)
 pairwise_in R (x ∷ xs) (y ∷ ys) p z (later i) = let r = pairwise_in R xs ys p.1 z i in (r.0, later r.1, r.2)
-pairwise_in {A = A} R [] ys p z i = elim i [ ]
+pairwise_in R [] ys p z i = elim i [ ]

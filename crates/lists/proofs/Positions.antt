@@ -118,4 +118,4 @@ located i (j ∷ is) r (later m) =
           ⊎_elim (λ (e : k ≡ j). (subst (λ x. In x (j ∷ is)) (sym e) first, λ q. let h = below i m in omega arith))
           (λ p. let q = l.others k p in (later q.0, q.1)) (in_cases k j (l.preceding ++ l.following) o);
     }
-located i [] r x'' = elim x'' [ ]
+located i [] r h = elim h [ ]

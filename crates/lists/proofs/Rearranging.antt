@@ -42,7 +42,7 @@ taken_length Exchange (i ∷ order) is (taken preceding following splits exchang
     one_more : (xs ys : List ℕ) → length (xs ++ i ∷ ys) ≡ suc (length (xs ++ ys))
     one_more [] ys = refl
     one_more (x ∷ xs) ys = ap suc (one_more xs ys)
-taken_length Exchange [] (_ ∷ _) x4 = elim x4 [ ]
+taken_length Exchange [] (_ ∷ _) t = elim t [ ]
 
 -- Each position below n is one of the first n.
 position_there : (n i : ℕ) → i < n → In i (positions_from n 0)
@@ -173,7 +173,7 @@ module _ {S W R : Type 0} (step : S → W → S) (result : S → W → R) (Diffe
             let others = r.1 F tail in
             λ k. own k ∷ others k,
       )
-  in_any_order [] (_ ∷ _) x4 s = elim x4 [ ]
+  in_any_order [] (_ ∷ _) r s = elim r [ ]
 
 -- A run has as many results as items.
 handled_length : {S W R : Type 0} (step : S → W → S) (result : S → W → R) (ws : List W) (s : S)

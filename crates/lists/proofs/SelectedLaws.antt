@@ -80,7 +80,7 @@ in_selected {A} test x (y ∷ ys) (later i) e = go (test y) (in_selected test x 
     go : (b : Bool) → In x (selected test ys) → In x (elim b [ true ↦ y ∷ selected test ys | false ↦ selected test ys ])
     go true i = later i
     go false i = i
-in_selected {A = A} test x [] x3 e = elim x3 [ ]
+in_selected test x [] i e = elim i [ ]
 
 -- What is selected is an element.
 pub selected_in : {A : Type 0} (test : A → Bool) (x : A) (xs : List A) → In x (selected test xs) → In x xs
@@ -91,4 +91,4 @@ selected_in {A} test x (y ∷ ys) i = go (test y) i (selected_in test x ys)
         → (In x (selected test ys) → In x ys) → In x (y ∷ ys)
     go true i rest = in_more x y (selected test ys) ys rest i
     go false i rest = later (rest i)
-selected_in {A = A} test x [] i = elim i [ ]
+selected_in test x [] i = elim i [ ]

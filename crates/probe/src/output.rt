@@ -5,8 +5,8 @@ use crate::fields;
 use std::io;
 use std::io::Stdout;
 
-// The texts of results, by their number in `Results::say`. (A byte string at each place where one is written costs the
-// prover six times as much as a number.)
+// The texts of results, by their number in `Results::say`. (A byte string at each place where one is written makes the
+// proofs of those functions larger.)
 pub(crate) const MODELS: usize = 0;
 
 pub(crate) const REFUSED: usize = 1;
