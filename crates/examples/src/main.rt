@@ -9,9 +9,9 @@ use report::{
     read_plant,
 };
 use std::env::FillError;
-use std::io::Read;
 use std::rt::{Env, Files};
 use std::{fs, io};
+use streams::read_full;
 
 // The longest name of a file.
 const NAME: usize = 255;
@@ -82,22 +82,6 @@ fn read_argument(rt: &(impl Env + Files), i: usize, out: &mut [u8]) -> usize
         return 0;
     };
     read_full(&mut file, out)
-}
-
-// Reads until `out` is full, the input ends or a read fails. Returns the number of bytes read, which it put at the start
-// of `out`.
-fn read_full(reader: &mut impl Read, out: &mut [u8]) -> usize
-    ensures { IsPrefixLen result out.new }
-{
-    let mut done = 0;
-    while done < out.len() {
-        let n = reader.read(&mut out[done..]).unwrap_or(0);
-        if n == 0 {
-            break;
-        }
-        done += n;
-    }
-    done
 }
 
 // Is `expected` the text that `read_plant` makes of `input`, after `refused ` if it is a refusal? This does not run

@@ -4,15 +4,18 @@ use mathlib.Core.List.{List, [], ◌∷◌, ◌++◌}
 use mathlib.Core.Option.{none, some}
 use Prim.Native.Nat.{ℕ, ◌+◌, ◌≤◌, ◌<◌}
 use native.Mathlib.Omega.{arith}
-use lib.ListN.{length, length-append}
+use lib.ListN.{length, take, length-append}
+use Rattle.catalog.specs.Rules.{run}
 use Rattle.catalog_frames.specs.Frames.{Point, Head, end_frame, fill, frame_in}
 use Rattle.model_definitions.specs.Definitions.{Groups, no_group, group, points_size, point_frames, group_frames}
 use Rattle.layout.specs.Points.{Scope}
-use Rattle.layout.specs.FrameWalk.{head_of}
+use Rattle.layout.specs.FrameWalk.{onward, head_of}
 use Rattle.layout.specs.InternalWalks.{content_from, past_end, AtGroups}
 use Rattle.layout.proofs.FramePosition as position
 use Rattle.layout.proofs.GroupDescent as groups
 use Rattle.layout.proofs.Sizes.{points_small}
+use Rattle.definition_frames.specs.CodeTypes.{to_spec_run, run_of}
+use Rattle.definition_frames.proofs.RunSteps.{content_run}
 use Rattle.listing.specs.InternalContracts.{RunOf, ExtentOf, SameExtent, WithGroup}
 use Rattle.definition_frames.specs.declared.runs.Run.{Run}
 use Rattle.listing.specs.declared.extents.Extent.{Extent}
@@ -67,6 +70,10 @@ module _ (ws : List ℕ) (i levels : ℕ) (at : AtGroups ws i levels) (few : lev
       let s = (groups.sound_here ws i levels at few h e).sound.2 in
       let b = points_small (own ++ at.sound.enclosing) own s in
       (omega (arith, w, at.few), omega (arith, w, at.few, b))
+
+  -- The run that the code finds after the group's frame is that of its own points.
+  pub own_run : (r : Run) → to_spec_run r ≡ run_of (take 4096 (run (onward ws (i + 1)))) (i + 1) → RunOf ws (i + 1) r
+  own_run = content_run ws (i + 1) (position.group_next ws i at.parses at.no_point h e).1 at.few
 
 -- ---- The sum
 

@@ -19,11 +19,11 @@ mod text;
 mod writes;
 
 ghost use Rattle.std.specs.Prelude.{◌≤◌, length};
-ghost use Rattle.io.specs.Counts.{IsPrefixLen};
 
 use output::Results;
 use std::io;
 use std::io::Read;
+use streams::read_full;
 
 // The size of the input buffer: the longest line and its LF.
 const INPUT_BYTES: usize = 524289;
@@ -92,22 +92,6 @@ fn fill(reader: &mut impl Read, input: &mut [u8], kept: usize) -> usize
     ensures { result ≤ length input.new }
 {
     kept + read_full(reader, &mut input[kept..])
-}
-
-// Reads until `buf` is full, the input ends or a read fails. Returns the number of bytes read, which it put at the start
-// of `buf`.
-fn read_full(reader: &mut impl Read, buf: &mut [u8]) -> usize
-    ensures { IsPrefixLen result buf.new }
-{
-    let mut done = 0;
-    while done < buf.len() {
-        let n = reader.read(&mut buf[done..]).unwrap_or(0);
-        if n == 0 {
-            break;
-        }
-        done += n;
-    }
-    done
 }
 
 // Processes the whole lines, and returns the start of the line that is cut, or the end of `input` if none is. A line

@@ -11,7 +11,7 @@ use report::{
     read_plant,
 };
 use std::io;
-use std::io::Read;
+use streams::read_full;
 
 fn main(rt: HostRuntime) -> io::Result<()> {
     let mut input = [0u8; INPUT_BYTES];
@@ -30,21 +30,6 @@ fn main(rt: HostRuntime) -> io::Result<()> {
     );
     let length = put_output(&mut output, report, &text);
     print(&rt, &input, count, &output[..length])
-}
-
-// Reads until `buf` is full, the input ends or a read fails, and returns how many bytes it put at the start of `buf`.
-fn read_full(reader: &mut impl Read, buf: &mut [u8]) -> usize
-    ensures { IsPrefixLen result buf.new }
-{
-    let mut done = 0;
-    while done < buf.len() {
-        let n = reader.read(&mut buf[done..]).unwrap_or(0);
-        if n == 0 {
-            break;
-        }
-        done += n;
-    }
-    done
 }
 
 // Writes `bytes`, which must be the output for the input whose first `count` bytes are in `input`. What is left to trust is

@@ -14,7 +14,8 @@ use Rattle.listing.proofs.WholeAnswer.{Answered, answered_by_lem, too_short, has
 use Rattle.listing.proofs.list.Goals as goal
 
 -- A survey that counts points comes from a walk; its records fit a list with capacity for this count.
-survey_walk : (catalog registers out : List ℕ) (points headers : ℕ) → listed_result points headers ≡ result (all_records catalog registers)
+survey_walk : (catalog registers out : List ℕ) (points headers : ℕ)
+    → listed_result points headers ≡ result (all_records catalog registers)
     → points ≤ length out / record_width
     → (Walks catalog registers (all_records catalog registers))
     × (WalkFits (walked (reading (definitions catalog)) registers) out)

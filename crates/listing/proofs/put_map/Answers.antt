@@ -4,7 +4,8 @@ use Rattle.model_definitions.specs.Definitions.{definitions}
 use Rattle.register_map.proofs.HeaderLaws.{opening_none}
 use Rattle.register_map.proofs.HeaderCases.{model_ends}
 use Rattle.layout.specs.Reading.{reading}
-use Rattle.listing.proofs.MapRecords.{WalkingMap, walking_starts, walking_ends, walking_refused, walking_late, walking_goes_on, walking_at}
+use Rattle.listing.proofs.MapRecords.{WalkingMap, walking_starts, walking_ends, walking_refused, walking_late}
+use Rattle.listing.proofs.MapRecords.{walking_goes_on, walking_at}
 use Rattle.listing.proofs.put_map.Goals as goal
 
 pub loop-at-init : goal.loop-at-init

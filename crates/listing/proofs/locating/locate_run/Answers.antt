@@ -1,7 +1,7 @@
 -- `listing::locating::locate_run` meets its contract: the result among the remaining points is the result among all.
-use mathlib.Core.Path.{sym, ap, ◌∙◌}
+use mathlib.Core.Path.{◌≡◌, sym, ap, ◌∙◌}
 use mathlib.Core.List.{List}
-use Prim.Native.Nat.{◌+◌}
+use Prim.Native.Nat.{ℕ, ◌+◌}
 use native.Mathlib.Omega.{arith}
 use Rattle.catalog_frames.specs.Frames.{Point}
 use Rattle.catalog_frames.specs.CodeTypes.{to_spec_point}
@@ -10,19 +10,22 @@ use Rattle.layout.specs.InternalWalks.{content_from}
 use Rattle.layout.specs.Locating.{located_among}
 use Rattle.layout.proofs.FramePosition as position
 use Rattle.layout.proofs.LocatingSteps.{none_left, none_past, found_first, not_first}
-use Rattle.definition_frames.specs.CodeTypes.{to_spec_point_or}
 use Rattle.listing.proofs.locating.locate_run.Goals as goal
+
+-- Among equal points the result is the same.
+among : (number limit offset : ℕ) {ps qs : List Point} → ps ≡ qs
+    → located_among number offset (present_within limit offset qs) ≡ located_among number offset (present_within limit offset ps)
+among number limit offset e = ap (λ (ps : List Point). located_among number offset (present_within limit offset ps)) (sym e)
 
 pub returns-then-point-number : goal.returns-then-point-number
 returns-then-point-number c =
     let a = c.args in
     let l = c.loop-at in
     let p = to_spec_point c.in-Point.point in
-    let f = sym c.point_at-next.ensures ∙ ap to_spec_point_or c.in-Point.is in
-    let next = position.point_next a.catalog.now l.at.frame l.invariant.1 p f in
+    let next = position.point_next a.catalog.now l.at.frame l.invariant.1 p (sym c.in-Point.ensures) in
     sym (found_first a.number a.limit l.at.offset p (content_from a.catalog.now (l.at.frame + 1)).points (omega arith)
     (omega (arith, c.if-point-number)))
-    ∙ ap (λ (ps : List Point). located_among a.number l.at.offset (present_within a.limit l.at.offset ps)) (sym next.0)
+    ∙ among a.number a.limit l.at.offset next.0
     ∙ l.invariant.0
 
 pub overflow_add-at : goal.overflow_add-at
@@ -40,11 +43,10 @@ loop-at-preserved c =
     let a = c.args in
     let l = c.loop-at in
     let p = to_spec_point c.in-Point.point in
-    let f = sym c.point_at-next.ensures ∙ ap to_spec_point_or c.in-Point.is in
-    let next = position.point_next a.catalog.now l.at.frame l.invariant.1 p f in (
+    let next = position.point_next a.catalog.now l.at.frame l.invariant.1 p (sym c.in-Point.ensures) in (
       sym (not_first a.number a.limit l.at.offset p (content_from a.catalog.now (l.at.frame + 1)).points (omega arith)
           c.if-point-number.false)
-          ∙ ap (λ (ps : List Point). located_among a.number l.at.offset (present_within a.limit l.at.offset ps)) (sym next.0)
+          ∙ among a.number a.limit l.at.offset next.0
           ∙ l.invariant.0,
       next.2,
     )
@@ -53,10 +55,9 @@ pub returns-in-Other : goal.returns-in-Other
 returns-in-Other c =
     let a = c.args in
     let l = c.loop-at in
-    let f = sym c.point_at-next.ensures ∙ ap to_spec_point_or c.in-Other.is in
-    let none = position.no_point_lem a.catalog.now l.at.frame l.invariant.1 f in
+    let none = position.no_point_lem a.catalog.now l.at.frame l.invariant.1 (sym c.in-Other.ensures) in
     sym (none_left a.number a.limit l.at.offset)
-    ∙ ap (λ (ps : List Point). located_among a.number l.at.offset (present_within a.limit l.at.offset ps)) (sym none)
+    ∙ among a.number a.limit l.at.offset none
     ∙ l.invariant.0
 
 pub returns : goal.returns

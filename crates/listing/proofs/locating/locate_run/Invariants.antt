@@ -10,7 +10,8 @@ use Rattle.listing.proofs.locating.locate_run.Given as goal
 abbrev pub invariant-loop-at : goal.invariant-loop-at
 invariant-loop-at l =
     (located_among l.number l.at.offset (present_within l.limit l.at.offset (content_from l.catalog l.at.frame).points)
-    ≡ located_among l.number l.initial.at.offset (present_within l.limit l.initial.at.offset (content_from l.catalog l.initial.at.frame).points))
+    ≡ located_among l.number l.initial.at.offset
+    (present_within l.limit l.initial.at.offset (content_from l.catalog l.initial.at.frame).points))
     × ParsesAt l.catalog l.at.frame
 
 abbrev pub decreases-loop-at : goal.decreases-loop-at

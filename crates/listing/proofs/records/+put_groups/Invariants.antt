@@ -10,8 +10,9 @@ use Rattle.listing.proofs.records.+put_groups.Given as goal
 
 abbrev pub invariant-loop-at : goal.invariant-loop-at
 invariant-loop-at l =
-    Writing l.body l.model.visit l.model.fill (level_of l.levels) l.instance.path.instances l.initial.table l.initial.out l.initial.at.records l.initial.at.offset
-    (content_from l.catalog l.initial.at.frame).groups l.table l.out l.at.records l.at.offset l.j (content_from l.catalog l.at.frame).groups
+    Writing l.body l.model.visit l.model.fill (level_of l.levels) l.instance.path.instances l.initial.table l.initial.out
+    l.initial.at.records l.initial.at.offset (content_from l.catalog l.initial.at.frame).groups
+    l.table l.out l.at.records l.at.offset l.j (content_from l.catalog l.at.frame).groups
     × ParsesAt l.catalog l.at.frame
     × ((content_from l.catalog l.at.frame).points ≡ [])
     × (l.frames ≡ length l.catalog / 8)

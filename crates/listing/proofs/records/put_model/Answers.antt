@@ -40,10 +40,10 @@ put_groups-end-requires c =
     let pre = c.requires in
     let words : (k : ℕ) → get_or v.catalog.now k 0 < 65536 = λ k. omega (arith, c.type_inv.catalog k) in
     let run = c.put_run-after_points.ensures.after_run in
-    let f = model.else_full v.visit v.records v.out.now pre.accepted pre.ready words pre.body_len_bound.0 pre.body_len_bound.1
+    let full = model.else_full v.visit v.records v.out.now pre.accepted pre.ready words pre.body_len_bound.0 pre.body_len_bound.1
     pre.has_points pre.body_in_bounds (λ e. c.if-after_points-body.false (omega (arith, run.offset, e))) in
     model.groups_ask v.visit v.records v.out.now pre.accepted pre.ready words pre.body_len_bound.0 pre.body_len_bound.1
-    pre.has_points pre.body_in_bounds run f.0 f.1 c.put_run-after_points.ensures.out_after
+    pre.has_points pre.body_in_bounds run full.0 full.1 c.put_run-after_points.ensures.out_after
 
 pub returns : goal.returns
 returns c =
@@ -51,14 +51,14 @@ returns c =
     let pre = c.requires in
     let words : (k : ℕ) → get_or v.catalog.now k 0 < 65536 = λ k. omega (arith, c.type_inv.catalog k) in
     let run = c.put_run-after_points.ensures.after_run in
-    let f = model.else_full v.visit v.records v.out.now pre.accepted pre.ready words pre.body_len_bound.0 pre.body_len_bound.1
+    let full = model.else_full v.visit v.records v.out.now pre.accepted pre.ready words pre.body_len_bound.0 pre.body_len_bound.1
     pre.has_points pre.body_in_bounds (λ e. c.if-after_points-body.false (omega (arith, run.offset, e))) in
     let wrote = c.put_run-after_points.ensures.out_after in
     let g = c.put_groups-end.ensures in
     record {
       value = model.records_after v.visit v.records v.out.now pre.accepted pre.ready words pre.body_len_bound.0
-          pre.body_len_bound.1 pre.has_points pre.body_in_bounds run f.0 f.1 wrote g.after_groups;
+          pre.body_len_bound.1 pre.has_points pre.body_in_bounds run full.0 full.1 wrote g.after_groups;
       out_after = model.list_after v.visit v.records v.out.now pre.accepted pre.ready words pre.body_len_bound.0
-          pre.body_len_bound.1 pre.has_points pre.body_in_bounds run f.0 f.1 wrote g.out_after;
+          pre.body_len_bound.1 pre.has_points pre.body_in_bounds run full.0 full.1 wrote g.out_after;
       table = g.table;
     }

@@ -17,7 +17,8 @@ use Rattle.listing.specs.declared.records.Visit.{Visit}
 use Rattle.listing.proofs.records.put_own.Goals as goal
 
 -- The points that begin before the end of the body are all of them.
-all_are_present : (ws body out : List ℕ) (visit : Visit) (at : Progress) → RunAsks ws body out visit at (content_from ws at.frame).points
+all_are_present : (ws body out : List ℕ) (visit : Visit) (at : Progress)
+    → RunAsks ws body out visit at (content_from ws at.frame).points
     → present_within (length body) at.offset (content_from ws at.frame).points ≡ (content_from ws at.frame).points
 all_are_present ws body out visit at asks =
     present_all (length body) at.offset (content_from ws at.frame).points asks.sized asks.inside

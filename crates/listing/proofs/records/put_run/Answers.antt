@@ -1,24 +1,17 @@
 -- `listing::records::put_run` meets its contract: writing the remaining points gives what writing all gives.
-use mathlib.Core.Path.{sym, ap, ◌∙◌}
+use mathlib.Core.Path.{sym}
 use native.Mathlib.Omega.{arith}
 use Rattle.catalog_frames.specs.CodeTypes.{to_spec_point}
-use Rattle.definition_frames.specs.CodeTypes.{to_spec_point_or}
 use Rattle.listing.proofs.PointRuns.{still_within, still_past, still_other, first_fits, still_first}
 use Rattle.listing.proofs.records.put_run.Goals as goal
 
 pub put_record-requires-clause-point_fits : goal.put_record-requires-clause-point_fits
 put_record-requires-clause-point_fits c =
-    let i = c.loop-at.invariant in
-    let f = sym c.point_at-next.ensures ∙ ap to_spec_point_or c.in-Point.is in
-    let fits = first_fits i (to_spec_point c.in-Point.point) c.loop-at-test.true f in
-    fits.0
+    (first_fits c.loop-at.invariant (to_spec_point c.in-Point.point) c.loop-at-test.true (sym c.in-Point.ensures)).0
 
 pub put_record-requires-clause-records_in_bounds : goal.put_record-requires-clause-records_in_bounds
 put_record-requires-clause-records_in_bounds c =
-    let i = c.loop-at.invariant in
-    let f = sym c.point_at-next.ensures ∙ ap to_spec_point_or c.in-Point.is in
-    let fits = first_fits i (to_spec_point c.in-Point.point) c.loop-at-test.true f in
-    fits.1
+    (first_fits c.loop-at.invariant (to_spec_point c.in-Point.point) c.loop-at-test.true (sym c.in-Point.ensures)).1
 
 pub overflow_add-at-in-Point-2 : goal.overflow_add-at-in-Point-2
 overflow_add-at-in-Point-2 c =
@@ -31,14 +24,12 @@ loop-at-smaller c =
 
 pub loop-at-preserved : goal.loop-at-preserved
 loop-at-preserved c =
-    let f = sym c.point_at-next.ensures ∙ ap to_spec_point_or c.in-Point.is in
-    still_first c.loop-at.invariant (to_spec_point c.in-Point.point) c.loop-at-test.true f
+    still_first c.loop-at.invariant (to_spec_point c.in-Point.point) c.loop-at-test.true (sym c.in-Point.ensures)
     c.put_record.new.out c.put_record.ensures
 
 pub returns-in-Other : goal.returns-in-Other
 returns-in-Other c =
-    let f = sym c.point_at-next.ensures ∙ ap to_spec_point_or c.in-Other.is in
-    let h = still_other c.loop-at.invariant f in
+    let h = still_other c.loop-at.invariant (sym c.in-Other.ensures) in
     record { after_run = h.0; out_after = h.1 }
 
 pub returns : goal.returns

@@ -5,7 +5,6 @@ use Prim.Native.Nat.{ℕ}
 use Rattle.listing.specs.Listing as Listing
 use Rattle.listing.specs.Listing.{listed, all_records, listed_result}
 use Rattle.listing.specs.Finding.{finding_in, finding, result}
-use Rattle.listing.specs.CodeTypes.{to_spec_listing}
 use Rattle.listing.specs.InternalContracts.{IsListed}
 use Rattle.listing.proofs.ListingCases.{Walks, records_walk}
 use Rattle.listing.proofs.ResultCases.{Records, result_listed, result_refused}
@@ -20,27 +19,22 @@ survey_walk catalog registers points headers e =
 
 pub search_map-requires-clause-accepted : goal.search_map-requires-clause-accepted
 search_map-requires-clause-accepted c =
-    let e = sym (ap to_spec_listing c.in-Listed.is) ∙ c.survey_plant-survey.ensures.result_value in
-    let w = (survey_walk c.args.catalog.now c.args.map.now c.in-Listed.points c.in-Listed.headers e).1 in
+    let w = (survey_walk c.args.catalog.now c.args.map.now _ _ c.in-Listed.ensures.result_value).1 in
     (w.models, w.accepted)
 
 pub search_map-requires-clause-map_value : goal.search_map-requires-clause-map_value
 search_map-requires-clause-map_value c =
-    let e = sym (ap to_spec_listing c.in-Listed.is) ∙ c.survey_plant-survey.ensures.result_value in
-    let w = (survey_walk c.args.catalog.now c.args.map.now c.in-Listed.points c.in-Listed.headers e).1 in
-    w.opens
+    (survey_walk c.args.catalog.now c.args.map.now _ _ c.in-Listed.ensures.result_value).1.opens
 
 pub search_map-requires-clause-listed : goal.search_map-requires-clause-listed
 search_map-requires-clause-listed c =
-    let e = sym (ap to_spec_listing c.in-Listed.is) ∙ c.survey_plant-survey.ensures.result_value in
-    let w = (survey_walk c.args.catalog.now c.args.map.now c.in-Listed.points c.in-Listed.headers e).1 in
+    let w = (survey_walk c.args.catalog.now c.args.map.now _ _ c.in-Listed.ensures.result_value).1 in
     subst IsListed (sym w.walks) tt
 
 pub returns-in-Listed : goal.returns-in-Listed
 unfolding finding
 returns-in-Listed c =
-    let e = sym (ap to_spec_listing c.in-Listed.is) ∙ c.survey_plant-survey.ensures.result_value in
-    let r = survey_walk c.args.catalog.now c.args.map.now c.in-Listed.points c.in-Listed.headers e in
+    let r = survey_walk c.args.catalog.now c.args.map.now _ _ c.in-Listed.ensures.result_value in
     c.search_map.ensures
     ∙ ap (λ a. result (finding_in c.args.model c.args.point c.args.path.instances a)) (r.1.walks ∙ sym r.0.is)
 
@@ -48,6 +42,6 @@ pub returns-in-Refused : goal.returns-in-Refused
 unfolding finding
 returns-in-Refused c =
     let r = c.in-Refused in
-    let e = sym (ap to_spec_listing r.is) ∙ c.survey_plant-survey.ensures.result_value in
-    let refused = result_refused (all_records c.args.catalog.now c.args.map.now) r.number r.place r.headers e in
+    let all = all_records c.args.catalog.now c.args.map.now in
+    let refused = result_refused all r.number r.place r.headers r.ensures.result_value in
     sym (ap (λ a. result (finding_in c.args.model c.args.point c.args.path.instances a)) refused)

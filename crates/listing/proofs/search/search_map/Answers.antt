@@ -7,7 +7,6 @@ use lib.Dec.{eqb}
 use lib.ListN.{length}
 use Rattle.lists.specs.Tests.{first_with}
 use Rattle.model_definitions.specs.Definitions.{definitions}
-use Rattle.register_map.specs.CodeTypes.{to_spec_header}
 use Rattle.register_map.proofs.HeaderLaws.{opening_none}
 use Rattle.register_map.proofs.HeaderCases.{model_ends}
 use Rattle.layout.specs.Paths.{is_point}
@@ -31,7 +30,7 @@ pub search_model-requires-clause-body_len_bound : goal.search_model-requires-cla
 search_model-requires-clause-body_len_bound c =
     let map = c.args.map.now in
     let at = c.loop-at.at in
-    let h = sym c.header_at-header.ensures ∙ ap to_spec_header c.in-Model.is in
+    let h = sym c.in-Model.ensures in
     let short = (opening_none map c.requires.map_value).0 in
     let ends = model_ends (eqb at 2) map at h in
     let all = ap length c.part-body.ensures ∙ body_length map at c.in-Model.id c.in-Model.length h in
@@ -41,7 +40,7 @@ pub returns-then-index-model : goal.returns-then-index-model
 returns-then-index-model c =
     let v = c.args in
     let l = c.loop-at in
-    let h = sym c.header_at-header.ensures ∙ ap to_spec_header c.in-Model.is in
+    let h = sym c.in-Model.ensures in
     let found : List ℕ → Result = λ body.
     result_at l.at (first_with (is_point v.key.number v.key.path.instances) (points_of (read_in v.catalog.now c.in-Model.id body))) in
     c.search_model.ensures
@@ -51,19 +50,17 @@ returns-then-index-model c =
 pub loop-at-preserved : goal.loop-at-preserved
 loop-at-preserved c =
     let l = c.loop-at in
-    let h = sym c.header_at-header.ensures ∙ ap to_spec_header c.in-Model.is in
+    let h = sym c.in-Model.ensures in
     let short = (opening_none c.args.map.now c.requires.map_value).0 in
     (search_at c.after_model-at.ensures (search_other l.invariant.0 h short c.if-index-model.false), l.invariant.1)
 
 pub returns-in-End : goal.returns-in-End
 returns-in-End c =
-    let h = sym c.header_at-header.ensures ∙ ap to_spec_header c.in-End.is in
-    search_ends c.loop-at.invariant.0 (omega arith) h
+    search_ends c.loop-at.invariant.0 (omega arith) (sym c.in-End.ensures)
 
 pub returns-in-Refused : goal.returns-in-Refused
 returns-in-Refused c =
-    let h = sym c.header_at-header.ensures ∙ ap to_spec_header c.in-Refused.is in
-    search_refused c.loop-at.invariant.0 (omega arith) h
+    search_refused c.loop-at.invariant.0 (omega arith) (sym c.in-Refused.ensures)
 
 pub returns : goal.returns
 returns c = search_late c.loop-at.invariant.0 (omega arith)

@@ -8,7 +8,8 @@ use Rattle.listing.proofs.MapSearch.{Searching}
 use Rattle.listing.proofs.search.search_map.Given as goal
 
 abbrev pub invariant-loop-at : goal.invariant-loop-at
-invariant-loop-at l = Searching (reading (definitions l.catalog)) l.map l.model l.key.number l.key.path.instances l.at l.index × IsTable l.table
+invariant-loop-at l =
+    Searching (reading (definitions l.catalog)) l.map l.model l.key.number l.key.path.instances l.at l.index × IsTable l.table
 
 abbrev pub decreases-loop-at : goal.decreases-loop-at
 decreases-loop-at l = length l.map - l.at
