@@ -1,6 +1,5 @@
 -- `catalog::check_frames` meets its contract: at each frame, checking the remaining frames gives the result for the whole.
 use mathlib.Core.Path.{sym, ap, ◌∙◌}
-use Prim.Native.Nat.{◌-◌}
 use native.Mathlib.Omega.{arith}
 use borrow.Author.Tests.{ne_eqb}
 use Rattle.catalog.specs.State.{start}
@@ -31,29 +30,23 @@ begin_model-uncounted-requires-clause-blank_at_model c =
     let l = c.loop-i in
     let fault = c.fault_at-fault.ensures in
     let unbroken = sym (ap to_spec_fault c.if-fault-ne0.false) ∙ fault.result_value in
-    let within = l.invariant.1.decides.tracks.within in
-    let inside = within.passed (l.state.depth - 1) in
-    let blank = frame.blank_here _ _ _ _ _ l.i l.state l.invariant.1 fault.id_fits (omega arith) unbroken in
-    blank
+    frame.blank_here _ _ _ _ _ l.i l.state l.invariant.1 fault.id_fits (omega arith) unbroken
 
 pub after-state-requires-clause-depth_allows : goal.after-state-requires-clause-depth_allows
 after-state-requires-clause-depth_allows c =
     let l = c.loop-i in
     let fault = c.fault_at-fault.ensures in
     let unbroken = sym (ap to_spec_fault c.if-fault-ne0.false) ∙ fault.result_value in
-    let allows = frame.depth_allows_here _ _ _ _ _ l.i l.state l.invariant.1 fault.id_fits (omega arith) unbroken in
-    allows
+    frame.depth_allows_here _ _ _ _ _ l.i l.state l.invariant.1 fault.id_fits (omega arith) unbroken
 
 pub loop-i-preserved : goal.loop-i-preserved
 loop-i-preserved c =
     let l = c.loop-i in
-    let before_end = c.loop-i-test.true in
     let fault = c.fault_at-fault.ensures in
     let unbroken = sym (ap to_spec_fault c.if-fault-ne0.false) ∙ fault.result_value in
-    let numbers = c.mark_number.ensures in
-    let present_within = c.begin_model-uncounted.ensures in
-    let on = frame.holds_next _ _ _ _ _ l.i l.state l.invariant.1 fault.id_fits (omega arith) unbroken _ _ _ _ _ _ _
-    c.innermost-inner.ensures present_within numbers c.mark_scales.ensures in
+    let on =
+    frame.holds_next _ _ _ _ _ l.i l.state l.invariant.1 fault.id_fits (omega arith) unbroken _ _ _ _ _ _ _
+    c.innermost-inner.ensures c.begin_model-uncounted.ensures c.mark_number.ensures c.mark_scales.ensures in
     (omega arith, rw c.after-state.ensures on)
 
 pub returns-then-state-ne0 : goal.returns-then-state-ne0

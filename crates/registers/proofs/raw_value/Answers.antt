@@ -1,7 +1,7 @@
 -- `raw_value` joins up to four registers. The invariant: the value joined so far, shifted past the registers left, plus their value
 -- is the whole value; and the next register still fits 64 bits.
 use mathlib.Core.Path.{◌≡◌, sym, ◌∙◌}
-use Prim.Native.Nat.{suc, ◌-◌, ◌<◌}
+use Prim.Native.Nat.{suc, ◌-◌}
 use native.Mathlib.Omega.{arith}
 use borrow.Author.Tests.{le-leb}
 use lib.ListN.{length}
@@ -11,15 +11,10 @@ use Rattle.registers.proofs.raw_value.Goals as goal
 
 pub returns-then-registers-gt4-clause-value : goal.returns-then-registers-gt4-clause-value
 returns-then-registers-gt4-clause-value c =
-    let rs = c.args.registers.now in
-    let long : 4 < length rs = omega (arith, c.if-registers-gt4.true) in
-    sym (not_shown rs long)
+    sym (not_shown c.args.registers.now (omega (arith, c.if-registers-gt4.true)))
 
 pub returns-then-registers-gt4-clause-upper_bound : goal.returns-then-registers-gt4-clause-upper_bound
-returns-then-registers-gt4-clause-upper_bound c =
-    let rs = c.args.registers.now in
-    let long : 4 < length rs = omega (arith, c.if-registers-gt4.true) in
-    positive (length rs)
+returns-then-registers-gt4-clause-upper_bound c = positive (length c.args.registers.now)
 
 pub overflow_mul-raw : goal.overflow_mul-raw
 overflow_mul-raw c =
@@ -45,5 +40,4 @@ returns-clause-value c =
     let l = c.loop-left in
     let rs = c.args.registers.now in
     let e : l.left ≡ 0 = omega (arith, c.loop-left-test.false) in
-    let all : length rs - l.left ≡ length rs = omega arith in
     simp (shown_raw, le-leb _ _ l.invariant.1) (sym (join_end rs l.raw) ∙ (rw e at l.invariant.3))

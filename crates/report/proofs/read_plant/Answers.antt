@@ -18,19 +18,17 @@ returns-in-Refused c =
     let words : length a.catalog.now ≡ frame_capacity * 8 = search rules in
     let registers : length a.map.now ≡ register_capacity = search rules in
     let g = c.in-Refused in
-    let reports = rw (words, registers) at g.ensures.result_value in
-    let catalog = rw (words, registers) at g.ensures.catalog_after in
-    let map = rw (words, registers) at g.ensures.map_after in
-    let e = result_refused (parsed_input a.input.now) g.number g.place reports in
+    let e = result_refused (parsed_input a.input.now) g.number g.place (rw (words, registers) at g.ensures.result_value) in
+    let refused = found_refused a.input.now g.number g.place e in
     let p = c.put_refusal.ensures in
-    let made = refusal_made (found a.input.now) g.number g.place 0 (found_refused a.input.now g.number g.place e) p.put p.upper_bound in
+    let made = refusal_made (found a.input.now) g.number g.place 0 refused p.put p.upper_bound in
     record {
       out_after = written (found a.input.now) a.out.now _ _ made.reports made.holds;
       value = made.reports;
       result_in_bounds = made.fits;
       out_after_2 = made.holds;
-      catalog_after = catalog;
-      map_after = map;
+      catalog_after = rw (words, registers) at g.ensures.catalog_after;
+      map_after = rw (words, registers) at g.ensures.map_after;
       list_after = sym (ap (λ (i : Parsing.Input). stored_list i a.list.now) e);
       out_len_unchanged = made.keeps;
     }
@@ -41,10 +39,9 @@ returns-in-Of c =
     let words : length a.catalog.now ≡ frame_capacity * 8 = search rules in
     let registers : length a.map.now ≡ register_capacity = search rules in
     let g = c.in-Of in
-    let reports = rw (words, registers) at g.ensures.result_value in
     let catalog_after = rw (words, registers) at g.ensures.catalog_after in
     let map_after = rw (words, registers) at g.ensures.map_after in
-    let w = result_words (parsed_input a.input.now) g.frames g.registers reports in
+    let w = result_words (parsed_input a.input.now) g.frames g.registers (rw (words, registers) at g.ensures.result_value) in
     let catalog = c.part-words.ensures ∙ catalog_cut a.input.now g.frames g.registers w a.catalog.now _ catalog_after in
     let map = c.part.ensures ∙ map_cut a.input.now g.frames g.registers w a.map.now _ map_after in
     let same : listing c.part-words.result.now c.part.result.now list_capacity ≡ found a.input.now =
@@ -59,6 +56,9 @@ returns-in-Of c =
       out_after_2 = holds;
       catalog_after = catalog_after;
       map_after = map_after;
-      list_after = r.list_after ∙ ap (λ (b : Answer). stored b a.list.now) same ∙ list_stored a.input.now g.frames g.registers w a.list.now;
+      list_after =
+          r.list_after
+          ∙ ap (λ (b : Answer). stored b a.list.now) same
+          ∙ list_stored a.input.now g.frames g.registers w a.list.now;
       out_len_unchanged = r.out_len_unchanged;
     }

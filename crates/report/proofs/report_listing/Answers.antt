@@ -1,10 +1,9 @@
 -- `report_listing`: the text is that of the answer that `list` returns.
-use mathlib.Core.Path.{◌≡◌, sym, ap, ◌∙◌}
+use mathlib.Core.Path.{◌≡◌}
 use native.Mathlib.Omega.{arith}
 use borrow.Author.Rules.{rules}
 use lib.ListN.{length}
 use Rattle.listing.specs.Listing.{listing}
-use Rattle.listing.specs.CodeTypes.{to_spec_listing}
 use Rattle.listing.proofs.ResultCases.{result_refused, result_listed, records_fit}
 use Rattle.report.specs.Program.{list_capacity}
 use Rattle.report.proofs.ReportCases.{refusal_made, listing_made}
@@ -15,38 +14,40 @@ put_listing-requires-clause-record_width_in_bounds c =
     let a = c.args in
     let capacity : length a.list.now ≡ list_capacity = search rules in
     let found = listing a.catalog.now a.map.now list_capacity in
-    let reports = ap to_spec_listing (sym c.in-Listed.is) ∙ (rw capacity at c.list-listing.ensures.result_value) in
-    let r = result_listed found c.in-Listed.points c.in-Listed.headers reports in
-    let h = records_fit a.catalog.now a.map.now list_capacity r.records c.in-Listed.headers r.is in
-    omega (arith, h, r.count)
+    let r = result_listed found c.in-Listed.points c.in-Listed.headers (rw capacity at c.in-Listed.ensures.result_value) in
+    omega (arith, records_fit a.catalog.now a.map.now list_capacity r.records c.in-Listed.headers r.is, r.count)
 
-pub returns-in-Refused-clause-out_after : goal.returns-in-Refused-clause-out_after
-returns-in-Refused-clause-out_after c =
+pub returns-in-Refused : goal.returns-in-Refused
+returns-in-Refused c =
     let a = c.args in
     let capacity : length a.list.now ≡ list_capacity = search rules in
     let found = listing a.catalog.now a.map.now list_capacity in
-    let reports = ap to_spec_listing (sym c.in-Refused.is) ∙ (rw capacity at c.list-listing.ensures.result_value) in
-    let made = refusal_made found c.in-Refused.number c.in-Refused.place c.in-Refused.headers (result_refused found c.in-Refused.number c.in-Refused.place c.in-Refused.headers reports) c.put_refusal.ensures.put c.put_refusal.ensures.upper_bound in
-    made.holds
+    let g = c.in-Refused in
+    let refused = result_refused found g.number g.place g.headers (rw capacity at g.ensures.result_value) in
+    let p = c.put_refusal.ensures in
+    let made = refusal_made found g.number g.place g.headers refused p.put p.upper_bound in
+    record {
+      value = made.reports;
+      result_in_bounds = made.fits;
+      out_after = made.holds;
+      list_after = rw capacity at g.ensures.out_after;
+      out_len_unchanged = made.keeps;
+    }
 
-pub returns-in-Listed-clause-value : goal.returns-in-Listed-clause-value
-returns-in-Listed-clause-value c =
+pub returns-in-Listed : goal.returns-in-Listed
+returns-in-Listed c =
     let a = c.args in
     let capacity : length a.list.now ≡ list_capacity = search rules in
     let found = listing a.catalog.now a.map.now list_capacity in
-    let reports = ap to_spec_listing (sym c.in-Listed.is) ∙ (rw capacity at c.list-listing.ensures.result_value) in
-    let stores = rw capacity at c.list-listing.ensures.out_after in
-    let r = result_listed found c.in-Listed.points c.in-Listed.headers reports in
-    let made = listing_made found c.in-Listed.points c.in-Listed.headers r a.list.now stores c.put_listing.ensures.put c.put_listing.ensures.upper_bound in
-    made.reports
-
-pub returns-in-Listed-clause-out_after : goal.returns-in-Listed-clause-out_after
-returns-in-Listed-clause-out_after c =
-    let a = c.args in
-    let capacity : length a.list.now ≡ list_capacity = search rules in
-    let found = listing a.catalog.now a.map.now list_capacity in
-    let reports = ap to_spec_listing (sym c.in-Listed.is) ∙ (rw capacity at c.list-listing.ensures.result_value) in
-    let stores = rw capacity at c.list-listing.ensures.out_after in
-    let r = result_listed found c.in-Listed.points c.in-Listed.headers reports in
-    let made = listing_made found c.in-Listed.points c.in-Listed.headers r a.list.now stores c.put_listing.ensures.put c.put_listing.ensures.upper_bound in
-    made.holds
+    let g = c.in-Listed in
+    let r = result_listed found g.points g.headers (rw capacity at g.ensures.result_value) in
+    let stores = rw capacity at g.ensures.out_after in
+    let p = c.put_listing.ensures in
+    let made = listing_made found g.points g.headers r a.list.now stores p.put p.upper_bound in
+    record {
+      value = made.reports;
+      result_in_bounds = made.fits;
+      out_after = made.holds;
+      list_after = stores;
+      out_len_unchanged = made.keeps;
+    }

@@ -4,7 +4,7 @@ use mathlib.Core.List.{List}
 use Prim.Native.Nat.{ℕ}
 use Rattle.listing.specs.Finding.{finding}
 use Rattle.listing.specs.Finding as Finding
-use Rattle.listing.specs.CodeTypes.{to_spec_target, to_spec_finding}
+use Rattle.listing.specs.CodeTypes.{to_spec_target}
 use Rattle.writing.specs.Writing.{result, map_after, writing}
 use Rattle.writing.specs.CodeTypes.{to_spec_written}
 use Rattle.writing.specs.Calls.{WriteCall}
@@ -27,33 +27,31 @@ called catalog map index number path raw r f e w =
 
 pub write_to-requires : goal.write_to-requires
 write_to-requires c =
-    let v = c.args in
-    let e = ap to_spec_finding (sym c.in-Found.is) ∙ c.find-finding.ensures in
-    target_inside v.catalog.now v.map.now v.model v.point v.path.instances (to_spec_target c.in-Found.target) e
+    let a = c.args in
+    target_inside a.catalog.now a.map.now a.model a.point a.path.instances (to_spec_target c.in-Found.target) c.in-Found.ensures
 
 pub returns-in-Found : goal.returns-in-Found
 returns-in-Found c =
-    let whole = (
-    let v = c.args in
-    let e = ap to_spec_finding (sym c.in-Found.is) ∙ c.find-finding.ensures in
-    called v.catalog.now v.map.now v.model v.point v.path.instances v.raw c.write_to.result
-    (Finding.found_result (to_spec_target c.in-Found.target)) e (c.write_to.ensures.result_value, c.write_to.ensures.map_after)) in
+    let a = c.args in
+    let w = c.write_to in
+    let whole =
+    called a.catalog.now a.map.now a.model a.point a.path.instances a.raw w.result
+    (Finding.found_result (to_spec_target c.in-Found.target)) c.in-Found.ensures (w.ensures.result_value, w.ensures.map_after) in
     record { result_value = whole.0; map_after = whole.1.0; write_call = whole.1.1 }
 
 pub returns-in-Nothing : goal.returns-in-Nothing
 returns-in-Nothing c =
-    let whole = (
-    let v = c.args in
-    let e = ap to_spec_finding (sym c.in-Nothing.is) ∙ c.find-finding.ensures in
-    called v.catalog.now v.map.now v.model v.point v.path.instances v.raw (Written.Refused 31 0)
-    Finding.nothing_result e (refl, refl)) in
+    let a = c.args in
+    let whole =
+    called a.catalog.now a.map.now a.model a.point a.path.instances a.raw (Written.Refused 31 0)
+    Finding.nothing_result c.in-Nothing.ensures (refl, refl) in
     record { result_value = whole.0; map_after = whole.1.0; write_call = whole.1.1 }
 
 pub returns-in-Refused : goal.returns-in-Refused
 returns-in-Refused c =
-    let whole = (
-    let v = c.args in
-    let e = ap to_spec_finding (sym c.in-Refused.is) ∙ c.find-finding.ensures in
-    called v.catalog.now v.map.now v.model v.point v.path.instances v.raw (Written.Refused c.in-Refused.number c.in-Refused.place)
-    (Finding.refused_result c.in-Refused.number c.in-Refused.place) e (refl, refl)) in
+    let a = c.args in
+    let g = c.in-Refused in
+    let whole =
+    called a.catalog.now a.map.now a.model a.point a.path.instances a.raw (Written.Refused g.number g.place)
+    (Finding.refused_result g.number g.place) g.ensures (refl, refl) in
     record { result_value = whole.0; map_after = whole.1.0; write_call = whole.1.1 }

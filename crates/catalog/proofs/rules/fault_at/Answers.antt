@@ -1,12 +1,12 @@
 -- `catalog::rules::fault_at` meets its contract: each kind of frame has its rules.
-use mathlib.Core.Path.{refl, sym, ap, ◌∙◌}
+use mathlib.Core.Path.{ap, ◌∙◌}
 use mathlib.Core.Bool.{not}
 use native.Mathlib.Omega.{arith}
 use Prim.Native.Nat.{◌-◌, ◌<◌}
 use lib.Dec.{eqb}
 use Rattle.lists.specs.Tests.{first_broken}
 use Rattle.catalog.specs.Rules.{no_point, run}
-use Rattle.catalog_frames.specs.CodeTypes.{to_spec_frame, to_spec_point}
+use Rattle.catalog_frames.specs.CodeTypes.{to_spec_point}
 use Rattle.catalog.specs.InternalScans.{frames_onward}
 use Rattle.frame_rules.specs.FrameTests.{end_tests}
 use Rattle.catalog_frames.proofs.FramesByIndex.{frame_within}
@@ -16,60 +16,41 @@ use Rattle.catalog.proofs.rules.fault_at.Goals as goal
 
 pub returns-in-Model : goal.returns-in-Model
 returns-in-Model c =
-    let f = c.read_frame-frame.ensures ∙ frame_within _ _ c.requires.i_in_bounds in
-    let is = c.in-Model.is in
-    record {
-      result_value = rw (← f, is) (c.model_fault.ensures);
-      id_fits = rw (← f, is) (search rules);
-    }
+    let f = c.in-Model.ensures ∙ frame_within _ _ c.requires.i_in_bounds in
+    record { result_value = rw (← f) c.model_fault.ensures; id_fits = rw (← f) (search rules) }
 
 pub returns-in-Group : goal.returns-in-Group
 returns-in-Group c =
-    let x = c.requires.indexed in
-    let f = c.read_frame-frame.ensures ∙ frame_within _ _ c.requires.i_in_bounds in
-    let is = c.in-Group.is in
+    let f = c.in-Group.ensures ∙ frame_within _ _ c.requires.i_in_bounds in
     let head = c.in-Group.head in
     let fits : (head.number < 65536) × (head.count < 65536) = search rules in
-    let here = sym (ap to_spec_frame is) ∙ f in
-    let same = marked.group_tested _ _ _ _ _ _ x c.requires.i_in_bounds _ here fits.1 fits.0 in
-    record {
-      result_value = rw (← f, is) (c.group_fault.ensures ∙ same);
-      id_fits = rw (← f, is) (fits);
-    }
+    let same = marked.group_tested _ _ _ _ _ _ c.requires.indexed c.requires.i_in_bounds _ f fits.1 fits.0 in
+    record { result_value = rw (← f) (c.group_fault.ensures ∙ same); id_fits = rw (← f) fits }
 
 pub returns-in-Point : goal.returns-in-Point
 returns-in-Point c =
-    let x = c.requires.indexed in
-    let f = c.read_frame-frame.ensures ∙ frame_within _ _ c.requires.i_in_bounds in
-    let is = c.in-Point.is in
+    let f = c.in-Point.ensures ∙ frame_within _ _ c.requires.i_in_bounds in
     let point = to_spec_point c.in-Point.point in
     let fits : (point.number < 65536) × (point.scale < 65536) = search rules in
-    let same = ap first_broken (marked.point_tested _ _ _ _ _ _ x point fits.0 fits.1) in
-    record {
-      result_value = rw (← f, is) (c.point_fault.ensures ∙ same);
-      id_fits = rw (← f, is) (fits);
-    }
+    let same = ap first_broken (marked.point_tested _ _ _ _ _ _ c.requires.indexed point fits.0 fits.1) in
+    record { result_value = rw (← f) (c.point_fault.ensures ∙ same); id_fits = rw (← f) fits }
 
 pub returns-in-End : goal.returns-in-End
 returns-in-End c =
     let ws = c.args.catalog.now in
     let state = c.args.state in
-    let f = c.read_frame-frame.ensures ∙ frame_within _ _ c.requires.i_in_bounds in
-    let is = c.in-End.is in
+    let f = c.in-End.ensures ∙ frame_within _ _ c.requires.i_in_bounds in
     let first = c.innermost in
     let inside = c.requires.within.passed (state.depth - 1) in
     let read = ap (λ k. not (eqb k 3)) c.word_of.ensures in
     let empty = read ∙ marked.empty_by_first ws first.result (omega (arith, inside, first.ensures, c.requires.i_in_bounds)) in
     let same = empty ∙ ap (λ j. no_point (run (frames_onward ws j))) first.ensures in
     record {
-      result_value = rw (← f, is) (c.end_fault.ensures ∙ ap (λ b. first_broken (end_tests state.depth state.has_group b)) same);
-      id_fits = rw (← f, is) (tt);
+      result_value = rw (← f) (c.end_fault.ensures ∙ ap (λ b. first_broken (end_tests state.depth state.has_group b)) same);
+      id_fits = rw (← f) tt;
     }
 
 pub returns-in-Malformed : goal.returns-in-Malformed
 returns-in-Malformed c =
-    let f = c.read_frame-frame.ensures ∙ frame_within _ _ c.requires.i_in_bounds in
-    record {
-      result_value = rw (← f, c.in-Malformed.is) (refl);
-      id_fits = rw (← f, c.in-Malformed.is) (tt);
-    }
+    let f = c.in-Malformed.ensures ∙ frame_within _ _ c.requires.i_in_bounds in
+    record { result_value = rw (← f); id_fits = rw (← f) tt }

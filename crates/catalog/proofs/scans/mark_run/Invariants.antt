@@ -6,7 +6,9 @@ use Rattle.catalog.specs.InternalMarks.{in_run}
 use Rattle.catalog.proofs.scans.mark_run.Given as goal
 
 abbrev pub invariant-loop-j : goal.invariant-loop-j
-invariant-loop-j l = (after : List ℕ) → Marks l.set after (in_run l.catalog l.j l.target) l.present → Marks l.initial.set after (in_run l.catalog l.from l.target) l.present
+invariant-loop-j l =
+    (after : List ℕ) → Marks l.set after (in_run l.catalog l.j l.target) l.present
+    → Marks l.initial.set after (in_run l.catalog l.from l.target) l.present
 
 abbrev pub decreases-loop-j : goal.decreases-loop-j
 decreases-loop-j l = l.frames - l.j

@@ -7,7 +7,10 @@ use Rattle.catalog.specs.InternalScans.{numbers_in}
 use Rattle.catalog.proofs.scans.take_numbers_out.Given as goal
 
 abbrev pub invariant-loop-j : goal.invariant-loop-j
-invariant-loop-j l = (l.first ≤ l.j) × (l.j ≤ l.end) × Marks l.initial.numbers l.numbers (λ n. among n (numbers_in l.catalog l.first (l.j - l.first))) false
+invariant-loop-j l =
+    (l.first ≤ l.j)
+    × (l.j ≤ l.end)
+    × Marks l.initial.numbers l.numbers (λ n. among n (numbers_in l.catalog l.first (l.j - l.first))) false
 
 abbrev pub decreases-loop-j : goal.decreases-loop-j
 decreases-loop-j l = l.end - l.j

@@ -11,33 +11,29 @@ pub is_same-requires : goal.is_same-requires
 is_same-requires c =
     let p = c.args.a in
     let q = c.args.b in (
-      parts_within p.type_code (to_spec_presence p.presence) p.raw (scale_factor p.scale) c.in-Of.x (sym c.in-Of.is ∙ c.accept-first.ensures),
-      parts_within q.type_code (to_spec_presence q.presence) q.raw (scale_factor q.scale) c.in-Of-second.y (sym c.in-Of-second.is ∙ c.accept-second.ensures),
+      parts_within p.type_code (to_spec_presence p.presence) p.raw (scale_factor p.scale) c.in-Of.x c.in-Of.ensures,
+      parts_within q.type_code (to_spec_presence q.presence) q.raw (scale_factor q.scale) c.in-Of-second.y c.in-Of-second.ensures,
     )
 
 pub returns-in-Refused : goal.returns-in-Refused
 unfolding equality
 returns-in-Refused c =
     let p = c.args.a in
-    rw (was_refused p.type_code (to_spec_presence p.presence) p.raw (scale_factor p.scale) c.in-Refused.number (sym c.in-Refused.is ∙ c.accept-first.ensures))
+    rw (was_refused p.type_code (to_spec_presence p.presence) p.raw (scale_factor p.scale) c.in-Refused.number c.in-Refused.ensures)
 
 pub returns-in-Refused-second : goal.returns-in-Refused-second
 unfolding equality
 returns-in-Refused-second c =
-    let p = quantity_amount c.args.a in
     let q = c.args.b in
-    let w = was_amount p c.in-Of.x (sym c.in-Of.is ∙ c.accept-first.ensures) in
-    let r =
-    was_refused q.type_code (to_spec_presence q.presence) q.raw (scale_factor q.scale) c.in-Refused-second.number (sym c.in-Refused-second.is ∙ c.accept-second.ensures) in
-    rw (w.is, r)
+    let first = was_amount (quantity_amount c.args.a) c.in-Of.x c.in-Of.ensures in
+    let refuses = c.in-Refused-second in
+    let second = was_refused q.type_code (to_spec_presence q.presence) q.raw (scale_factor q.scale) refuses.number refuses.ensures in
+    rw (first.is, second)
 
 pub returns-in-Of-second : goal.returns-in-Of-second
 returns-in-Of-second c =
     let p = quantity_amount c.args.a in
     let q = quantity_amount c.args.b in
-    c.equal_if.ensures
-    ∙ ap equal_if c.is_same.ensures
-    ∙ sym
-    (both_accepted p q c.in-Of.x c.in-Of-second.y
-    (was_amount p c.in-Of.x (sym c.in-Of.is ∙ c.accept-first.ensures))
-    (was_amount q c.in-Of-second.y (sym c.in-Of-second.is ∙ c.accept-second.ensures)))
+    let first = was_amount p c.in-Of.x c.in-Of.ensures in
+    let second = was_amount q c.in-Of-second.y c.in-Of-second.ensures in
+    c.equal_if.ensures ∙ ap equal_if c.is_same.ensures ∙ sym (both_accepted p q c.in-Of.x c.in-Of-second.y first second)

@@ -1,5 +1,4 @@
 -- `is_shifted` decides by division whether m is a multiple of a power of ten, by the laws of Multiples.
-use Prim.Native.Nat.{◌<◌}
 use native.Mathlib.Omega.{arith}
 use Rattle.display.proofs.PowersOfTen.{positive}
 use Rattle.display.proofs.Multiples.{far_shifted, no_multiple, multiple}
@@ -21,11 +20,7 @@ returns c =
     multiple a.n a.k a.m c.power_of_ten-power.result c.power_of_ten-power.ensures c.if-m-power-ne0.false
 
 pub nonzero_rem-m : goal.nonzero_rem-m
-nonzero_rem-m c =
-    let some-power : 0 < c.power_of_ten-power.result = rw c.power_of_ten-power.ensures (positive c.args.k) in
-    some-power
+nonzero_rem-m c = rw c.power_of_ten-power.ensures (positive c.args.k)
 
 pub nonzero_div-result : goal.nonzero_div-result
-nonzero_div-result c =
-    let some-power : 0 < c.power_of_ten-power.result = rw c.power_of_ten-power.ensures (positive c.args.k) in
-    some-power
+nonzero_div-result c = rw c.power_of_ten-power.ensures (positive c.args.k)

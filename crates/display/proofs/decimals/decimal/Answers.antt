@@ -7,64 +7,47 @@ use Rattle.point_types.specs.CodeTypes.{to_spec_presence}
 use Rattle.display.specs.Amounts.{amount_of}
 use Rattle.display.specs.Decimals.{Decimal, decimal_of, stored}
 use Rattle.display.specs.CodeTypes.{scale_factor, bytes, length_of}
-use Rattle.display.proofs.AmountCases.{WasAmount, was_refused, was_amount, parts_within}
+use Rattle.display.proofs.AmountCases.{was_refused, was_amount, parts_within}
 use Rattle.display.proofs.DecimalCases.{long_buffer}
 use Rattle.display.proofs.StoredTexts.{put_start}
 use Rattle.display.proofs.decimals.decimal.Goals as goal
 
 pub put_amount-requires-clause-ten_at_most : goal.put_amount-requires-clause-ten_at_most
 put_amount-requires-clause-ten_at_most c =
-    let a = c.args in parts_within a.type_code (to_spec_presence a.presence) a.raw (scale_factor a.scale) c.in-Of.amount
-    (sym c.in-Of.is ∙ c.accept-accepted.ensures)
+    let a = c.args in
+    parts_within a.type_code (to_spec_presence a.presence) a.raw (scale_factor a.scale) c.in-Of.amount c.in-Of.ensures
 
-pub returns-then-out-lt-LEAST_BUFFER-clause-result_value : goal.returns-then-out-lt-LEAST_BUFFER-clause-result_value
+pub returns-then-out-lt-LEAST_BUFFER : goal.returns-then-out-lt-LEAST_BUFFER
 unfolding decimal_of
-returns-then-out-lt-LEAST_BUFFER-clause-result_value c =
+returns-then-out-lt-LEAST_BUFFER c =
     let a = c.args in
     let amount = amount_of a.type_code (to_spec_presence a.presence) a.raw (scale_factor a.scale) in
-    let accepted : WasAmount amount c.in-Of.amount = was_amount amount c.in-Of.amount (sym c.in-Of.is ∙ c.accept-accepted.ensures) in
-    simp (decimal_of, accepted.is, lt-ltb (length a.out.now) 32 (omega arith))
+    let accepted = was_amount amount c.in-Of.amount c.in-Of.ensures in
+    let short = lt-ltb (length a.out.now) 32 (omega arith) in
+    record {
+      result_value = simp (decimal_of, accepted.is, short);
+      out_after = simp (decimal_of, accepted.is, short);
+      length_fits = tt;
+    }
 
-pub returns-then-out-lt-LEAST_BUFFER-clause-out_after : goal.returns-then-out-lt-LEAST_BUFFER-clause-out_after
+pub returns-in-Refused : goal.returns-in-Refused
 unfolding decimal_of
-returns-then-out-lt-LEAST_BUFFER-clause-out_after c =
-    let a = c.args in
-    let amount = amount_of a.type_code (to_spec_presence a.presence) a.raw (scale_factor a.scale) in
-    let accepted : WasAmount amount c.in-Of.amount = was_amount amount c.in-Of.amount (sym c.in-Of.is ∙ c.accept-accepted.ensures) in
-    simp (decimal_of, accepted.is, lt-ltb (length a.out.now) 32 (omega arith))
-
-pub returns-in-Refused-clause-result_value : goal.returns-in-Refused-clause-result_value
-unfolding decimal_of
-returns-in-Refused-clause-result_value c =
-    let a = c.args in
-    let r =
-    was_refused a.type_code (to_spec_presence a.presence) a.raw (scale_factor a.scale) c.in-Refused.number
-    (sym c.in-Refused.is ∙ c.accept-accepted.ensures) in
-    simp (decimal_of, r)
-
-pub returns-in-Refused-clause-out_after : goal.returns-in-Refused-clause-out_after
-unfolding decimal_of
-returns-in-Refused-clause-out_after c =
-    let a = c.args in
-    let r =
-    was_refused a.type_code (to_spec_presence a.presence) a.raw (scale_factor a.scale) c.in-Refused.number
-    (sym c.in-Refused.is ∙ c.accept-accepted.ensures) in
-    simp (decimal_of, r)
-
-pub returns-else-out-lt-LEAST_BUFFER-clause-result_value : goal.returns-else-out-lt-LEAST_BUFFER-clause-result_value
-returns-else-out-lt-LEAST_BUFFER-clause-result_value c =
+returns-in-Refused c =
     let a = c.args in
     let s = scale_factor a.scale in
-    let amount = amount_of a.type_code (to_spec_presence a.presence) a.raw s in
-    let accepted : WasAmount amount c.in-Of.amount = was_amount amount c.in-Of.amount (sym c.in-Of.is ∙ c.accept-accepted.ensures) in
-    let e = long_buffer a.type_code (to_spec_presence a.presence) a.raw s (length a.out.now) c.in-Of.amount accepted (omega arith) in
-    ap bytes (c.put_amount.ensures.put.ends ∙ omega arith) ∙ ap length_of (sym e)
+    let refused = was_refused a.type_code (to_spec_presence a.presence) a.raw s c.in-Refused.number c.in-Refused.ensures in
+    record { result_value = simp (decimal_of, refused); out_after = simp (decimal_of, refused); length_fits = tt }
 
-pub returns-else-out-lt-LEAST_BUFFER-clause-out_after : goal.returns-else-out-lt-LEAST_BUFFER-clause-out_after
-returns-else-out-lt-LEAST_BUFFER-clause-out_after c =
+pub returns-else-out-lt-LEAST_BUFFER : goal.returns-else-out-lt-LEAST_BUFFER
+returns-else-out-lt-LEAST_BUFFER c =
     let a = c.args in
+    let p = to_spec_presence a.presence in
     let s = scale_factor a.scale in
-    let amount = amount_of a.type_code (to_spec_presence a.presence) a.raw s in
-    let accepted : WasAmount amount c.in-Of.amount = was_amount amount c.in-Of.amount (sym c.in-Of.is ∙ c.accept-accepted.ensures) in
-    let e = long_buffer a.type_code (to_spec_presence a.presence) a.raw s (length a.out.now) c.in-Of.amount accepted (omega arith) in
-    put_start c.put_amount.ensures.put (omega arith) ∙ ap (λ (d : Decimal). stored d a.out.now) (sym e)
+    let accepted = was_amount (amount_of a.type_code p a.raw s) c.in-Of.amount c.in-Of.ensures in
+    let e = sym (long_buffer a.type_code p a.raw s (length a.out.now) c.in-Of.amount accepted (omega arith)) in
+    let put = c.put_amount.ensures.put in
+    record {
+      result_value = ap bytes (put.ends ∙ omega arith) ∙ ap length_of e;
+      out_after = put_start put (omega arith) ∙ ap (λ (d : Decimal). stored d a.out.now) e;
+      length_fits = omega arith;
+    }

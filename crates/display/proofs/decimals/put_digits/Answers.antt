@@ -10,19 +10,19 @@ use Rattle.display.proofs.decimals.put_digits.Goals as goal
 
 pub loop-left-preserved : goal.loop-left-preserved
 loop-left-preserved c =
-    let n = c.args.n in (
-      store_digit c.loop-left.out c.loop-left.i c.loop-left.left n c.digit.result c.loop-left-test.true c.digit.ensures ∙ c.loop-left.invariant.0,
+    let l = c.loop-left in (
+      store_digit l.out l.i l.left c.args.n c.digit.result c.loop-left-test.true c.digit.ensures ∙ l.invariant.0,
       omega arith,
       omega arith,
-      length-set c.loop-left.out c.loop-left.i c.digit.result ∙ c.loop-left.invariant.3,
+      length-set l.out l.i c.digit.result ∙ l.invariant.3,
     )
 
 pub returns-clause-put : goal.returns-clause-put
 unfolding last_digits
 returns-clause-put c =
+    let l = c.loop-left in
     let n = c.args.n in
-    let e : c.loop-left.left ≡ 0 = omega arith in
-    let count = c.args.count in record {
-      stored = sym (ap (λ (k : ℕ). sets c.loop-left.out c.loop-left.i (last_digits k n)) e) ∙ c.loop-left.invariant.0;
-      ends = omega (arith, digits_length count n);
+    let none : l.left ≡ 0 = omega arith in record {
+      stored = sym (ap (λ (k : ℕ). sets l.out l.i (last_digits k n)) none) ∙ l.invariant.0;
+      ends = omega (arith, digits_length c.args.count n);
     }

@@ -10,7 +10,8 @@ pub loop-k-smaller : goal.loop-k-smaller
 loop-k-smaller c = omega (arith, four_fit c.loop-k.invariant c.loop-k-test.true)
 
 pub loop-k-preserved : goal.loop-k-preserved
-loop-k-preserved c = word_stored c.loop-k.invariant c.loop-k-test.true c.word_at.result c.if-text-at-eq-LINE_FEED.false c.word_at.ensures
+loop-k-preserved c =
+    word_stored c.loop-k.invariant c.loop-k-test.true c.word_at.result c.if-text-at-eq-LINE_FEED.false c.word_at.ensures
 
 pub bounds-text-at : goal.bounds-text-at
 bounds-text-at c = omega (arith, four_fit c.loop-k.invariant c.loop-k-test.true)

@@ -6,21 +6,21 @@ use Rattle.input.proofs.lines.survey_catalog.Goals as goal
 
 pub returns-then-end-at : goal.returns-then-end-at
 returns-then-end-at c =
-    (at_empty c.args.text.now c.loop-at.at c.line_end-end.result c.loop-at-test.true c.line_end-end.ensures.value c.loop-at.invariant.0 c.if-end-at.true, omega arith)
+    (at_empty _ _ _ c.loop-at-test.true c.line_end-end.ensures.value c.loop-at.invariant.0 c.if-end-at.true, omega arith)
 
 pub returns-then-not-is_catalog_line : goal.returns-then-not-is_catalog_line
 returns-then-not-is_catalog_line c =
-    at_bad c.args.text.now c.loop-at.at c.line_end-end.result c.loop-at-test.true c.line_end-end.ensures.value c.loop-at.invariant.0 c.if-end-at.false
+    at_bad _ _ _ c.loop-at-test.true c.line_end-end.ensures.value c.loop-at.invariant.0 c.if-end-at.false
     (sym c.is_catalog_line.ensures ∙ c.if-not-is_catalog_line.true)
 
 pub returns-then-count-capacity : goal.returns-then-count-capacity
 returns-then-count-capacity c =
-    at_full c.args.text.now c.loop-at.at c.line_end-end.result c.loop-at-test.true c.line_end-end.ensures.value c.loop-at.invariant.0 c.if-end-at.false
+    at_full _ _ _ c.loop-at-test.true c.line_end-end.ensures.value c.loop-at.invariant.0 c.if-end-at.false
     (sym c.is_catalog_line.ensures ∙ c.if-not-is_catalog_line.false) c.if-count-capacity.true
 
 pub loop-at-preserved : goal.loop-at-preserved
 loop-at-preserved c = (
-  at_frame c.args.text.now c.loop-at.at c.line_end-end.result c.loop-at-test.true c.line_end-end.ensures.value c.loop-at.invariant.0 c.if-end-at.false
+  at_frame _ _ _ c.loop-at-test.true c.line_end-end.ensures.value c.loop-at.invariant.0 c.if-end-at.false
       (sym c.is_catalog_line.ensures ∙ c.if-not-is_catalog_line.false) c.if-count-capacity.false,
   omega arith,
   omega arith,

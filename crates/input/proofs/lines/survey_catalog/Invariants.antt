@@ -8,7 +8,8 @@ use Rattle.input.proofs.lines.survey_catalog.Given as goal
 
 abbrev pub invariant-loop-at : goal.invariant-loop-at
 invariant-loop-at l =
-    FramesFound l.text l.capacity l.count (λ registers. catalog_from (l.count + 1) (l.capacity - l.count) registers (lines (drop l.at l.text)))
+    FramesFound l.text l.capacity l.count
+    (λ registers. catalog_from (l.count + 1) (l.capacity - l.count) registers (lines (drop l.at l.text)))
     × (l.count * 2 ≤ l.at)
     × (l.at ≤ length l.text + 1)
 

@@ -6,17 +6,17 @@ use Rattle.input.proofs.lines.survey_map.Goals as goal
 
 pub returns-then-not-is_map_line : goal.returns-then-not-is_map_line
 returns-then-not-is_map_line c =
-    at_bad c.args.text.now c.loop-at.at c.line_end-end.result c.loop-at.line c.loop-at-test.true c.line_end-end.ensures.value c.loop-at.invariant.0
+    at_bad _ _ _ _ c.loop-at-test.true c.line_end-end.ensures.value c.loop-at.invariant.0
     (sym c.is_map_line.ensures ∙ c.if-not-is_map_line.true)
 
 pub returns-then-capacity-count : goal.returns-then-capacity-count
 returns-then-capacity-count c =
-    at_full c.args.text.now c.loop-at.at c.line_end-end.result c.loop-at.line c.loop-at-test.true c.line_end-end.ensures.value c.loop-at.invariant.0
+    at_full _ _ _ _ c.loop-at-test.true c.line_end-end.ensures.value c.loop-at.invariant.0
     (sym c.is_map_line.ensures ∙ c.if-not-is_map_line.false) c.if-capacity-count.true
 
 pub loop-at-preserved : goal.loop-at-preserved
 loop-at-preserved c = (
-  at_line c.args.text.now c.loop-at.at c.line_end-end.result c.loop-at.line c.loop-at-test.true c.line_end-end.ensures.value c.loop-at.invariant.0
+  at_line _ _ _ _ c.loop-at-test.true c.line_end-end.ensures.value c.loop-at.invariant.0
       (sym c.is_map_line.ensures ∙ c.if-not-is_map_line.false) c.if-capacity-count.false,
   omega arith,
 )

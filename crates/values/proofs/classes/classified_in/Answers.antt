@@ -7,15 +7,12 @@ use Rattle.values.proofs.classes.classified_in.Goals as goal
 
 pub class_in-requires : goal.class_in-requires
 unfolding too_wide
-class_in-requires c =
-    record { listed = c.requires; fits = leb-false _ _ (sym c.too_wide.ensures ∙ c.if-too_wide.false) }
+class_in-requires c = record { listed = c.requires; fits = leb-false _ _ (sym c.too_wide.ensures ∙ c.if-too_wide.false) }
 
 pub returns : goal.returns
 unfolding classified
 returns c =
-    let i = c in
-    ap of_class c.class_in.ensures
-    ∙ simp (classified, i.requires, sym i.too_wide.ensures ∙ i.if-too_wide.false)
+    ap of_class c.class_in.ensures ∙ simp (classified, c.requires, sym c.too_wide.ensures ∙ c.if-too_wide.false)
 
 pub returns-then-too_wide : goal.returns-then-too_wide
 unfolding classified

@@ -8,8 +8,7 @@ use Rattle.values.proofs.unscaled.integer_by_sign.Goals as goal
 
 pub twos_complement_by_sign-requires-clause-le_count : goal.twos_complement_by_sign-requires-clause-le_count
 twos_complement_by_sign-requires-clause-le_count c =
-    let s = c in
-    signed_width (to_spec_row s.args.row) s.requires.listed (ap to_spec_kind c.in-Signed.is)
+    signed_width (to_spec_row c.args.row) c.requires.listed (ap to_spec_kind c.in-Signed.is)
 
 pub returns-in-Signed : goal.returns-in-Signed
 returns-in-Signed c =
