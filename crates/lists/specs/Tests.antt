@@ -1,5 +1,6 @@
 -- Tests of the elements of a list.
-use Rattle.std.specs.Prelude.{Bool, true, false, ◌&&◌, ◌||◌, List, [], ◌∷◌, ℕ}
+use Rattle.std.specs.Prelude.{Bool, true, false, ◌||◌, List, [], ◌∷◌, ℕ}
+use Rattle.std.specs.List.{list_all}
 use Rattle.std.proofs.Math.Option.{Option, none, some}
 
 -- Does one of these tests hold?
@@ -12,10 +13,9 @@ abbrev pub first_broken : List (Bool × ℕ) → Option ℕ
 first_broken [] = none
 first_broken (r ∷ rs) = elim r.0 [ true ↦ some r.1 | false ↦ first_broken rs ]
 
--- Does the test hold of every element? (mathlib's `all` does not compute here.)
+-- Does the test hold of every element?
 abbrev pub every : {A : Type 0} → (A → Bool) → List A → Bool
-every test [] = true
-every test (x ∷ xs) = test x && every test xs
+every test xs = list_all test xs
 
 -- The first element for which the test holds.
 unfoldable pub first_with : {A : Type 0} → (A → Bool) → List A → Option A

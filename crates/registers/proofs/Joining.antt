@@ -2,7 +2,7 @@
 use mathlib.Core.Path.{◌≡◌, refl, sym, ap, ◌∙◌}
 use mathlib.Core.List.{List, ◌∷◌}
 use Prim.Native.Nat.{ℕ, zero, suc, ◌+◌, ◌-◌, ◌*◌, ◌^◌, ◌≤◌, ◌<◌, min}
-use native.Mathlib.Nat.{zero-mul, zero-add, pow-suc, mul_assoc, mul_comm, add-mul, add_assoc, mul-le-mul_right, pow-le-pow_right}
+use native.Mathlib.Nat.{pow-suc, mul_assoc, mul_comm, add-mul, add_assoc, mul-le-mul_right, pow-le-pow_right}
 use native.Mathlib.Omega.{arith}
 use native.Mathlib.Decide.{dec_le}
 use borrow.Author.Tests.{le-leb, lt-leb, lt-ltb, le-ltb}
@@ -23,36 +23,33 @@ unfolding join
 join_cons r rs = refl
 
 -- A step of the loop: it joins the highest of the registers left.
-pub join_step : (rs : List ℕ) (left raw : ℕ) → 0 < left → left ≤ length rs
-    → raw * 65536 ^ left + join (drop (length rs - left) rs)
-    ≡ (raw * 65536 + get_or rs (length rs - left) 0) * 65536 ^ (left - 1) + join (drop (length rs - (left - 1)) rs)
-join_step rs left raw h l =
-    let i = length rs - left in
-    let k = left - 1 in
-    let n : left ≡ suc k = omega arith in
-    let next : length rs - k ≡ suc i = omega arith in
+pub join_step : (rs : List ℕ) (i raw : ℕ) → i < length rs
+    → raw * 65536 ^ (length rs - i) + join (drop i rs)
+    ≡ (raw * 65536 + get_or rs i 0) * 65536 ^ (length rs - (i + 1)) + join (drop (i + 1) rs)
+join_step rs i raw h =
+    let k = length rs - suc i in
+    let n : length rs - i ≡ suc k = omega (arith, h) in
     let m : length (drop (suc i) rs) ≡ k = length-drop (suc i) rs ∙ omega arith in
     let r = get_or rs i 0 in
     let rest = drop (suc i) rs in
-    let e : raw * 65536 ^ left + join (drop i rs) ≡ raw * (65536 ^ k * 65536) + (r * 65536 ^ k + join rest) =
-    rw (drop-cons rs i 0 (omega arith), join_cons r rest, m, ← pow-suc 65536 k)
+    let e : raw * 65536 ^ (length rs - i) + join (drop i rs) ≡ raw * (65536 ^ k * 65536) + (r * 65536 ^ k + join rest) =
+    rw (drop-cons rs i 0 h, join_cons r rest, m, ← pow-suc 65536 k)
     (ap (λ (p : ℕ). raw * 65536 ^ p + (r * 65536 ^ k + join rest)) n) in
+    let next : i + 1 ≡ suc i = omega arith in
     e ∙ rw next (lower_register raw (65536 ^ k) r (join rest))
 
--- At the start of the loop all registers are left.
-pub join_start : (rs : List ℕ) → 0 * 65536 ^ length rs + join (drop (length rs - length rs) rs) ≡ join rs
-join_start rs =
-    let e : length rs - length rs ≡ 0 = omega arith in
-    rw (e, zero-mul (65536 ^ length rs), zero-add (join rs))
-
 -- At the end of the loop none is left.
-pub join_end : (rs : List ℕ) (raw : ℕ) → raw * 65536 ^ 0 + join (drop (length rs - 0) rs) ≡ raw
+pub join_end : (rs : List ℕ) (i raw : ℕ) → length rs ≤ i → raw * 65536 ^ (length rs - i) + join (drop i rs) ≡ raw
 unfolding join
-join_end rs raw = rw (drop_of_length-le rs {i = length rs - 0} (omega arith)) (omega arith)
+join_end rs i raw h =
+    let e : length rs - i ≡ 0 = omega (arith, h) in
+    rw (drop_of_length-le rs {i = i} h, e) (omega arith)
 
 -- The raw value of k registers is below 65536 ^ k, and so it is with one more register.
-pub one_more : (k raw r : ℕ) → raw < 65536 ^ k → r < 65536 → raw * 65536 + r < 65536 ^ suc k
-one_more k raw r h l = rw (pow-suc 65536 k) (omega (arith, mul-le-mul_right 65536 h))
+pub one_more : (k raw r : ℕ) → raw < 65536 ^ k → r < 65536 → raw * 65536 + r < 65536 ^ (k + 1)
+one_more k raw r h l =
+    let e : k + 1 ≡ suc k = omega arith in
+    rw (e, pow-suc 65536 k) (omega (arith, mul-le-mul_right 65536 h))
 
 -- After up to three registers, a fourth still fits 64 bits.
 pub fits_one_more : (k raw : ℕ) → k < 4 → raw < 65536 ^ k → raw < 281474976710656

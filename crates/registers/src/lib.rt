@@ -13,34 +13,18 @@ pub fn raw_value(registers: &[u16]) -> u64
     if 4 < registers.len() {
         return 0;
     }
-    let mut raw: u64 = 0;
-    let mut left = registers.len();
-    while 0 < left {
-        raw = raw * 65536 + wide(registers[registers.len() - left]);
-        left -= 1;
+    let mut raw = 0;
+    for register in registers {
+        raw = raw * 65536 + u64::from(*register);
     }
     raw
-}
-
-// A register as a 64-bit number. It is a function so that its contract gives the bound that the sum needs.
-fn wide(register: u16) -> u64
-    ensures { (result ≡ register) × (result < 65536) }
-{
-    register as u64
 }
 
 // Are all registers 0?
 pub fn all_zero(registers: &[u16]) -> bool
     ensures { result ≡ all_zero registers.now }
 {
-    let mut i = 0;
-    while i < registers.len() {
-        if registers[i] != 0 {
-            return false;
-        }
-        i += 1;
-    }
-    true
+    registers.iter().all(|register| *register == 0)
 }
 
 // The `count` registers from `start` on, or fewer if the list ends before. The code compares `count` with the
