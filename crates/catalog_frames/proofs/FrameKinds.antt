@@ -6,11 +6,8 @@ use Prim.Native.Nat.{ℕ, ◌-◌}
 use borrow.Author.Tests.{eqb-true, eqb-false, not-true, not-false}
 use lib.Dec.{eqb}
 use Rattle.lists.proofs.TestOutcomes.{by_test, clash}
-use Rattle.catalog_frames.specs.Frames.{Frame, model_frame, group_frame, point_frame, end_frame, malformed, word, frame_of, frame_at}
-use Rattle.catalog_frames.specs.CodeTypes.{to_spec_head, to_spec_point}
-use Rattle.catalog_frames.specs.InternalWords.{zero_words, named_words, head_words, point_words, IsHead, IsPoint}
-use Rattle.catalog_frames.specs.declared.Head.{Head}
-use Rattle.catalog_frames.specs.declared.Point.{Point}
+use Rattle.catalog_frames.specs.Frames.{Head, Point, Frame, model_frame, group_frame, point_frame, end_frame, malformed, word, frame_of, frame_at}
+use Rattle.catalog_frames.specs.InternalWords.{zero_words, named_words, head_words, point_words}
 
 -- `f` if `b` is true (the words that the kind does not name are 0), else malformed.
 abbrev pub formed : Bool → Frame → Frame
@@ -61,12 +58,11 @@ module _ (ws : List ℕ) (i k : ℕ) (kind : k ≡ word ws i 0) where
           let z = rw (named, h) at (sym q ∙ not-false all_zero_lem t) in
           ap model_frame e ∙ sym (is_formed (zero_words ws i 2 6) (model_frame (word ws i 1)) (rw (← kind, h)) z)
 
-      pub group_here : k ≡ 2 → (r : Head) → IsHead r (head_words ws i) → group_frame (to_spec_head r) ≡ frame_at ws i
+      pub group_here : k ≡ 2 → (g : Head) → g ≡ head_words ws i → group_frame g ≡ frame_at ws i
       unfolding frame_of zero_words
-      group_here h r e =
+      group_here h g e =
           let z = rw (named, h) at (sym q ∙ not-false all_zero_lem t) in
-          let same : to_spec_head r ≡ head_words ws i = rw (e.number, e.group_type, e.count_kind, e.count) in
-          ap group_frame same ∙ sym (is_formed (zero_words ws i 5 3) (group_frame (head_words ws i)) (rw (← kind, h)) z)
+          ap group_frame e ∙ sym (is_formed (zero_words ws i 5 3) (group_frame (head_words ws i)) (rw (← kind, h)) z)
 
       pub end_here : k ≡ 4 → end_frame ≡ frame_at ws i
       unfolding frame_of zero_words
@@ -74,8 +70,5 @@ module _ (ws : List ℕ) (i k : ℕ) (kind : k ≡ word ws i 0) where
           let z = rw (named, h) at (sym q ∙ not-false all_zero_lem t) in
           sym (is_formed (zero_words ws i 1 7) end_frame (rw (← kind, h)) z)
 
-  pub point_here : k ≡ 3 → (r : Point) → IsPoint r (point_words ws i) → point_frame (to_spec_point r) ≡ frame_at ws i
-  point_here h r e =
-      let same : to_spec_point r ≡ point_words ws i =
-      rw (e.number, e.type_code, e.size, e.scale_kind, e.scale, e.mandatory, e.access) in
-      ap point_frame same ∙ sym (kind_3 h)
+  pub point_here : k ≡ 3 → (p : Point) → p ≡ point_words ws i → point_frame p ≡ frame_at ws i
+  point_here h p e = ap point_frame e ∙ sym (kind_3 h)

@@ -1,24 +1,21 @@
--- `zero_words` step by step: no word left, a word that is not 0, a word that is 0.
-use mathlib.Core.Path.{◌≡◌}
-use mathlib.Core.Bool.{true, false}
+-- The words of a frame from word k on are all 0 if that part of the catalog is.
+use mathlib.Core.Path.{◌≡◌, refl, ap}
+use mathlib.Core.Bool.{◌&&◌}
 use mathlib.Core.List.{List}
-use Prim.Native.Nat.{ℕ, ◌+◌, ◌≤◌}
-use native.Mathlib.Numerals.{add-one}
+use Prim.Native.Nat.{ℕ, zero, suc, ◌+◌, ◌*◌, ◌≤◌}
 use native.Mathlib.Omega.{arith}
-use borrow.Author.Tests.{eq-eqb, ne_eqb}
+use lib.Dec.{eqb}
+use lib.ListN.{length, take, drop}
+use lib.Seq.{drop-cons}
+use Rattle.registers.specs.Registers.{all_zero}
 use Rattle.catalog_frames.specs.Frames.{word}
 use Rattle.catalog_frames.specs.InternalWords.{zero_words}
 
-module _ (ws : List ℕ) (i k n : ℕ) where
-  pub zero_none : n ≤ 0 → zero_words ws i k n ≡ true
-  unfolding zero_words
-  zero_none h = let e : n ≡ 0 = omega arith in rw e
-
-  module _ (m : ℕ) (e : n ≡ m + 1) (w : ℕ) (q : w ≡ word ws i k) where
-    pub zero_stops : (w ≡ 0 → ⊥) → zero_words ws i k n ≡ false
-    unfolding zero_words
-    zero_stops h = rw (e, add-one m, zero_words, ← q, ne_eqb w 0 h)
-
-    pub zero_continues : w ≡ 0 → zero_words ws i (k + 1) m ≡ zero_words ws i k n
-    unfolding zero_words
-    zero_continues h = rw (e, add-one m, zero_words, ← q, eq-eqb w 0 h, add-one k)
+pub zero_part : (ws : List ℕ) (i k n : ℕ) → 8 * i + k + n ≤ length ws
+    → all_zero (take n (drop (8 * i + k) ws)) ≡ zero_words ws i k n
+unfolding zero_words
+zero_part ws i k zero h = refl
+zero_part ws i k (suc n) h =
+    let next : 8 * i + suc k ≡ suc (8 * i + k) = omega arith in
+    let rest = rw next at (zero_part ws i (suc k) n (omega arith)) in
+    rw (drop-cons ws (8 * i + k) 0 (omega arith)) (ap (λ b. eqb (word ws i k) 0 && b) rest)

@@ -1,8 +1,6 @@
 -- Internal: what the private functions read of a frame, word by word; no public contract cites this file.
-use Rattle.std.specs.Prelude.{◌≡◌, Bool, true, false, ◌&&◌, List, ℕ, zero, suc, eqb}
+use Rattle.std.specs.Prelude.{Bool, true, false, ◌&&◌, List, ℕ, zero, suc, eqb}
 use Rattle.catalog_frames.specs.Frames.{Point, Head, word}
-use Rattle.catalog_frames.specs.declared.Point as CodePoint
-use Rattle.catalog_frames.specs.declared.Head as CodeHead
 
 -- Are the n words of frame i from word k on all 0?
 unfoldable pub zero_words : List ℕ → ℕ → ℕ → ℕ → Bool
@@ -34,20 +32,3 @@ point_words ws j =
       mandatory = word ws j 6;
       access = word ws j 7;
     }
-
--- The code's point `r` has the words of `p`.
-pub record IsPoint (r : CodePoint.Point) (p : Point) : Type 0 where
-  pub number : r.number ≡ p.number
-  pub type_code : r.type_code ≡ p.type_code
-  pub size : r.size ≡ p.size
-  pub scale_kind : r.scale_kind ≡ p.scale_kind
-  pub scale : r.scale ≡ p.scale
-  pub mandatory : r.mandatory ≡ p.mandatory
-  pub access : r.access ≡ p.access
-
--- The code's head `r` has the words of `h`.
-pub record IsHead (r : CodeHead.Head) (h : Head) : Type 0 where
-  pub number : r.number ≡ h.number
-  pub group_type : r.group_type ≡ h.group_type
-  pub count_kind : r.count_kind ≡ h.count_kind
-  pub count : r.count ≡ h.count

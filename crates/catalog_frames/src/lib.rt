@@ -3,8 +3,10 @@
 
 ghost use Rattle.std.specs.Prelude.{◌≡◌, ◌/◌, ◌-◌, ◌<◌, ◌≤◌, length};
 ghost use Rattle.catalog_frames.specs.Frames.{word, frame_at, frame_in};
-ghost use Rattle.catalog_frames.specs.CodeTypes.{to_spec_frame};
-ghost use Rattle.catalog_frames.specs.InternalWords.{head_words, named_words, point_words, zero_words, IsHead, IsPoint};
+ghost use Rattle.catalog_frames.specs.CodeTypes.{to_spec_frame, to_spec_head, to_spec_point};
+ghost use Rattle.catalog_frames.specs.InternalWords.{head_words, named_words, point_words, zero_words};
+
+use registers::all_zero;
 
 // The number of words in a frame.
 pub const FRAME_WORDS: usize = 8;
@@ -42,7 +44,7 @@ pub const SUNSSF: u16 = 8;
 pub const READ_ONLY: u16 = 0;
 
 // The named words of a point frame. `scale` is the fixed scale factor or the number of the point that gives it.
-#[derive(Clone, Copy)]
+#[derive(Clone, Copy, Debug, PartialEq, Eq)]
 pub struct Point {
     pub number: u16,
     pub type_code: u16,
@@ -54,7 +56,7 @@ pub struct Point {
 }
 
 // The named words of a group frame. `count` is the constant count or the number of the point that gives it.
-#[derive(Clone, Copy)]
+#[derive(Clone, Copy, Debug, PartialEq, Eq)]
 pub struct Head {
     pub number: u16,
     pub group_type: u16,
@@ -62,14 +64,13 @@ pub struct Head {
     pub count: u16,
 }
 
-// A frame by its kind. It is malformed if its kind is not 1 to 4, or a word that its kind does not name is not 0.
-#[derive(Clone, Copy)]
+// A frame by its kind.
+#[derive(Clone, Copy, Debug, PartialEq, Eq)]
 pub enum Frame {
     Model(u16),
     Group(Head),
     Point(Point),
     End,
-    Malformed,
 }
 
 // Word k of frame i.
@@ -80,21 +81,21 @@ fn word_of(catalog: &[u16], i: usize, k: usize) -> u16
     catalog[FRAME_WORDS * i + k]
 }
 
-// Frame i.
-fn frame_at(catalog: &[u16], i: usize) -> Frame
+// Frame i, or `None` if it is malformed: its kind is not 1 to 4, or a word that its kind does not name is not 0.
+fn frame_at(catalog: &[u16], i: usize) -> Option<Frame>
     requires { i < length catalog.now / 8 }
     ensures { to_spec_frame result ≡ frame_at catalog.now i }
 {
     let kind = word_of(catalog, i, 0);
     if !zero_from(catalog, i, named_words(kind)) {
-        return Frame::Malformed;
+        return None;
     }
     match kind {
-        MODEL => Frame::Model(word_of(catalog, i, 1)),
-        GROUP => Frame::Group(head_at(catalog, i)),
-        POINT => Frame::Point(point_at(catalog, i)),
-        END => Frame::End,
-        _ => Frame::Malformed,
+        MODEL => Some(Frame::Model(word_of(catalog, i, 1))),
+        GROUP => Some(Frame::Group(head_at(catalog, i))),
+        POINT => Some(Frame::Point(point_at(catalog, i))),
+        END => Some(Frame::End),
+        _ => None,
     }
 }
 
@@ -111,20 +112,21 @@ fn named_words(kind: u16) -> usize
     }
 }
 
-// Frame i, or `Malformed` if the catalog has no whole frame i.
-pub fn read_frame(catalog: &[u16], i: usize) -> Frame
+// Frame i, or `None` if it is malformed or the catalog has no whole frame i.
+pub fn read_frame(catalog: &[u16], i: usize) -> Option<Frame>
     ensures { to_spec_frame result ≡ frame_in catalog.now i }
 {
-    if catalog.len() / FRAME_WORDS <= i {
-        return Frame::Malformed;
+    if i < catalog.len() / FRAME_WORDS {
+        frame_at(catalog, i)
+    } else {
+        None
     }
-    frame_at(catalog, i)
 }
 
 // The words of a group frame.
 fn head_at(catalog: &[u16], i: usize) -> Head
     requires { i < length catalog.now / 8 }
-    ensures { IsHead result (head_words catalog.now i) }
+    ensures { to_spec_head result ≡ head_words catalog.now i }
 {
     Head {
         number: word_of(catalog, i, 1),
@@ -137,7 +139,7 @@ fn head_at(catalog: &[u16], i: usize) -> Head
 // The words of a point frame.
 fn point_at(catalog: &[u16], i: usize) -> Point
     requires { i < length catalog.now / 8 }
-    ensures { IsPoint result (point_words catalog.now i) }
+    ensures { to_spec_point result ≡ point_words catalog.now i }
 {
     Point {
         number: word_of(catalog, i, 1),
@@ -155,12 +157,6 @@ fn zero_from(catalog: &[u16], i: usize, from: usize) -> bool
     requires { (i < length catalog.now / 8) × (from ≤ 8) }
     ensures { result ≡ zero_words catalog.now i from (8 - from) }
 {
-    let mut k = from;
-    while k < FRAME_WORDS {
-        if word_of(catalog, i, k) != 0 {
-            return false;
-        }
-        k += 1;
-    }
-    true
+    let start = FRAME_WORDS * i;
+    all_zero(&catalog[start + from..start + FRAME_WORDS])
 }
