@@ -11,35 +11,34 @@ ghost use Rattle.std.specs.Float.Ieee.{top, nan_bits, of_bits};
 ghost use Rattle.point_types.specs.CodeTypes.{to_spec_presence, to_spec_format, to_spec_row};
 ghost use Rattle.values.specs.Classes.{PatternOf, twos_complement, in_range};
 ghost use Rattle.values.specs.Decoding.{float, number_of, value_of, decoded};
-ghost use Rattle.values.specs.CodeTypes.{to_spec_value};
+ghost use Rattle.values.specs.CodeTypes.{to_spec_value, to_spec_decoded};
 
 use classes::class_in;
 pub use classes::{classify, is_value, is_value_in, scale_factor_in_range};
 pub use point_types::Presence;
-use point_types::{Format, Found, Kind, TypeRow, row_of};
+use point_types::{Format, Kind, TypeRow, row_of};
+use refusals::Refusal;
 use registers::{all_ones, raw_value};
 pub use unscaled::unscaled_value;
 
 // A pattern of a type is a value, marks the point as unimplemented, or is out of the type's range.
-#[derive(Clone, Copy)]
+#[derive(Clone, Copy, Debug, PartialEq, Eq)]
 pub enum Class {
     Value,
     Unimplemented,
     OutOfRange,
 }
 
-// The result of `classify`: the class of a raw value, or why it has none. A string's width is that of the
-// longest string: for a point of another size, call `too_wide` as well.
-#[derive(Clone, Copy)]
-pub enum Classified {
-    Of(Class),
+// Why `classify` gives a raw value no class. A string's width is that of the longest string: for a point of
+// another size, call `too_wide` as well.
+#[derive(Clone, Copy, Debug, PartialEq, Eq)]
+pub enum Unclassified {
     TooWide,
     UnknownType,
 }
 
-// The result of `decode`: a number, or why there is none. NotDecodable is refusal 40 at place 0: the code is
-// not 1–18, 21 or 22. (string and ipv6addr are types, but may take more than four registers.)
-#[derive(Clone, Copy)]
+// What the registers of a decodable type hold: a number, an integer or a float of 32 or 64 bits, or none.
+#[derive(Clone, Copy, Debug, PartialEq)]
 pub enum Value {
     Signed(i64),
     Unsigned(u64),
@@ -47,43 +46,36 @@ pub enum Value {
     Double(f64),
     Unimplemented,
     OutOfRange,
-    NotDecodable,
 }
 
-// The integer that a scale factor multiplies, by its sign and magnitude; negative is below 0. Or why there
-// is none: the raw value is no value of its type, or the type may carry no scale factor.
-#[derive(Clone, Copy)]
-pub enum UnscaledValue {
-    Of { negative: bool, magnitude: u64 },
-    NoValue,
-    NotScalable,
+// The integer that a scale factor multiplies, by its sign and magnitude; negative is below 0.
+#[derive(Clone, Copy, Debug, PartialEq, Eq)]
+pub struct Integer {
+    pub negative: bool,
+    pub magnitude: u64,
 }
 
-// The value in the first registers, for a point of this presence; the type decides how many are read.
-pub fn decode(type_code: u16, presence: Presence, registers: [u16; 4]) -> Value
-    ensures { to_spec_value result ≡ decoded type_code (to_spec_presence presence) registers }
+// The value in the first registers, for a point of this presence; the type decides how many are read. Refused unless the
+// code is 1–18, 21 or 22. (string and ipv6addr are types, but may take more than four registers.)
+#[tactic(auto, using(crate::proofs::ClassCases::too_long, crate::proofs::ClassCases::no_row_lem, crate::proofs::FoundRow::result_of))]
+pub fn decode(type_code: u16, presence: Presence, registers: [u16; 4]) -> Result<Value, Refusal>
+    ensures { to_spec_decoded result ≡ decoded type_code (to_spec_presence presence) registers }
 {
-    let found = row_of(type_code);
-    match found {
-        Found::Row(row) => {
-            if 4 < row.most {
-                return Value::NotDecodable;
-            }
-            let count = row.most as usize;
-            let raw = raw_value(&registers[..count]);
-            value_of(row, presence, raw)
-        }
-        Found::Nothing => Value::NotDecodable,
+    let row = row_of(type_code).ok_or(Refusal::NotDecodable)?;
+    if 4 < row.most {
+        return Err(Refusal::NotDecodable);
     }
+    let raw = raw_value(&registers[..usize::from(row.most)]);
+    Ok(value_of(row, presence, raw))
 }
 
 // The result for a pattern of the row's type.
+#[tactic(auto, using(crate::proofs::ThreeClasses::value_in_range), unfolding(crate::specs::Decoding::value_of))]
 fn value_of(row: TypeRow, presence: Presence, raw: u64) -> Value
     requires { PatternOf (to_spec_row row) raw }
     ensures { to_spec_value result ≡ value_of (to_spec_row row) (to_spec_presence presence) raw }
 {
-    let class = class_in(row, presence, raw);
-    match class {
+    match class_in(row, presence, raw) {
         Class::Value => number_of(row, raw),
         Class::Unimplemented => Value::Unimplemented,
         Class::OutOfRange => Value::OutOfRange,
@@ -91,16 +83,15 @@ fn value_of(row: TypeRow, presence: Presence, raw: u64) -> Value
 }
 
 // The number of a pattern in its type's range.
+#[tactic(auto, unfolding(crate::specs::Decoding::number_of))]
 fn number_of(row: TypeRow, raw: u64) -> Value
     requires pattern_of { PatternOf (to_spec_row row) raw }
     requires raw_value { in_range (to_spec_row row) raw ≡ true }
     ensures { to_spec_value result ≡ number_of (to_spec_row row) raw }
 {
-    let kind = row.kind;
-    match kind {
+    match row.kind {
         Kind::Signed => Value::Signed(twos_complement(row.most, raw)),
-        Kind::Unsigned => Value::Unsigned(raw),
-        Kind::Accumulator => Value::Unsigned(raw),
+        Kind::Unsigned | Kind::Accumulator => Value::Unsigned(raw),
         Kind::Float(format) => float_of(format, raw),
     }
 }
@@ -118,6 +109,7 @@ fn float_of(format: Format, raw: u64) -> Value
 }
 
 // Two's complement of one to four registers. -1 - (ones - raw) stays within 64 bits at every width.
+#[tactic(auto, using(registers::proofs::Joining::four_ones, crate::proofs::MachineIntegers::upper_pattern))]
 fn twos_complement(count: u16, raw: u64) -> i64
     requires le_count { (1 ≤ count) × (count ≤ 4) }
     requires raw_bound { raw < 2 ^ (16 * count) }
@@ -125,7 +117,8 @@ fn twos_complement(count: u16, raw: u64) -> i64
 {
     let ones = all_ones(count);
     if raw <= ones / 2 {
-        return raw as i64;
+        raw as i64
+    } else {
+        -1 - ((ones - raw) as i64)
     }
-    -1 - ((ones - raw) as i64)
 }

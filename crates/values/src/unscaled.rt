@@ -1,72 +1,47 @@
 // The integer of a raw value, not scaled.
-ghost use Rattle.std.specs.Prelude.{◌≡◌, ◌*◌, ◌^◌, ◌≤◌, ◌<◌};
+ghost use Rattle.std.specs.Prelude.{◌≡◌};
 ghost use Rattle.point_types.specs.CodeTypes.{to_spec_presence, to_spec_row};
-ghost use Rattle.values.specs.Classes.{PatternOf, integer, twos_complement};
+ghost use Rattle.values.specs.Classes.{PatternOf, integer};
 ghost use Rattle.values.specs.Unscaled.{unscaled};
 ghost use Rattle.values.specs.CodeTypes.{to_code_unscaled, to_code_integer};
 
-use crate::UnscaledValue;
 use crate::classes::{classified_in, is_value_in};
-use point_types::{Found, Kind, Presence, TypeRow, row_of};
-use registers::all_ones;
+use crate::{Integer, twos_complement};
+use point_types::{Kind, Presence, TypeRow, row_of};
+use refusals::Refusal;
 
 // The integer that a scale factor multiplies, for a type code, the point's presence and a raw value.
-pub fn unscaled_value(type_code: u16, presence: Presence, raw: u64) -> UnscaledValue
+#[tactic(auto, using(point_types::proofs::Table::own_code, point_types::proofs::Table::listed), unfolding(crate::specs::Unscaled::unscaled))]
+pub fn unscaled_value(type_code: u16, presence: Presence, raw: u64) -> Result<Integer, Refusal>
     ensures { result ≡ to_code_unscaled (unscaled type_code (to_spec_presence presence) raw) }
 {
-    let found = row_of(type_code);
-    match found {
-        Found::Row(row) => {
-            if !row.scalable {
-                return UnscaledValue::NotScalable;
-            }
-            if !is_value_in(classified_in(row, presence, raw)) {
-                return UnscaledValue::NoValue;
-            }
-            integer_by_sign(row, raw)
-        }
-        Found::Nothing => UnscaledValue::NotScalable,
+    let row = row_of(type_code).ok_or(Refusal::NotScalable)?;
+    if !row.scalable {
+        return Err(Refusal::NotScalable);
     }
+    if !is_value_in(classified_in(row, presence, raw)) {
+        return Err(Refusal::NoValue);
+    }
+    Ok(integer_of(row, raw))
 }
 
 // The integer of a pattern. Only signed types have negative ones.
-fn integer_by_sign(row: TypeRow, raw: u64) -> UnscaledValue
+#[tactic(auto, unfolding(crate::specs::Classes::integer))]
+fn integer_of(row: TypeRow, raw: u64) -> Integer
     requires { PatternOf (to_spec_row row) raw }
     ensures { result ≡ to_code_integer (integer (to_spec_row row) raw) }
 {
-    let kind = row.kind;
-    match kind {
-        Kind::Signed => twos_complement_by_sign(row.most, raw),
-        Kind::Unsigned => UnscaledValue::Of {
+    match row.kind {
+        Kind::Signed => {
+            let value = twos_complement(row.most, raw);
+            Integer {
+                negative: value < 0,
+                magnitude: value.unsigned_abs(),
+            }
+        }
+        _ => Integer {
             negative: false,
             magnitude: raw,
         },
-        Kind::Accumulator => UnscaledValue::Of {
-            negative: false,
-            magnitude: raw,
-        },
-        Kind::Float(_) => UnscaledValue::Of {
-            negative: false,
-            magnitude: raw,
-        },
-    }
-}
-
-// Two's complement of one to four registers, by sign and magnitude.
-fn twos_complement_by_sign(count: u16, raw: u64) -> UnscaledValue
-    requires le_count { (1 ≤ count) × (count ≤ 4) }
-    requires raw_bound { raw < 2 ^ (16 * count) }
-    ensures { result ≡ to_code_integer (twos_complement (16 * count) raw) }
-{
-    let ones = all_ones(count);
-    if raw <= ones / 2 {
-        return UnscaledValue::Of {
-            negative: false,
-            magnitude: raw,
-        };
-    }
-    UnscaledValue::Of {
-        negative: true,
-        magnitude: ones - raw + 1,
     }
 }
