@@ -1,14 +1,10 @@
 -- Rules 4 to 10 (document 01, "Checking") for a single frame, given facts about the frames around it.
 use Rattle.std.specs.Prelude.{Bool, true, false, not, ◌&&◌, ◌||◌, List, [], ◌∷◌, ℕ, eqb, leb, ltb}
-use Rattle.std.proofs.Math.Option.{Option, none, some}
+use Rattle.std.proofs.Math.Option.{none, some}
 use Rattle.point_types.specs.Rows.{may_scale, registers_of}
 use Rattle.values.specs.Classes.{twos_complement, is_scale_factor}
 use Rattle.catalog_frames.specs.Frames.{Point, Head, Frame, model_frame, group_frame, point_frame, end_frame, malformed, no_scale}
 use Rattle.catalog_frames.specs.Frames.{fixed_scale, scale_by_point, constant_count, count_by_point, fill}
-
--- The code's number of the first broken rule as an option: 0 means that no rule is broken.
-abbrev pub to_spec_fault : ℕ → Option ℕ
-to_spec_fault n = elim (eqb n 0) [ true ↦ none | false ↦ some n ]
 
 -- Is `size` a size of the type with this code? An unknown type has none.
 unfoldable pub is_size_of : ℕ → ℕ → Bool

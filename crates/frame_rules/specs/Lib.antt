@@ -1,1 +1,2 @@
 pub mod FrameTests
+pub mod CodeTypes

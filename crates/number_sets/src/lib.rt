@@ -2,46 +2,53 @@
 #![tactic(auto)]
 
 ghost use Rattle.std.specs.Prelude.{◌≡◌, eqb};
-ghost use Rattle.number_sets.specs.NumberSets.{in_set, with_number, without_number, marked, Marks};
+ghost use Rattle.number_sets.specs.NumberSets.{in_set, marked, Blank, Marks};
+
+use std::marker::Model;
 
 // The number of words of a set.
-pub const SET_WORDS: usize = 1024;
+const SET_WORDS: usize = 1024;
 
-// Is the number in the set?
-pub fn is_in(set: &[u64; SET_WORDS], number: u16) -> bool
-    ensures { result ≡ in_set set.now number }
-{
-    let word = set[(number / 64) as usize];
-    let bit = (number % 64) as u32;
-    (word >> bit) % 2 == 1
+// A set of 16-bit numbers. A contract sees its words.
+#[derive(Drop)]
+pub struct NumberSet {
+    words: [u64; SET_WORDS],
 }
 
-// Puts the number into the set.
-fn put_in(set: &mut [u64; SET_WORDS], number: u16)
-    ensures { set.new ≡ with_number set.old number }
-{
-    let at = (number / 64) as usize;
-    let bit = (number % 64) as u32;
-    set[at] = set[at] | 1u64 << bit;
+impl Model for NumberSet {
+    ghost use Rattle.std.specs.Prelude.{ℕ, List};
+
+    ghost Value = { List ℕ };
+
+    ghost view = { λ s. s.words };
 }
 
-// Takes the number out of the set.
-fn take_out(set: &mut [u64; SET_WORDS], number: u16)
-    ensures { set.new ≡ without_number set.old number }
-{
-    let at = (number / 64) as usize;
-    let bit = (number % 64) as u32;
-    set[at] = (set[at] | 1u64 << bit) ^ 1u64 << bit;
-}
+impl NumberSet {
+    // A set that has no number.
+    pub fn new() -> NumberSet
+        ensures { Blank result }
+    {
+        NumberSet {
+            words: [0; SET_WORDS],
+        }
+    }
 
-// Puts the number into the set, or takes it out.
-pub fn mark(set: &mut [u64; SET_WORDS], number: u16, present: bool)
-    ensures set_after { set.new ≡ marked set.old number present }
-    ensures marks { Marks set.old set.new (λ n. eqb n number) present }
-{
-    if present {
-        put_in(set, number)
-    } else {
-        take_out(set, number)
+    // Is the number in the set?
+    pub fn contains(&self, number: u16) -> bool
+        ensures { result ≡ in_set self.now number }
+    {
+        let word = self.words[(number / 64) as usize];
+        (word >> (number % 64)) % 2 == 1
+    }
+
+    // Puts the number into the set, or takes it out if not `present`.
+    pub fn mark(&mut self, number: u16, present: bool)
+        ensures set_after { self.new ≡ marked self.old number present }
+        ensures marks { Marks self.old self.new (λ n. eqb n number) present }
+    {
+        let at = (number / 64) as usize;
+        let word = self.words[at];
+        let bit = 1u64 << (number % 64);
+        self.words[at] = if present { word | bit } else { word & !bit };
     }
 }

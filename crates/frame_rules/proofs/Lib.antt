@@ -1,2 +1,0 @@
--- Lemmas that the proofs of the functions cite
-mod KindCases
