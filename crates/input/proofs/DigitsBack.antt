@@ -1,42 +1,20 @@
 -- The digits of words are read back as the same words.
 use mathlib.Core.Path.{◌≡◌, refl}
-use mathlib.Core.Bool.{true, false, and-false}
+use mathlib.Core.Bool.{true}
 use mathlib.Core.List.{List, [], ◌∷◌}
 use mathlib.Core.Option.{some}
-use Prim.Native.Nat.{ℕ, ◌+◌, ◌-◌, ◌*◌, ◌/◌, ◌%◌, ◌≤◌, ◌<◌}
-use Prim.Native.Char.{Char, code}
+use Prim.Native.Nat.{ℕ, ◌*◌, ◌/◌, ◌%◌, ◌<◌}
 use native.Mathlib.Omega.{arith}
-use borrow.Author.Tests.{ltb-true, ltb-false, le-leb, lt-leb}
-use lib.Dec.{ltb}
+use Rattle.std.proofs.lemmas.Bool.Decides.{nat_tests}
 use lib.ListN.{length}
-use Rattle.lists.proofs.TestOutcomes.{by_test}
 use Rattle.registers.specs.Registers.{AreRegisters}
-use Rattle.input.specs.Digits.{is_between, digit_value, is_digit, are_digits, digit_or0, word, words_of}
+use Rattle.input.specs.Digits.{digit_value, is_digit, are_digits, digit_or0, word, words_of}
 use Rattle.input.specs.Writing.{hex_digit, hex_digits}
-
--- A byte inside a range of characters, and one past its end.
-module _ (first last : Char) (b : ℕ) where
-  in_range : code first ≤ b → b ≤ code last → is_between first last b ≡ true
-  in_range h g = simp (le-leb (code first) b h, le-leb b (code last) g)
-
-  past_last : code last < b → is_between first last b ≡ false
-  past_last h = simp (lt-leb b (code last) h, and-false)
 
 -- A digit is read back.
 digit_back : (v : ℕ) → v < 16 → digit_value (hex_digit v) ≡ some v
 unfolding digit_value
-digit_back v h =
-    let P : ℕ → Type 0 = λ b. digit_value b ≡ some v in
-    by_test P (ltb v 10)
-    (λ t.
-    let s = ltb-true v 10 t in
-    let e : v + code "0" - code "0" ≡ v = omega arith in
-    simp (digit_value, in_range "0" "9" (v + code "0") (omega arith) (omega arith), e))
-    (λ f.
-    let s = ltb-false v 10 f in
-    let b = v - 10 + code "A" in
-    let e : b - code "A" + 10 ≡ v = omega arith in
-    simp (digit_value, past_last "0" "9" b (omega arith), in_range "A" "F" b (omega arith) (omega arith), e))
+digit_back v h = grind (arith, nat_tests)
 
 -- A written digit is a digit and has its value.
 module _ (v : ℕ) (h : v < 16) where

@@ -1,83 +1,94 @@
 -- A text is its first line and the lines after it.
-use mathlib.Core.Path.{◌≡◌, refl, ap, ◌∙◌}
+use mathlib.Core.Path.{◌≡◌, refl, sym, ap, ◌∙◌}
 use mathlib.Core.Bool.{Bool, true, false}
-use mathlib.Core.List.{List, [], ◌∷◌}
-use Prim.Native.Nat.{ℕ, suc, ◌+◌, ◌≤◌, ◌<◌}
+use mathlib.Core.List.{List, [], ◌∷◌, ◌++◌}
+use Prim.Native.Nat.{ℕ, zero, suc, ◌+◌, ◌<◌}
 use native.Mathlib.Numerals.{add-one}
 use native.Mathlib.Omega.{arith}
 use borrow.Author.Tests.{eq-eqb, ne_eqb, eqb-true, eqb-false}
 use lib.Dec.{eqb}
-use lib.ListN.{length, get_or, take, drop, length-take, drop_of_length-le}
-use lib.Seq.{drop-cons}
+use lib.ListN.{length, get_or, take, drop}
+use Rattle.lists.specs.Each.{Each}
+use Rattle.lists.proofs.TestOutcomes.{impossible}
 use Rattle.input.specs.Lines.{lines, with_byte, line_feed}
-use Rattle.input.specs.InternalContracts.{first_line}
 
--- The first line by the text's first byte.
-pub first_byte : (b : ℕ) (bs : List ℕ) → (b ≡ line_feed → ⊥) → first_line (b ∷ bs) ≡ b ∷ first_line bs
-unfolding first_line
-first_byte b bs n = simp (first_line, ne_eqb b line_feed n)
+-- Not the byte that ends a line.
+abbrev pub NoFeed : ℕ → Type 0
+NoFeed b = b ≡ line_feed → ⊥
 
-pub first_none : (b : ℕ) (bs : List ℕ) → b ≡ line_feed → first_line (b ∷ bs) ≡ []
-unfolding first_line
-first_none b bs e = simp (first_line, eq-eqb b line_feed e)
-
--- The length of the line that begins at byte i.
-module _ (t : List ℕ) (i : ℕ) where
-  pub first_on : i < length t → (get_or t i 0 ≡ line_feed → ⊥)
-      → length (first_line (drop i t)) ≡ 1 + length (first_line (drop (i + 1) t))
-  first_on h n =
-      ap (λ (x : List ℕ). length (first_line x)) (drop-cons t i 0 h)
-      ∙ ap length (first_byte (get_or t i 0) (drop (suc i) t) n)
-      ∙ rw (add-one i) (omega arith)
-
-  pub first_feed : i < length t → get_or t i 0 ≡ line_feed → length (first_line (drop i t)) ≡ 0
-  first_feed h e =
-      ap (λ (x : List ℕ). length (first_line x)) (drop-cons t i 0 h) ∙ ap length (first_none (get_or t i 0) (drop (suc i) t) e)
-
-  pub first_end : length t ≤ i → length (first_line (drop i t)) ≡ 0
-  unfolding first_line
-  first_end h = rw (drop_of_length-le t h)
-
--- The first line is the beginning of its text.
-pub first_taken : (t : List ℕ) → take (length (first_line t)) t ≡ first_line t
-unfolding first_line
-first_taken [] = refl
-first_taken (b ∷ bs) = go (eqb b line_feed) refl (first_taken bs)
-  where
-    go : (f : Bool) → eqb b line_feed ≡ f → take (length (first_line bs)) bs ≡ first_line bs
-        → take (length (first_line (b ∷ bs))) (b ∷ bs) ≡ first_line (b ∷ bs)
-    go true e ih = rw (first_none b bs (eqb-true b line_feed e))
-    go false e ih = rw (first_byte b bs (eqb-false b line_feed e)) (ap (λ (l : List ℕ). b ∷ l) ih)
-
-pub first_short : (t : List ℕ) → length (first_line t) ≤ length t
-first_short t = omega (arith, ap length (first_taken t), length-take (length (first_line t)) t)
-
+-- The lines by the text's first byte.
 lines_feed : (b : ℕ) (bs : List ℕ) → b ≡ line_feed → lines (b ∷ bs) ≡ [] ∷ lines bs
 unfolding lines
 lines_feed b bs e = simp (lines, eq-eqb b line_feed e)
 
-lines_byte : (b : ℕ) (bs : List ℕ) → (b ≡ line_feed → ⊥) → lines (b ∷ bs) ≡ with_byte b (lines bs)
+lines_byte : (b : ℕ) (bs : List ℕ) → NoFeed b → lines (b ∷ bs) ≡ with_byte b (lines bs)
 unfolding lines
 lines_byte b bs n = simp (lines, ne_eqb b line_feed n)
 
--- A byte before a text is added to its first line.
-byte_before : (b : ℕ) (bs : List ℕ)
-    → (0 < length bs → lines bs ≡ first_line bs ∷ lines (drop (length (first_line bs) + 1) bs))
-    → with_byte b (lines bs) ≡ (b ∷ first_line bs) ∷ lines (drop (length (first_line bs) + 1) bs)
-unfolding lines first_line
-byte_before b [] first = refl
-byte_before b (c ∷ cs) first = rw (first (omega arith))
+-- The first LF is at position i.
+pub line_at : (t : List ℕ) (i : ℕ) → i < length t → get_or t i 0 ≡ line_feed → ((k : ℕ) → k < i → NoFeed (get_or t k 0))
+    → lines t ≡ take i t ∷ lines (drop (i + 1) t)
+line_at [] i h e n = absurd (omega arith)
+line_at (b ∷ bs) zero h e n = lines_feed b bs e
+line_at (b ∷ bs) (suc i) h e n =
+    let first : NoFeed b = n 0 (omega arith) in
+    let later : lines bs ≡ take i bs ∷ lines (drop (i + 1) bs) = line_at bs i (omega arith) e (λ k g. n (suc k) (omega arith)) in
+    lines_byte b bs first ∙ ap (with_byte b) later ∙ rw (add-one i, add-one (suc i))
 
--- The lines of a text that is not empty: the first, and those after the LF that ends it.
-pub lines_first : (t : List ℕ) → 0 < length t → lines t ≡ first_line t ∷ lines (drop (length (first_line t) + 1) t)
-lines_first [] h = absurd (omega arith)
-lines_first (b ∷ bs) h = go (eqb b line_feed) refl (lines_first bs)
+-- There is no LF: the text is one line.
+pub one_line : (t : List ℕ) → 0 < length t → ((k : ℕ) → k < length t → NoFeed (get_or t k 0)) → lines t ≡ t ∷ []
+unfolding lines
+one_line [] h n = absurd (omega arith)
+one_line (b ∷ []) h n = lines_byte b [] (n 0 (omega arith))
+one_line (b ∷ c ∷ bs) h n =
+    let later : lines (c ∷ bs) ≡ (c ∷ bs) ∷ [] = one_line (c ∷ bs) (omega arith) (λ k g. n (suc k) (omega arith)) in
+    lines_byte b (c ∷ bs) (n 0 (omega arith)) ∙ ap (with_byte b) later
+
+-- What follows a line: nothing, if the text ends; or LF and the text of the other lines.
+pub data After : List ℕ → List (List ℕ) → Type 0 where
+  ended : After [] []
+  further : (t : List ℕ) → After (line_feed ∷ t) (lines t)
+
+-- A text whose first line is `line`, and whose other lines are `others`.
+pub record FirstLine (t line : List ℕ) (others : List (List ℕ)) : Type 0 where
+  pub rest : List ℕ
+  pub joined : t ≡ line ++ rest
+  pub plain : Each NoFeed line
+  pub after : After rest others
+
+no_text : (t : List ℕ) → lines t ≡ [] → t ≡ []
+unfolding lines
+no_text [] e = refl
+no_text (b ∷ bs) e = go (eqb b line_feed) refl (lines bs) refl
   where
-    go : (f : Bool) → eqb b line_feed ≡ f
-        → (0 < length bs → lines bs ≡ first_line bs ∷ lines (drop (length (first_line bs) + 1) bs))
-        → lines (b ∷ bs) ≡ first_line (b ∷ bs) ∷ lines (drop (length (first_line (b ∷ bs)) + 1) (b ∷ bs))
-    go true e first = rw (first_none b bs (eqb-true b line_feed e)) (lines_feed b bs (eqb-true b line_feed e))
-    go false e first =
-        let n = eqb-false b line_feed e in
-        rw (first_byte b bs n, add-one (suc (length (first_line bs))))
-        (lines_byte b bs n ∙ byte_before b bs first ∙ rw (add-one (length (first_line bs))))
+    go : (f : Bool) → eqb b line_feed ≡ f → (ls : List (List ℕ)) → lines bs ≡ ls → b ∷ bs ≡ []
+    go true q ls d = let s = lines_feed b bs (eqb-true b line_feed q) in impossible (cc)
+    go false q [] d = let s = lines_byte b bs (eqb-false b line_feed q) ∙ ap (with_byte b) d in impossible (cc)
+    go false q (l ∷ ls) d = let s = lines_byte b bs (eqb-false b line_feed q) ∙ ap (with_byte b) d in impossible (cc)
+
+pub first_line : (t line : List ℕ) (others : List (List ℕ)) → lines t ≡ line ∷ others → FirstLine t line others
+unfolding lines
+first_line [] line others e = impossible (cc)
+first_line (b ∷ bs) line others e = go (eqb b line_feed) refl (lines bs) refl (first_line bs)
+  where
+    go : (f : Bool) → eqb b line_feed ≡ f → (ls : List (List ℕ)) → lines bs ≡ ls
+        → ((l : List ℕ) (ks : List (List ℕ)) → lines bs ≡ l ∷ ks → FirstLine bs l ks) → FirstLine (b ∷ bs) line others
+    go true q ls d later =
+        let feed : b ≡ line_feed = eqb-true b line_feed q in
+        let s : [] ∷ lines bs ≡ line ∷ others = sym (lines_feed b bs feed) ∙ e in
+        let empty : [] ≡ line = cc in
+        let same : lines bs ≡ others = cc in
+        rw (← empty, ← same) (record { rest = line_feed ∷ bs; joined = ap (λ (x : ℕ). x ∷ bs) feed; plain = tt; after = further bs })
+    go false q [] d later =
+        let n = eqb-false b line_feed q in
+        let s : (b ∷ []) ∷ [] ≡ line ∷ others = sym (lines_byte b bs n ∙ ap (with_byte b) d) ∙ e in
+        let single : b ∷ [] ≡ line = cc in
+        let none : [] ≡ others = cc in
+        rw (← single, ← none) (record { rest = []; joined = ap (λ (x : List ℕ). b ∷ x) (no_text bs d); plain = (n, tt); after = ended })
+    go false q (l ∷ ls) d later =
+        let n = eqb-false b line_feed q in
+        let s : (b ∷ l) ∷ ls ≡ line ∷ others = sym (lines_byte b bs n ∙ ap (with_byte b) d) ∙ e in
+        let longer : b ∷ l ≡ line = cc in
+        let same : ls ≡ others = cc in
+        let f = later l ls d in
+        rw (← longer, ← same) (record { rest = f.rest; joined = ap (λ (x : List ℕ). b ∷ x) f.joined; plain = (n, f.plain); after = f.after })

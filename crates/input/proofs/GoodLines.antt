@@ -1,14 +1,13 @@
 -- Which lines are good, and how many words a good line holds.
 use mathlib.Core.Path.{◌≡◌, refl, ap}
-use mathlib.Core.Bool.{true, false, ◌&&◌, and-false}
+use mathlib.Core.Bool.{true, false}
 use mathlib.Core.List.{List, [], ◌∷◌, ◌++◌}
-use Prim.Native.Nat.{ℕ, ◌*◌, ◌/◌, ◌%◌, ◌≤◌, ◌<◌}
+use Prim.Native.Nat.{ℕ, ◌*◌, ◌/◌, ◌≤◌, ◌<◌}
 use native.Mathlib.Omega.{arith}
-use borrow.Author.Tests.{eqb-true, leb-true, ne_eqb, lt-leb}
-use lib.Dec.{eqb, leb}
+use lib.Dec.{eqb}
 use lib.ListN.{length}
-use Rattle.lists.proofs.TestOutcomes.{both}
-use Rattle.input.specs.Digits.{are_digits, word, words_of}
+use Rattle.std.proofs.lemmas.Bool.Decides.{nat_tests}
+use Rattle.input.specs.Digits.{word, words_of}
 use Rattle.input.specs.Parsing.{is_catalog_line, is_map_line}
 
 -- Four digits a word.
@@ -32,28 +31,19 @@ words_after [] more e = refl
 
 -- A good line of the catalog: 32 digits, 8 words.
 pub catalog_line : (l : List ℕ) → is_catalog_line l ≡ true → (length l ≡ 32) × (length (words_of l) ≡ 8)
-catalog_line l e =
-    let n : length l ≡ 32 = eqb-true (length l) 32 (both (eqb (length l) 32) (are_digits l) e).0 in
-    (n, omega (arith, words_length l))
+catalog_line l e = let n = words_length l in grind (arith, nat_tests)
 
 -- A good line of the map: one word or more, four digits a word.
 pub map_line : (l : List ℕ) → is_map_line l ≡ true → (1 ≤ length (words_of l)) × (length l ≡ 4 * length (words_of l))
-map_line l e =
-    let few = leb 4 (length l) && leb (length l) 64 in
-    let p = (both (few && eqb (length l % 4) 0) (are_digits l) e).0 in
-    let q = both few (eqb (length l % 4) 0) p in
-    let low = leb-true 4 (length l) (both (leb 4 (length l)) (leb (length l) 64) q.0).0 in
-    let fours = eqb-true (length l % 4) 0 q.1 in
-    let n = words_length l in
-    (omega arith, omega arith)
+map_line l e = let n = words_length l in grind (arith, nat_tests)
 
 -- A line of more than 64 bytes is bad, in the catalog and in the map.
 module _ (l : List ℕ) (h : 64 < length l) where
   pub not_empty_lem : eqb (length l) 0 ≡ false
-  not_empty_lem = ne_eqb (length l) 0 (λ e. omega arith)
+  not_empty_lem = grind (arith, nat_tests)
 
   pub no_catalog_line : is_catalog_line l ≡ false
-  no_catalog_line = let e : eqb (length l) 32 ≡ false = ne_eqb (length l) 32 (λ e. omega arith) in rw e
+  no_catalog_line = grind (arith, nat_tests)
 
   pub no_map_line : is_map_line l ≡ false
-  no_map_line = simp (lt-leb (length l) 64 h, and-false)
+  no_map_line = grind (arith, nat_tests)

@@ -5,7 +5,6 @@ pub mod CutWords
 pub mod ReadBack
 pub mod Refusals
 -- Laws of the definitions, cited by the proofs of the functions
-pub mod DigitValues
 pub mod DigitsBack
 pub mod WrittenLines
 pub mod CutLines

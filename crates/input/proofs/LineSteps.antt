@@ -1,17 +1,12 @@
--- The steps of the definitions: for one line, and for the line that begins at a position of a text.
-use mathlib.Core.Path.{◌≡◌, refl, sym, ap, ◌∙◌}
+-- The steps of the definitions for one line.
+use mathlib.Core.Path.{◌≡◌, refl, sym, ap}
 use mathlib.Core.Bool.{true, false}
 use mathlib.Core.List.{List, [], ◌∷◌, ◌++◌, append_assoc}
 use Prim.Native.Nat.{ℕ, ◌+◌, ◌-◌, ◌≤◌, ◌<◌}
-use native.Mathlib.Omega.{arith}
 use borrow.Author.Tests.{eq-eqb, ne_eqb, lt-ltb, le-ltb}
-use lib.ListN.{length, take, drop, length-drop, drop_of_length-le}
-use lib.Seq.{drop-drop}
-use Rattle.input.specs.Lines.{lines}
+use lib.ListN.{length}
 use Rattle.input.specs.Digits.{words_of}
 use Rattle.input.specs.Parsing.{is_catalog_line, is_map_line, Input, refused, words, with_frame, with_registers, map_from, catalog_from}
-use Rattle.input.specs.InternalContracts.{first_line}
-use Rattle.input.proofs.FirstLines.{first_taken, lines_first}
 
 -- ---- One line
 
@@ -66,21 +61,3 @@ no_registers (words catalog map) = refl
 pub two_registers : (a b : List ℕ) (x : Input) → with_registers a (with_registers b x) ≡ with_registers (a ++ b) x
 two_registers a b (refused number place) = refl
 two_registers a b (words catalog map) = ap (words catalog) (sym (append_assoc a b map))
-
--- ---- The line that begins at a position of a text, and where it ends
-
-module _ (text : List ℕ) (at end : ℕ) (inside : at < length text) (ends : end ≡ at + length (first_line (drop at text))) where
-  pub cut_line : take (end - at) (drop at text) ≡ first_line (drop at text)
-  cut_line = let e : end - at ≡ length (first_line (drop at text)) = omega arith in rw e (first_taken (drop at text))
-
-  pub split_lines : lines (drop at text) ≡ first_line (drop at text) ∷ lines (drop (end + 1) text)
-  split_lines =
-      let l = first_line (drop at text) in
-      let e : at + (length l + 1) ≡ end + 1 = omega arith in
-      lines_first (drop at text) (omega (arith, length-drop at text))
-      ∙ ap (λ (t : List ℕ). l ∷ lines t) (drop-drop (length l + 1) at text ∙ ap (λ (k : ℕ). drop k text) e)
-
--- There is no line from the end of a text on.
-pub no_lines : (text : List ℕ) (at : ℕ) → length text ≤ at → lines (drop at text) ≡ []
-unfolding lines
-no_lines text at h = rw (drop_of_length-le text h)

@@ -1,20 +1,18 @@
 -- From what the surveys found: the result of `parse`, and what its lists hold.
 use mathlib.Core.Path.{◌≡◌, refl, sym, ap, ◌∙◌}
 use mathlib.Core.List.{List, [], ◌++◌, append-nil}
-use Prim.Native.Nat.{ℕ, ◌+◌, ◌*◌, ◌/◌, ◌≤◌}
+use Prim.Native.Nat.{ℕ, ◌+◌, ◌*◌, ◌/◌}
 use native.Mathlib.Omega.{arith}
 use lib.ListN.{length, drop}
-use lib.Seq.{sets, sets-eq}
 use Rattle.input.specs.Lines.{lines}
 use Rattle.input.specs.Parsing.{Input, refused, words, with_frame, map_from, parsed, stored, stored_catalog, stored_map}
 use Rattle.input.specs.InternalContracts.{words_from, FramesFound, RegistersFound}
 use Rattle.input.specs.CodeTypes.{parsed_result, refused_result, result}
 use Rattle.input.proofs.ParsedWords.{catalog_words, map_words}
 
-stored_at_start : (ws old : List ℕ) → length ws ≤ length old → sets old 0 ws ≡ stored ws old
-stored_at_start ws old h =
-    let e : 0 + length ws ≡ length ws = omega arith in
-    sets-eq ws old 0 (omega arith) ∙ ap (λ (k : ℕ). ws ++ drop k old) e
+-- Words stored at the start of a list.
+pub stored_at_start : (ws old : List ℕ) {part : List ℕ} {n : ℕ} → part ≡ ws → length ws ≡ n → part ++ drop n old ≡ stored ws old
+stored_at_start ws old e n = rw (e, n)
 
 -- A refusal is returned as it is, and leaves both lists unchanged.
 module _ {x : Input} {number place : ℕ} (e : x ≡ refused number place) where
@@ -27,10 +25,10 @@ module _ {x : Input} {number place : ℕ} (e : x ≡ refused number place) where
   pub map_kept : (old : List ℕ) → old ≡ stored_map x old
   map_kept old = sym (ap (λ (y : Input). stored_map y old) e)
 
-module _ (text : List ℕ) (frames registers count next found : ℕ)
-    (f : FramesFound text frames count (λ capacity. map_from (count + 2) capacity (lines (drop next text))))
-    (g : RegistersFound (map_from (count + 2) registers (lines (drop next text))) registers found (words [] [])) where
-  map_is : map_from (count + 2) registers (lines (drop next text)) ≡ words [] g.map
+module _ {text : List ℕ} (rest : List ℕ) {frames registers count found : ℕ}
+    (f : FramesFound text frames count (λ capacity. map_from (count + 2) capacity (lines rest)))
+    (g : RegistersFound (map_from (count + 2) registers (lines rest)) registers found (words [] [])) where
+  map_is : map_from (count + 2) registers (lines rest) ≡ words [] g.map
   map_is = g.rest ∙ ap (words []) (append-nil g.map)
 
   whole : parsed text frames registers ≡ words f.catalog g.map
@@ -39,17 +37,17 @@ module _ (text : List ℕ) (frames registers count next found : ℕ)
   catalog_digits : words_from (count * 8) text ≡ f.catalog
   catalog_digits =
       ap (λ (n : ℕ). words_from n text) (sym f.full)
-      ∙ catalog_words (lines text) text 1 frames registers f.catalog g.map refl whole
+      ∙ (catalog_words (lines text) text 1 frames registers f.catalog g.map refl whole).0
 
-  map_digits : words_from found (drop next text) ≡ g.map
+  map_digits : words_from found rest ≡ g.map
   map_digits =
-      ap (λ (n : ℕ). words_from n (drop next text)) (sym g.full)
-      ∙ map_words (lines (drop next text)) (drop next text) (count + 2) registers [] g.map refl map_is
+      ap (λ (n : ℕ). words_from n rest) (sym g.full)
+      ∙ (map_words (lines rest) rest (count + 2) registers [] g.map refl map_is).0
 
   pub catalog_count : length (words_from (count * 8) text) ≡ count * 8
   catalog_count = ap length catalog_digits ∙ f.full
 
-  pub map_count : length (words_from found (drop next text)) ≡ found
+  pub map_count : length (words_from found rest) ≡ found
   map_count = ap length map_digits ∙ g.full
 
   pub counted : parsed_result count found ≡ result (parsed text frames registers)
@@ -57,16 +55,9 @@ module _ (text : List ℕ) (frames registers count next found : ℕ)
       let e : length f.catalog / 8 ≡ count = omega (arith, f.full) in
       sym (ap result whole ∙ rw (e, g.full))
 
-  pub catalog_stored : (old : List ℕ) → count * 8 ≤ length old
-      → sets old 0 (words_from (count * 8) text) ≡ stored_catalog (parsed text frames registers) old
-  catalog_stored old h =
-      ap (sets old 0) catalog_digits
-      ∙ stored_at_start f.catalog old (omega (arith, f.full))
-      ∙ sym (ap (λ (x : Input). stored_catalog x old) whole)
+  pub catalog_stored : (old : List ℕ)
+      → words_from (count * 8) text ++ drop (count * 8) old ≡ stored_catalog (parsed text frames registers) old
+  catalog_stored old = stored_at_start f.catalog old catalog_digits f.full ∙ sym (ap (λ (x : Input). stored_catalog x old) whole)
 
-  pub map_stored : (old : List ℕ) → found ≤ length old
-      → sets old 0 (words_from found (drop next text)) ≡ stored_map (parsed text frames registers) old
-  map_stored old h =
-      ap (sets old 0) map_digits
-      ∙ stored_at_start g.map old (omega (arith, g.full))
-      ∙ sym (ap (λ (x : Input). stored_map x old) whole)
+  pub map_stored : (old : List ℕ) → words_from found rest ++ drop found old ≡ stored_map (parsed text frames registers) old
+  map_stored old = stored_at_start g.map old map_digits g.full ∙ sym (ap (λ (x : Input). stored_map x old) whole)

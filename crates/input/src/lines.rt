@@ -1,10 +1,11 @@
 // The lines of a text: what they hold, and how their words are stored.
-ghost use Rattle.std.specs.Prelude.{◌≡◌, ◌+◌, ◌≤◌, length, drop};
-ghost use Rattle.std.proofs.lemmas.List.Edits.{sets};
-ghost use Rattle.input.specs.Parsing.{is_catalog_line, is_map_line};
-ghost use Rattle.input.specs.InternalContracts.{first_line, words_from, CatalogFound, MapFound};
+ghost use Rattle.std.specs.Prelude.{◌≡◌, ◌+◌, ◌<◌, ◌^◌, [], length, MatchOption, MatchResult};
+ghost use Rattle.input.specs.Lines.{lines};
+ghost use Rattle.input.specs.Parsing.{is_catalog_line, is_map_line, words, map_from};
+ghost use Rattle.input.specs.InternalContracts.{to_spec_refused, SplitsInto, GoodLine, BadLine, without_feed, words_from, CatalogFound, CatalogRefused, RegistersFound};
 
-use crate::digits::{are_digits, word_at};
+use crate::digits::{are_digits, word_of};
+use refusals::{Refusal, Refused};
 
 const LINE_FEED: u8 = b'\n';
 
@@ -15,144 +16,113 @@ const WORD_DIGITS: usize = 4;
 
 const MAP_DIGITS: usize = 64;
 
-// What the catalog's lines hold: a refusal; or `count` frames, with the map's first line at position `next`.
-#[derive(Drop)]
-pub(crate) enum CatalogLines {
-    Refused { number: u16, place: usize },
-    Frames { count: usize, next: usize },
-}
-
-// What the map's lines hold: a refusal, or the number of registers.
-#[derive(Drop)]
-pub(crate) enum MapLines {
-    Refused { number: u16, place: usize },
-    Registers(usize),
-}
-
-// Where the line that begins at `at` ends: at its LF, or at the end of the text.
-fn line_end(text: &[u8], at: usize) -> usize
-    requires { at ≤ length text.now }
-    ensures value { result ≡ at + length (first_line (drop at text.now)) }
-    ensures upper_bound { result ≤ length text.now }
+// The first line of a text, without its LF, and the text after it; none if the text has no line.
+fn split_line(text: &[u8]) -> Option<(&[u8], &[u8])>
+    ensures { MatchOption result (text.now ≡ []) (λ parts. SplitsInto text.now parts.0.now parts.1.now) }
 {
-    let mut i = at;
-    while i < text.len() {
-        if text[i] == LINE_FEED {
-            return i;
-        }
-        i += 1;
+    match text.iter().position(|byte| *byte == LINE_FEED) {
+        Some(end) => Some((&text[..end], &text[end + 1..])),
+        None if text.is_empty() => None,
+        None => Some((text, &[])),
     }
-    i
 }
 
 // Is this a good line of the catalog?
 fn is_catalog_line(line: &[u8]) -> bool
     ensures { result ≡ is_catalog_line line.now }
 {
-    if line.len() != FRAME_DIGITS {
-        return false;
-    }
-    are_digits(line)
+    line.len() == FRAME_DIGITS && are_digits(line)
 }
 
 // Is this a good line of the map?
 fn is_map_line(line: &[u8]) -> bool
     ensures { result ≡ is_map_line line.now }
 {
-    if line.len() < WORD_DIGITS {
-        return false;
-    }
-    if MAP_DIGITS < line.len() {
-        return false;
-    }
-    if line.len() % WORD_DIGITS != 0 {
-        return false;
-    }
-    are_digits(line)
+    (WORD_DIGITS..=MAP_DIGITS).contains(&line.len())
+        && line.len() % WORD_DIGITS == 0
+        && are_digits(line)
 }
 
-// Checks the lines up to the first empty one; `capacity` is the most frames. Each line so far was a frame, so `count` is
-// also the number of the line before.
-pub(crate) fn survey_catalog(text: &[u8], capacity: usize) -> CatalogLines
-    ensures { CatalogFound text.now capacity result }
+// What line `number` adds to a count that has `room` left: `amount`, if the line is good and adds no more than that.
+#[tactic(auto, using(crate::specs::InternalContracts::bad, crate::specs::InternalContracts::full))]
+fn counted(is_good: bool, amount: usize, room: usize, number: usize) -> Result<usize, Refused>
+    ensures { MatchResult result (λ count. (count ≡ amount) × GoodLine is_good amount room) (λ r. BadLine is_good amount room number (to_spec_refused r)) }
 {
-    let mut at = 0;
-    let mut count = 0usize;
-    while at < text.len() {
-        let end = line_end(text, at);
-        if end == at {
-            return CatalogLines::Frames {
-                count,
-                next: at + 1,
-            };
-        }
-        if !is_catalog_line(&text[at..end]) {
-            return CatalogLines::Refused {
-                number: 50,
-                place: count + 1,
-            };
-        }
-        if count == capacity {
-            return CatalogLines::Refused {
-                number: 52,
-                place: count + 1,
-            };
-        }
-        count += 1;
-        at = end + 1;
-    }
-    CatalogLines::Refused {
-        number: 51,
-        place: count + 1,
+    if !is_good {
+        Err(Refused {
+            refusal: Refusal::BadLine,
+            place: number,
+        })
+    } else if room < amount {
+        Err(Refused {
+            refusal: Refusal::OverCapacity,
+            place: number,
+        })
+    } else {
+        Ok(amount)
     }
 }
 
-// Checks the lines from position `start` on, numbered from `first`; `capacity` is the most registers.
-// Every line takes at least one byte, so its number is at most its position plus one and cannot overflow.
-pub(crate) fn survey_map(text: &[u8], start: usize, first: usize, capacity: usize) -> MapLines
-    requires { first ≤ start + 1 }
-    ensures { MapFound text.now start first capacity result }
+// Checks the lines up to the first empty one, and gives the number of frames, at most `capacity`, and the text after that line.
+// Each line so far was a frame, so their number is also that of the line before.
+#[tactic(auto, using(crate::proofs::CatalogLines::catalog_steps))]
+pub(crate) fn survey_catalog(text: &[u8], capacity: usize) -> Result<(usize, &[u8]), Refused>
+    ensures { MatchResult result (λ found. CatalogFound text.now capacity found.0 found.1.now) (CatalogRefused text.now capacity) }
 {
-    let mut at = start;
-    let mut line = first;
-    let mut count = 0usize;
-    while at < text.len() {
-        let end = line_end(text, at);
-        if !is_map_line(&text[at..end]) {
-            return MapLines::Refused {
-                number: 50,
-                place: line,
-            };
+    let mut rest = text;
+    let mut frames = 0usize;
+    while let Some((line, after)) = split_line(rest) {
+        if line.is_empty() {
+            return Ok((frames, after));
         }
-        let registers = (end - at) / WORD_DIGITS;
-        if capacity - count < registers {
-            return MapLines::Refused {
-                number: 52,
-                place: line,
-            };
-        }
-        count += registers;
-        line += 1;
-        at = end + 1;
+        frames += counted(is_catalog_line(line), 1, capacity - frames, frames + 1)?;
+        rest = after;
     }
-    MapLines::Registers(count)
+    Err(Refused {
+        refusal: Refusal::NoEmptyLine,
+        place: frames + 1,
+    })
 }
 
-// Stores `count` words, whose digits begin at position `start`, at the start of `out`. Line ends are only between words.
-pub(crate) fn store_words(text: &[u8], start: usize, count: usize, out: &mut [u16])
-    requires text_len { length (words_from count (drop start text.now)) ≡ count }
-    requires count_in_bounds { count ≤ length out.old }
-    ensures { out.new ≡ sets out.old 0 (words_from count (drop start text.now)) }
+// Checks the lines of the map, numbered from `first`, and gives the number of registers, at most `capacity`.
+#[tactic(auto, using(crate::proofs::MapLines::map_steps))]
+pub(crate) fn survey_map(text: &[u8], first: usize, capacity: usize) -> Result<usize, Refused>
+    requires { first + length text.now < 2 ^ 64 }
+    ensures { MatchResult result (λ count. RegistersFound (map_from first capacity (lines text.now)) capacity count (words [] [])) (λ r. map_from first capacity (lines text.now) ≡ to_spec_refused r) }
 {
-    let mut at = start;
-    let mut k = 0usize;
-    while k < count {
-        if text[at] == LINE_FEED {
-            at += 1;
-        } else {
-            out[k] = word_at(text, at);
-            k += 1;
-            at += WORD_DIGITS;
-        }
+    let mut rest = text;
+    let mut number = first;
+    let mut registers = 0usize;
+    while let Some((line, after)) = split_line(rest) {
+        registers += counted(
+            is_map_line(line),
+            line.len() / WORD_DIGITS,
+            capacity - registers,
+            number,
+        )?;
+        number += 1;
+        rest = after;
+    }
+    Ok(registers)
+}
+
+// The text without the LF that it may begin with.
+fn without_feed(text: &[u8]) -> &[u8]
+    ensures { result.now ≡ without_feed text.now }
+{
+    text.strip_prefix(b"\n").unwrap_or(text)
+}
+
+// Fills `out` with the words whose digits the text begins with. Line ends are only between words.
+#[tactic(auto, using(crate::proofs::WordRuns::four_fit))]
+pub(crate) fn store_words(text: &[u8], out: &mut [u16])
+    requires { length (words_from (length out.old) text.now) ≡ length out.old }
+    ensures { out.new ≡ words_from (length out.old) text.now }
+{
+    let mut rest = text;
+    for word in out {
+        let (digits, after) = without_feed(rest).split_first_chunk().unwrap();
+        *word = word_of(digits);
+        rest = after;
     }
 }

@@ -1,21 +1,24 @@
 -- `parse`: the surveys find what the text gives, and `store_words` stores it.
-use mathlib.Core.Path.{◌∙◌}
-use native.Mathlib.Omega.{arith}
+use Rattle.std.proofs.Common.{◌≡◌, ◌*◌, length, take, rules}
 use Rattle.input.proofs.ParsedLists.{catalog_count, map_count, catalog_stored, map_stored}
 use Rattle.input.proofs.parse.Goals as goal
 
-pub store_words-requires-clause-text_len : goal.store_words-requires-clause-text_len
-store_words-requires-clause-text_len c = catalog_count _ _ _ _ _ _ c.in-Frames.ensures.0 c.in-Registers.ensures
+pub store_words-requires : goal.store_words-requires
+store_words-requires c =
+    let n : length (take (c.in_ok-frames.frames * 8) c.args.catalog.now) ≡ c.in_ok-frames.frames * 8 = search rules in
+    rw n (catalog_count _ c.in_ok-frames.ensures.0 c.in_ok-registers.ensures)
 
-pub store_words-requires-in-Registers-clause-text_len : goal.store_words-requires-in-Registers-clause-text_len
-store_words-requires-in-Registers-clause-text_len c = map_count _ _ _ _ _ _ c.in-Frames.ensures.0 c.in-Registers.ensures
+pub store_words-requires-2 : goal.store_words-requires-2
+store_words-requires-2 c =
+    let n : length (take c.in_ok-registers.registers c.args.map.now) ≡ c.in_ok-registers.registers = search rules in
+    rw n (map_count _ c.in_ok-frames.ensures.0 c.in_ok-registers.ensures)
 
-pub returns-in-Registers-clause-catalog_after : goal.returns-in-Registers-clause-catalog_after
-returns-in-Registers-clause-catalog_after c =
-    let f = c.in-Frames.ensures.0 in
-    c.store_words.ensures ∙ catalog_stored _ _ _ _ _ _ f c.in-Registers.ensures c.args.catalog.now (omega (arith, f.fits))
+pub returns-clause-catalog_after : goal.returns-clause-catalog_after
+returns-clause-catalog_after c =
+    let n : length (take (c.in_ok-frames.frames * 8) c.args.catalog.now) ≡ c.in_ok-frames.frames * 8 = search rules in
+    rw (c.store_words.ensures, n) (catalog_stored _ c.in_ok-frames.ensures.0 c.in_ok-registers.ensures c.args.catalog.now)
 
-pub returns-in-Registers-clause-map_after : goal.returns-in-Registers-clause-map_after
-returns-in-Registers-clause-map_after c =
-    let g = c.in-Registers.ensures in
-    c.store_words-in-Registers.ensures ∙ map_stored _ _ _ _ _ _ c.in-Frames.ensures.0 g c.args.map.now g.fits
+pub returns-clause-map_after : goal.returns-clause-map_after
+returns-clause-map_after c =
+    let n : length (take c.in_ok-registers.registers c.args.map.now) ≡ c.in_ok-registers.registers = search rules in
+    rw (c.store_words-2.ensures, n) (map_stored _ c.in_ok-frames.ensures.0 c.in_ok-registers.ensures c.args.map.now)

@@ -1,17 +1,13 @@
 -- `survey_catalog`: the text gives the frames so far and what the lines left give.
-use Prim.Native.Nat.{◌+◌, ◌-◌, ◌*◌, ◌≤◌}
-use lib.ListN.{length, drop}
-use Rattle.input.specs.Lines.{lines}
-use Rattle.input.specs.Parsing.{catalog_from}
+use Prim.Native.Nat.{◌+◌, ◌≤◌}
+use lib.ListN.{length}
 use Rattle.input.specs.InternalContracts.{FramesFound}
+use Rattle.input.proofs.CatalogLines.{LeftIn}
 use Rattle.input.proofs.lines.survey_catalog.Given as goal
 
-abbrev pub invariant-loop-at : goal.invariant-loop-at
-invariant-loop-at l =
-    FramesFound l.text l.capacity l.count
-    (λ registers. catalog_from (l.count + 1) (l.capacity - l.count) registers (lines (drop l.at l.text)))
-    × (l.count * 2 ≤ l.at)
-    × (l.at ≤ length l.text + 1)
+abbrev pub invariant-loop-line : goal.invariant-loop-line
+invariant-loop-line l =
+    FramesFound l.text l.capacity l.frames (LeftIn l.rest l.capacity l.frames) × (l.frames + length l.rest ≤ length l.text)
 
-abbrev pub decreases-loop-at : goal.decreases-loop-at
-decreases-loop-at l = length l.text - l.at
+abbrev pub decreases-loop-line : goal.decreases-loop-line
+decreases-loop-line l = length l.rest

@@ -1,16 +1,16 @@
 -- `survey_map`: the lines give the registers so far and what the lines left give.
-use Prim.Native.Nat.{◌+◌, ◌-◌, ◌≤◌}
-use lib.ListN.{length, drop}
+use Prim.Native.Nat.{◌+◌, ◌≤◌}
+use lib.ListN.{length}
 use Rattle.input.specs.Lines.{lines}
 use Rattle.input.specs.Parsing.{map_from}
 use Rattle.input.specs.InternalContracts.{RegistersFound}
+use Rattle.input.proofs.MapLines.{LeftIn}
 use Rattle.input.proofs.lines.survey_map.Given as goal
 
-abbrev pub invariant-loop-at : goal.invariant-loop-at
-invariant-loop-at l =
-    RegistersFound (map_from l.first l.capacity (lines (drop l.start l.text))) l.capacity l.count
-    (map_from l.line (l.capacity - l.count) (lines (drop l.at l.text)))
-    × (l.line ≤ l.at + 1)
+abbrev pub invariant-loop-line : goal.invariant-loop-line
+invariant-loop-line l =
+    RegistersFound (map_from l.first l.capacity (lines l.text)) l.capacity l.registers (LeftIn l.rest l.number l.capacity l.registers)
+    × (l.number + length l.rest ≤ l.first + length l.text)
 
-abbrev pub decreases-loop-at : goal.decreases-loop-at
-decreases-loop-at l = length l.text - l.at
+abbrev pub decreases-loop-line : goal.decreases-loop-line
+decreases-loop-line l = length l.rest
