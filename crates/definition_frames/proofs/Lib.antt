@@ -1,2 +1,3 @@
 pub mod RunSteps
+pub mod GroupSteps
 pub mod PadTests

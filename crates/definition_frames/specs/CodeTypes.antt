@@ -1,23 +1,24 @@
 -- The code's types as the definitions see them: frames by kind, and runs of points.
-use Rattle.std.specs.Prelude.{◌≡◌, Bool, true, false, ◌&&◌, List, ℕ, ◌+◌, eqb, length}
+use Rattle.std.specs.Prelude as Code
+use Rattle.std.specs.Prelude.{◌≡◌, Bool, true, false, ◌&&◌, List, ℕ, ◌+◌, eqb, length, Some, None}
 use Rattle.std.proofs.Math.Option.{Option, none, some}
 use Rattle.catalog_frames.specs.Frames as Frames
 use Rattle.catalog_frames.specs.CodeTypes.{to_spec_head, to_spec_point}
 use Rattle.model_definitions.specs.Definitions.{points_size}
 use Rattle.layout.specs.Reading.{ends_with_pad}
-use Rattle.definition_frames.specs.declared.frames.PointOr.{PointOr}
-use Rattle.definition_frames.specs.declared.frames.GroupOr.{GroupOr}
+use Rattle.catalog_frames.specs.declared.Point.{Point}
+use Rattle.catalog_frames.specs.declared.Head.{Head}
 use Rattle.definition_frames.specs.declared.runs.Run.{Run}
 
--- The point of a point frame; none for any other frame.
-abbrev pub to_spec_point_or : PointOr → Option Frames.Point
-to_spec_point_or (PointOr.Point p) = some (to_spec_point p)
-to_spec_point_or PointOr.Other = none
+-- What `point_at` returns: the point of a point frame; none for any other frame.
+abbrev pub to_spec_point_or : Code.Option Point → Option Frames.Point
+to_spec_point_or (Some p) = some (to_spec_point p)
+to_spec_point_or None = none
 
--- The head of a group frame; none for any other frame.
-abbrev pub to_spec_group_or : GroupOr → Option Frames.Head
-to_spec_group_or (GroupOr.Group h) = some (to_spec_head h)
-to_spec_group_or GroupOr.Other = none
+-- What `group_at` returns: the head of a group frame; none for any other frame.
+abbrev pub to_spec_group_or : Code.Option Head → Option Frames.Head
+to_spec_group_or (Some h) = some (to_spec_head h)
+to_spec_group_or None = none
 
 -- A run of points: its registers, its number of points, the frame after it, and whether its last point is a pad.
 pub record PointRun : Type 0 where

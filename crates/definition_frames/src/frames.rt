@@ -5,68 +5,48 @@ ghost use Rattle.layout.specs.FrameWalk.{point_of, head_of, open_after, onward, 
 ghost use Rattle.definition_frames.specs.CodeTypes.{to_spec_point_or, to_spec_group_or};
 
 use catalog::{Frame, Head, Point, read_frame};
-
-// The point of a point frame, or any other frame.
-#[derive(Clone, Copy)]
-pub enum PointOr {
-    Point(Point),
-    Other,
-}
-
-// The head of a group frame, or any other frame.
-#[derive(Clone, Copy)]
-pub enum GroupOr {
-    Group(Head),
-    Other,
-}
+use catalog_frames::FRAME_WORDS;
 
 // The point of frame i, if it is a point frame.
-pub fn point_at(catalog: &[u16], i: usize) -> PointOr
+pub fn point_at(catalog: &[u16], i: usize) -> Option<Point>
     ensures { to_spec_point_or result ≡ point_of (frame_in catalog.now i) }
 {
-    let found = read_frame(catalog, i);
-    match found {
-        Frame::Model(_) => PointOr::Other,
-        Frame::Group(_) => PointOr::Other,
-        Frame::Point(point) => PointOr::Point(point),
-        Frame::End => PointOr::Other,
-        Frame::Malformed => PointOr::Other,
+    if let Some(Frame::Point(point)) = read_frame(catalog, i) {
+        Some(point)
+    } else {
+        None
     }
 }
 
 // The head of frame i, if it is a group frame.
-pub fn group_at(catalog: &[u16], i: usize) -> GroupOr
+pub fn group_at(catalog: &[u16], i: usize) -> Option<Head>
     ensures { to_spec_group_or result ≡ head_of (frame_in catalog.now i) }
 {
-    let frame = read_frame(catalog, i);
-    match frame {
-        Frame::Model(_) => GroupOr::Other,
-        Frame::Group(head) => GroupOr::Group(head),
-        Frame::Point(_) => GroupOr::Other,
-        Frame::End => GroupOr::Other,
-        Frame::Malformed => GroupOr::Other,
+    if let Some(Frame::Group(head)) = read_frame(catalog, i) {
+        Some(head)
+    } else {
+        None
     }
 }
 
 // The index of the frame after the group whose group frame is frame i. Where the frames end first, the number of
 // frames; where there is no frame i, i itself.
+#[tactic(auto, using(crate::proofs::GroupSteps::group_steps))]
 pub fn after_group(catalog: &[u16], i: usize) -> usize
     ensures { result ≡ i + frames_of_group (onward catalog.now i) }
 {
-    let frames = catalog.len() / 8;
+    let frames = catalog.len() / FRAME_WORDS;
     if frames <= i {
         return i;
     }
-    let mut at = i + 1;
-    let mut depth = 1usize;
-    while at < frames {
+    let mut depth = 1;
+    for at in i + 1..frames {
         if depth == 0 {
             return at;
         }
         depth = depth_after(catalog, at, depth);
-        at += 1;
     }
-    at
+    frames
 }
 
 // The number of groups that are open after the frame `at`, where `depth` are open before it.
@@ -74,12 +54,9 @@ fn depth_after(catalog: &[u16], at: usize, depth: usize) -> usize
     requires { (1 ≤ depth) × (depth ≤ length catalog.now / 8) }
     ensures { result ≡ open_after (frame_in catalog.now at) depth }
 {
-    let frame = read_frame(catalog, at);
-    match frame {
-        Frame::Model(_) => depth,
-        Frame::Group(_) => depth + 1,
-        Frame::Point(_) => depth,
-        Frame::End => depth - 1,
-        Frame::Malformed => depth,
+    match read_frame(catalog, at) {
+        Some(Frame::Group(_)) => depth + 1,
+        Some(Frame::End) => depth - 1,
+        _ => depth,
     }
 }

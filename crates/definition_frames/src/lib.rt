@@ -5,5 +5,5 @@
 mod frames;
 mod runs;
 
-pub use frames::{GroupOr, PointOr, after_group, group_at, point_at};
+pub use frames::{after_group, group_at, point_at};
 pub use runs::{Run, is_pad_left_out, run_extent};

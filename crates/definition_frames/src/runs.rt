@@ -5,14 +5,14 @@ ghost use Rattle.catalog.specs.Rules.{run};
 ghost use Rattle.layout.specs.FrameWalk.{head_of, onward};
 ghost use Rattle.definition_frames.specs.CodeTypes.{lacks_pad, to_spec_run, run_of};
 
-use crate::frames::{GroupOr, PointOr, group_at, point_at};
+use crate::frames::{group_at, point_at};
 use catalog::PAD;
 
 // The maximum number of frames in a catalog.
 const FRAMES: usize = 4096;
 
 // A run of points: its registers, its number of points, the frame after it, and whether its last point is a pad.
-#[derive(Clone, Copy)]
+#[derive(Clone, Copy, Debug, PartialEq, Eq)]
 pub struct Run {
     pub size: usize,
     pub points: usize,
@@ -24,35 +24,22 @@ pub struct Run {
 pub fn run_extent(catalog: &[u16], first: usize) -> Run
     ensures { to_spec_run result ≡ run_of (take 4096 (run (onward catalog.now first))) first }
 {
-    let mut size = 0usize;
-    let mut points = 0usize;
-    let mut ends_with_pad = false;
-    let mut i = first;
-    while points < FRAMES {
-        let next = point_at(catalog, i);
-        match next {
-            PointOr::Point(point) => {
-                size += point.size as usize;
-                ends_with_pad = point.type_code == PAD;
-                points += 1;
-                i += 1;
-            }
-            PointOr::Other => {
-                return Run {
-                    size,
-                    points,
-                    next: i,
-                    ends_with_pad,
-                };
-            }
-        }
+    let mut run = Run {
+        size: 0,
+        points: 0,
+        next: first,
+        ends_with_pad: false,
+    };
+    for _ in 0..FRAMES {
+        let Some(point) = point_at(catalog, run.next) else {
+            break;
+        };
+        run.size += point.size as usize;
+        run.points += 1;
+        run.next += 1;
+        run.ends_with_pad = point.type_code == PAD;
     }
-    Run {
-        size,
-        points,
-        next: i,
-        ends_with_pad,
-    }
+    run
 }
 
 // Is the last pad of a model left out? `run` is its top points. Only in model 1 without groups, where `length` is one
@@ -60,21 +47,8 @@ pub fn run_extent(catalog: &[u16], first: usize) -> Run
 pub fn is_pad_left_out(catalog: &[u16], id: u16, run: Run, length: usize) -> bool
     ensures { result ≡ lacks_pad id (to_spec_run run) (head_of (frame_in catalog.now run.next)) length }
 {
-    if id != 1 {
-        return false;
-    }
-    if !run.ends_with_pad {
-        return false;
-    }
-    if run.size <= length {
-        return false;
-    }
-    if run.size - length != 1 {
-        return false;
-    }
-    let next = group_at(catalog, run.next);
-    match next {
-        GroupOr::Group(_) => false,
-        GroupOr::Other => true,
-    }
+    id == 1
+        && run.ends_with_pad
+        && run.size.checked_sub(length) == Some(1)
+        && group_at(catalog, run.next).is_none()
 }

@@ -1,1 +1,2 @@
 pub mod FillCounts
+pub mod RecordSteps

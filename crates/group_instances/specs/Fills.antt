@@ -2,7 +2,7 @@
 -- size).
 use Rattle.std.specs.Prelude.{true, false, ℕ, ◌-◌, ◌/◌, ◌%◌, eqb, ltb}
 use Rattle.std.proofs.Math.Option.{Option, none, some}
-use Rattle.group_instances.specs.declared.counts.Fill.{Fill}
+use Rattle.std.specs.Prelude as Code
 
 -- The count of a fill group whose instances have `size` registers, in a model of `len` registers of which `rest` are outside
 -- the fill group; none where the length does not fit (29). Size 0 means that there is no fill group: the length must be the
@@ -18,6 +18,6 @@ filled len rest size =
     ]
 
 -- What `fill_count` returns.
-abbrev pub to_spec_fill : Fill → Option ℕ
-to_spec_fill (Fill.Count n) = some n
-to_spec_fill Fill.NoFit = none
+abbrev pub to_spec_fill : Code.Option ℕ → Option ℕ
+to_spec_fill (Code.Some n) = some n
+to_spec_fill Code.None = none

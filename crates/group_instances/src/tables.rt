@@ -5,7 +5,8 @@ ghost use Rattle.catalog.specs.Rules.{run};
 ghost use Rattle.layout.specs.FrameWalk.{onward};
 ghost use Rattle.layout.specs.PointTables.{table_with, present_within};
 
-use definition_frames::{PointOr, point_at};
+use catalog_frames::FRAME_WORDS;
+use definition_frames::point_at;
 
 // The length of a table with an entry for each number: a number is 16 bits.
 pub const NUMBERS: usize = 65536;
@@ -13,41 +14,35 @@ pub const NUMBERS: usize = 65536;
 // Records the first register of each point of an instance in the table. The points are the run of point frames from
 // frame `first` on, placed from `offset` in the body. Stops at the end of the body, so a pad that is left out is not
 // recorded; a number that the table lacks is skipped.
+#[tactic(auto, using(crate::proofs::RecordSteps::record_ends))]
 pub fn record_run(catalog: &[u16], first: usize, body: &[u16], offset: usize, table: &mut [u16])
     ensures { table.new
         ≡ table_with body.now offset
         (present_within (length body.now) offset (run (onward catalog.now first))) table.old }
 {
-    let mut i = first;
     let mut at = offset;
-    while at < body.len() {
-        let next = point_at(catalog, i);
-        match next {
-            PointOr::Point(point) => {
-                set_entry(table, point.number as usize, body[at]);
-                at += point.size as usize;
-                i += 1;
-            }
-            PointOr::Other => return,
-        }
+    for i in first..catalog.len() / FRAME_WORDS {
+        let (Some(register), Some(point)) = (body.get(at), point_at(catalog, i)) else {
+            return;
+        };
+        set_entry(table, point.number, *register);
+        at += point.size as usize;
     }
 }
 
 // Sets the entry of `number`, if the table has one.
-fn set_entry(table: &mut [u16], number: usize, register: u16)
+fn set_entry(table: &mut [u16], number: u16, register: u16)
     ensures { table.new ≡ set table.old number register }
 {
-    if number < table.len() {
-        table[number] = register;
+    let place = number as usize;
+    if place < table.len() {
+        table[place] = register;
     }
 }
 
 // The entry of `number`; 0 where the table has none.
-pub(crate) fn entry_of(table: &[u16], number: usize) -> u16
+pub(crate) fn entry_of(table: &[u16], number: u16) -> u16
     ensures { result ≡ get_or table.now number 0 }
 {
-    if table.len() <= number {
-        return 0;
-    }
-    table[number]
+    table.get(number as usize).copied().unwrap_or(0)
 }
