@@ -8,14 +8,13 @@ use native.Mathlib.Numerals.{add-one}
 use native.Mathlib.Omega.{arith}
 use borrow.Author.Tests.{eqb-true, eqb-false, leb-false, not-false}
 use lib.Dec.{eqb}
-use lib.ListN.{length, get_or, set, replicate, length-replicate}
+use lib.ListN.{length, get_or, set}
 use lib.Seq.{get_or-set_same, get_or-set_other}
 use Rattle.lists.specs.Members.{among}
 use Rattle.lists.specs.Tests.{first_broken}
 use Rattle.lists.proofs.TestOutcomes.{impossible, clash}
 use Rattle.lists.proofs.TestLaws.{none_broken, none_of, neither}
 use Rattle.number_sets.specs.NumberSets.{in_set, Marks, Blank}
-use Rattle.number_sets.proofs.SetLaws.{none_in}
 use Rattle.number_sets.proofs.MarkLaws.{now_in, now_out}
 use Rattle.catalog_frames.specs.Frames.{Point, Head, Frame, model_frame, group_frame, point_frame, end_frame, malformed, word, frame_at}
 use Rattle.catalog.specs.State as check
@@ -36,16 +35,15 @@ use Rattle.catalog.proofs.TrackedState.{state_by, word_here, kind_here}
 use Rattle.catalog.proofs.WordScans.{has_either, number_here, scope_more}
 
 -- Before the first frame.
-pub indexed_start : (ws : List ℕ)
-    → Indexed ws (replicate 1024 0) (replicate 1024 0) 0 0
-    code_start
+pub indexed_start : (ws numbers scales : List ℕ) (u : ℕ) → Blank numbers → Blank scales
+    → Indexed ws numbers scales u 0 code_start
 unfolding numbers_in runs_of
-indexed_start ws =
+indexed_start ws numbers scales u no_number no_scale =
     record {
-      number_words = length-replicate {A = ℕ} 1024 0;
-      scale_words = length-replicate {A = ℕ} 1024 0;
-      used = λ n h. none_in n h;
-      in_scope = λ n h. none_in n h;
+      number_words = no_number.size;
+      scale_words = no_scale.size;
+      used = no_number.none;
+      in_scope = no_scale.none;
       counted = λ h. absurd (omega (arith, h));
     }
 

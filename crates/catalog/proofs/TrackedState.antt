@@ -8,12 +8,11 @@ use native.Mathlib.Numerals.{add-one}
 use native.Mathlib.Omega.{arith}
 use borrow.Author.Tests.{eqb-true, leb-false, not-false}
 use lib.Dec.{eqb, leb}
-use lib.ListN.{length, get_or, set, length-set, replicate, length-replicate}
+use lib.ListN.{length, get_or, set, length-set}
 use lib.Seq.{get_or-set_same, get_or-set_other}
 use Rattle.lists.proofs.TestOutcomes.{impossible, clash}
 use Rattle.lists.proofs.TestLaws.{none_broken, neither}
-use Rattle.number_sets.specs.NumberSets.{Marks}
-use Rattle.number_sets.proofs.SetLaws.{none_in}
+use Rattle.number_sets.specs.NumberSets.{Marks, Blank}
 use Rattle.number_sets.proofs.MarkLaws.{now_in}
 use Rattle.catalog_frames.specs.Frames.{Point, Head, Frame, model_frame, group_frame, point_frame, end_frame, malformed, word, frame_at}
 use Rattle.catalog_frames.specs.Frames.{words_of, fill}
@@ -37,16 +36,14 @@ first_alone n b h (suc (suc (suc zero))) = omega arith
 first_alone n b h (suc (suc (suc (suc k)))) = omega arith
 
 -- Before the first frame.
-pub tracks_start : (ws : List ℕ)
-    → Tracks ws (replicate 1024 0) 0
-    code_start start
+pub tracks_start : (ws used : List ℕ) → Blank used → Tracks ws used 0 code_start start
 unfolding numbers_in
-tracks_start ws =
+tracks_start ws used blank =
     record {
       within = record { few = omega arith; deep = omega arith; four = refl; passed = first_alone 0 0 (omega arith) };
       models = refl;
-      words = length-replicate {A = ℕ} 1024 0;
-      ids = λ n h. none_in n h;
+      words = blank.size;
+      ids = blank.none;
       depth = refl;
       numbers = λ h. absurd (omega (arith, h));
       has_fill = refl;

@@ -1,8 +1,10 @@
 -- The result of `check` in the terms of the definitions.
+use Rattle.std.specs.Prelude.{ℕ, Result, Ok, Err}
+use Rattle.refusals.specs.Refusals.{number}
+use Rattle.refusals.specs.declared.Refused.{Refused}
 use Rattle.catalog.specs.Checking as Checking
-use Rattle.catalog.specs.declared.Checked.{Checked}
 
--- The code's `Checked` as the definition's `Verdict`.
-abbrev pub to_spec_checked : Checked → Checking.Verdict
-to_spec_checked (Checked.Models n) = Checking.accepted n
-to_spec_checked (Checked.Refused number place) = Checking.refused number place
+-- The code's result as the definition's `Verdict`.
+abbrev pub to_spec_checked : Result ℕ Refused → Checking.Verdict
+to_spec_checked (Ok n) = Checking.accepted n
+to_spec_checked (Err r) = Checking.refused (number r.refusal) r.place

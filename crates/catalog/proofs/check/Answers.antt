@@ -5,12 +5,13 @@ use Rattle.catalog.proofs.CheckSteps as steps
 use Rattle.catalog.proofs.check.Goals as goal
 
 pub returns-then-catalog-ne0 : goal.returns-then-catalog-ne0
-returns-then-catalog-ne0 c = sym (steps.not_whole_lem c.args.catalog.now c.if-catalog-ne0.true)
+returns-then-catalog-ne0 c = rw c.into.ensures (sym (steps.not_whole_lem c.args.catalog.now c.if-catalog-ne0.true))
 
 pub returns-then-catalog-gt-FRAMES : goal.returns-then-catalog-gt-FRAMES
 returns-then-catalog-gt-FRAMES c =
     let ws = c.args.catalog.now in
-    sym (steps.too_many ws c.if-catalog-ne0.false (omega (arith, c.if-catalog-gt-FRAMES.true)))
+    rw c.into-then-catalog-gt-FRAMES.ensures
+    (sym (steps.too_many ws c.if-catalog-ne0.false (omega (arith, c.if-catalog-gt-FRAMES.true))))
 
 pub returns : goal.returns
 returns c =

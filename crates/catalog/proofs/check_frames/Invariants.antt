@@ -1,10 +1,6 @@
 -- `catalog::check_frames` meets its contract: at each frame, checking the remaining frames gives the result for the whole.
-use Prim.Native.Nat.{◌-◌, ◌≤◌}
 use Rattle.catalog.proofs.CheckedFrame as frame
 use Rattle.catalog.proofs.check_frames.Given as goal
 
 abbrev pub invariant-loop-i : goal.invariant-loop-i
-invariant-loop-i l = (l.i ≤ l.frames) × frame.Holds l.catalog l.ids l.numbers l.scales l.uncounted l.i l.state
-
-abbrev pub decreases-loop-i : goal.decreases-loop-i
-decreases-loop-i l = l.frames - l.i
+invariant-loop-i l = frame.Holds l.catalog l.ids l.numbers l.scales l.uncounted l.i l.state

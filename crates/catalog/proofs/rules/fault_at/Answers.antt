@@ -14,32 +14,32 @@ use Rattle.catalog.proofs.MarkedRules as marked
 use borrow.Author.Rules.{rules}
 use Rattle.catalog.proofs.rules.fault_at.Goals as goal
 
-pub returns-in-Model : goal.returns-in-Model
-returns-in-Model c =
-    let f = c.in-Model.ensures ∙ frame_within _ _ c.requires.i_in_bounds in
+pub returns-in-Some-Model : goal.returns-in-Some-Model
+returns-in-Some-Model c =
+    let f = rw c.in-Some-Model.field-0-is at c.in-Some-Model.ensures ∙ frame_within _ _ c.requires.i_in_bounds in
     record { result_value = rw (← f) c.model_fault.ensures; id_fits = rw (← f) (search rules) }
 
-pub returns-in-Group : goal.returns-in-Group
-returns-in-Group c =
-    let f = c.in-Group.ensures ∙ frame_within _ _ c.requires.i_in_bounds in
-    let head = c.in-Group.head in
+pub returns-in-Some-Group : goal.returns-in-Some-Group
+returns-in-Some-Group c =
+    let f = rw c.in-Some-Group.field-0-is at c.in-Some-Group.ensures ∙ frame_within _ _ c.requires.i_in_bounds in
+    let head = c.in-Some-Group.head in
     let fits : (head.number < 65536) × (head.count < 65536) = search rules in
     let same = marked.group_tested _ _ _ _ _ _ c.requires.indexed c.requires.i_in_bounds _ f fits.1 fits.0 in
     record { result_value = rw (← f) (c.group_fault.ensures ∙ same); id_fits = rw (← f) fits }
 
-pub returns-in-Point : goal.returns-in-Point
-returns-in-Point c =
-    let f = c.in-Point.ensures ∙ frame_within _ _ c.requires.i_in_bounds in
-    let point = to_spec_point c.in-Point.point in
+pub returns-in-Some-Point : goal.returns-in-Some-Point
+returns-in-Some-Point c =
+    let f = rw c.in-Some-Point.field-0-is at c.in-Some-Point.ensures ∙ frame_within _ _ c.requires.i_in_bounds in
+    let point = to_spec_point c.in-Some-Point.point in
     let fits : (point.number < 65536) × (point.scale < 65536) = search rules in
     let same = ap first_broken (marked.point_tested _ _ _ _ _ _ c.requires.indexed point fits.0 fits.1) in
     record { result_value = rw (← f) (c.point_fault.ensures ∙ same); id_fits = rw (← f) fits }
 
-pub returns-in-End : goal.returns-in-End
-returns-in-End c =
+pub returns-in-Some-End : goal.returns-in-Some-End
+returns-in-Some-End c =
     let ws = c.args.catalog.now in
     let state = c.args.state in
-    let f = c.in-End.ensures ∙ frame_within _ _ c.requires.i_in_bounds in
+    let f = rw c.in-Some-End.field-0-is at c.in-Some-End.ensures ∙ frame_within _ _ c.requires.i_in_bounds in
     let first = c.innermost in
     let inside = c.requires.within.passed (state.depth - 1) in
     let read = ap (λ k. not (eqb k 3)) c.word_of.ensures in
@@ -50,7 +50,7 @@ returns-in-End c =
       id_fits = rw (← f) tt;
     }
 
-pub returns-in-Malformed : goal.returns-in-Malformed
-returns-in-Malformed c =
-    let f = c.in-Malformed.ensures ∙ frame_within _ _ c.requires.i_in_bounds in
+pub returns-in-None : goal.returns-in-None
+returns-in-None c =
+    let f = c.in-None.ensures ∙ frame_within _ _ c.requires.i_in_bounds in
     record { result_value = rw (← f); id_fits = rw (← f) tt }

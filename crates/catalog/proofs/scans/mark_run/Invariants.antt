@@ -1,6 +1,6 @@
 -- `catalog::scans::mark_run` meets its contract: the rest of the run is still to be marked.
 use mathlib.Core.List.{List}
-use Prim.Native.Nat.{ℕ, ◌-◌}
+use Prim.Native.Nat.{ℕ}
 use Rattle.number_sets.specs.NumberSets.{Marks}
 use Rattle.catalog.specs.InternalMarks.{in_run}
 use Rattle.catalog.proofs.scans.mark_run.Given as goal
@@ -9,6 +9,3 @@ abbrev pub invariant-loop-j : goal.invariant-loop-j
 invariant-loop-j l =
     (after : List ℕ) → Marks l.set after (in_run l.catalog l.j l.target) l.present
     → Marks l.initial.set after (in_run l.catalog l.from l.target) l.present
-
-abbrev pub decreases-loop-j : goal.decreases-loop-j
-decreases-loop-j l = l.frames - l.j

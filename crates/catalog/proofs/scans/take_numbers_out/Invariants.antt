@@ -11,6 +11,3 @@ invariant-loop-j l =
     (l.first ≤ l.j)
     × (l.j ≤ l.end)
     × Marks l.initial.numbers l.numbers (λ n. among n (numbers_in l.catalog l.first (l.j - l.first))) false
-
-abbrev pub decreases-loop-j : goal.decreases-loop-j
-decreases-loop-j l = l.end - l.j
