@@ -55,6 +55,7 @@ pub fn show(point: Point, registers: &[u16], scale_register: u16) -> Shown
 
 // The class of a point's registers. A type of more than four registers is unimplemented if all are 0, and has a value
 // otherwise, so 0 or 1 replaces the raw value, which may not fit 64 bits.
+#[tactic(auto, unfolding(crate::specs::CodeTypes::registers_class, registers::specs::Registers::shown_raw))]
 fn class_of(point: Point, registers: &[u16]) -> Result<Class, Unclassified>
     ensures { to_spec_classified result ≡ registers_class (to_spec_point point) registers.now }
 {
