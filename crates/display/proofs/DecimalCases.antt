@@ -10,13 +10,12 @@ use lib.IntN.{ℤ}
 use Rattle.point_types.specs.Presence.{Presence}
 use Rattle.display.specs.Amounts.{amount_of}
 use Rattle.display.specs.Decimals.{decimal_point, last_digits, digits_of, sign, unsigned_text, text, decimal_of}
-use Rattle.display.specs.InternalParts.{TenAtMost, parts_text}
+use Rattle.display.specs.InternalParts.{IsAmount, TenAtMost, parts_text}
 use Rattle.display.specs.declared.quantities.ScaledNumber.{ScaledNumber}
-use Rattle.display.proofs.AmountCases.{WasAmount}
 
 -- The text, if the buffer is long enough.
 pub long_buffer : (code : ℕ) (presence : Presence) (raw : ℕ) (scale : ℤ) (capacity : ℕ) (parts : ScaledNumber)
-    → WasAmount (amount_of code presence raw scale) parts → 32 ≤ capacity → decimal_of code presence raw scale capacity ≡ text (parts_text parts)
+    → IsAmount (amount_of code presence raw scale) parts → 32 ≤ capacity → decimal_of code presence raw scale capacity ≡ text (parts_text parts)
 unfolding decimal_of
 long_buffer code presence raw scale capacity parts was h =
     simp (decimal_of, was.is, le-ltb _ _ h) (ap (λ (p : ScaledNumber). text (parts_text p)) (sym was.form))

@@ -69,6 +69,11 @@ within (suc steps) n h = go (ltb n 10) refl (λ l. within steps (n / 10) l)
 pub count : (n : ℕ) → CountOf n (digit_count n)
 count n = within n n (omega arith)
 
+-- The first power of ten above n gives the number of its digits.
+pub first_above : (n k : ℕ) → 1 ≤ k → (1 < k → 10 ^ (k - 1) ≤ n) → n < 10 ^ k → k ≡ digit_count n
+first_above n k some no_fewer enough =
+    unique n k (digit_count n) (record { some = some; enough = enough; no_fewer = no_fewer }) (count n)
+
 -- The definition's two cases, without a bound on its steps.
 pub one_digit : (n : ℕ) → n < 10 → digit_count n ≡ 1
 one_digit n h = unique n (digit_count n) 1 (count n) (under_ten n h)

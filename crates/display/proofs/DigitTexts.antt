@@ -1,18 +1,18 @@
 -- Digits as text: storing them one by one, and appending zeros.
 use mathlib.Core.Path.{◌≡◌, refl, sym, ap, ◌∙◌}
-use mathlib.Core.List.{List, ◌∷◌, ◌++◌}
+use mathlib.Core.List.{List, [], ◌∷◌, ◌++◌}
 use Prim.Native.Nat.{ℕ, zero, suc, ◌+◌, ◌-◌, ◌*◌, ◌^◌, ◌≤◌, ◌<◌}
 use native.Mathlib.Nat.{add-zero, add-suc, zero-mul, mul_assoc, zero-div, div-div-eq-div-mul, mul-div_cancel, mul-mod_left, pow-suc}
-use native.Mathlib.Numerals.{add-one}
 use native.Mathlib.Omega.{arith}
 use lib.ListN.{length, take, set, replicate}
 use lib.Pow.{pow-add}
 use lib.Seq.{sets, take_at}
+use Rattle.std.proofs.lemmas.List.{set_comm}
 use Rattle.display.specs.Decimals.{digit_zero, digit_at, last_digits, digit_count, digits_of}
 use Rattle.display.specs.CodeTypes.{to_code_digits}
 use Rattle.display.specs.declared.Digits.{Digits}
 use Rattle.display.proofs.PowersOfTen.{positive}
-use Rattle.display.proofs.DigitCount.{appended, one_digit}
+use Rattle.display.proofs.DigitCount.{appended}
 
 pub digits_length : (k n : ℕ) → length (last_digits k n) ≡ k
 unfolding last_digits
@@ -24,14 +24,17 @@ number_length n = digits_length (digit_count n) n
 
 -- ---- Storing
 
--- Storing the first of the digits left leaves one fewer to store.
-pub store_digit : (out : List ℕ) (i left n digit : ℕ) → 0 < left → digit ≡ digit_at n (left - 1)
-    → sets (set out i digit) (i + 1) (last_digits (left - 1) n) ≡ sets out i (last_digits left n)
+-- A store before a text is the same before or after it.
+set_before : (out xs : List ℕ) (i j x : ℕ) → i < j → set (sets out j xs) i x ≡ sets (set out i x) j xs
+set_before out [] i j x h = refl
+set_before out (y ∷ ys) i j x h =
+    set_before (set out j y) ys i (suc j) x (omega arith)
+    ∙ ap (λ (l : List ℕ). sets l (suc j) ys) (set_comm out j i y x (λ e. omega (arith, e)))
+
+-- Storing the digit before the last k of n gives the last k + 1 of them.
+pub store_digit : (out : List ℕ) (i k n : ℕ) → set (sets out (suc i) (last_digits k n)) i (digit_at n k) ≡ sets out i (last_digits (suc k) n)
 unfolding last_digits
-store_digit out i zero n digit h e = absurd (omega arith)
-store_digit out i (suc k) n digit h e =
-    let s : suc k - 1 ≡ k = omega arith in
-    rw (e, s, add-one i)
+store_digit out i k n = set_before out (last_digits k n) i (suc i) (digit_at n k) (omega arith)
 
 -- The digits, cut out of the result of `digits_of`.
 pub digits_cut : (d : Digits) (n : ℕ) → d ≡ to_code_digits n → take d.count d.bytes ≡ digits_of n
@@ -77,8 +80,6 @@ zeros_appended n k (suc j) =
 pub appended_zeros : (n k : ℕ) → 1 ≤ n → digits_of (n * 10 ^ k) ≡ digits_of n ++ last_digits k 0
 appended_zeros n k h = ap (λ (c : ℕ). last_digits c (n * 10 ^ k)) (appended n k h) ∙ zeros_appended n k (digit_count n)
 
--- Zero is one digit, whatever number of zeros is appended.
-pub zero_text : (n k : ℕ) → n ≡ 0 → digits_of (n * 10 ^ k) ≡ last_digits 1 0
-zero_text n k e =
-    let z : n * 10 ^ k ≡ 0 = rw e (zero-mul (10 ^ k)) in
-    ap digits_of z ∙ ap (λ (c : ℕ). last_digits c 0) (one_digit 0 (omega arith))
+-- Zeros appended to zero are none.
+pub zero_text : (n k : ℕ) → n ≡ 0 → digits_of n ≡ digits_of (n * 10 ^ k)
+zero_text n k e = rw e (sym (ap digits_of (zero-mul (10 ^ k))))

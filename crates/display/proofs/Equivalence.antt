@@ -7,8 +7,7 @@ use lib.IntN.{ℤ, pos, negsuc, ◌*ℤ◌}
 use Rattle.display.specs.Amounts.{Amount, amount, refused, places, Fraction, fraction_of}
 use Rattle.display.specs.Equality.{is_same_integer, is_same_fraction, equal_if, equal, equality, Accepted, SameNumber}
 use Rattle.display.proofs.PowersOfTen.{positive}
-use Rattle.display.proofs.Multiples.{same_test}
-use Rattle.display.proofs.ScaledIntegers.{swap, cancel, same_integer, integer_same}
+use Rattle.display.proofs.ScaledIntegers.{same_test, swap, cancel, same_integer, integer_same}
 
 is_equal : (b : Bool) → equal_if b ≡ equal → b ≡ true
 is_equal true e = refl

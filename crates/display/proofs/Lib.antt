@@ -15,7 +15,6 @@ pub mod DecimalCases
 pub mod ReadingBack
 pub mod ScaleFactors
 pub mod AmountCases
-pub mod Multiples
 pub mod ScaledIntegers
 pub mod SameAmount
 pub mod EqualityCases

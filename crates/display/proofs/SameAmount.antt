@@ -1,20 +1,16 @@
 -- The code's comparison by parts is the definition's cross-multiplication.
 use mathlib.Core.Path.{◌≡◌, sym, ap, ◌∙◌}
-use mathlib.Core.Bool.{true, false, not, beq}
 use Prim.Native.Nat.{ℕ, ◌+◌, ◌-◌, ◌*◌, ◌^◌, ◌≤◌}
 use native.Mathlib.Nat.{mul_assoc}
 use native.Mathlib.Omega.{arith}
-use borrow.Author.Tests.{not-true, not-false}
 use lib.Dec.{eqb}
 use lib.IntN.{ℤ, pos, ◌*ℤ◌}
 use lib.Pow.{pow-add}
 use Rattle.display.specs.Amounts.{fraction_of, zeros, places}
 use Rattle.display.specs.Equality.{is_same_integer, is_same_fraction}
 use Rattle.display.specs.InternalParts.{to_code_parts, is_same_by_parts}
-use Rattle.display.specs.declared.quantities.ScaledNumber.{ScaledNumber}
 use Rattle.display.proofs.PowersOfTen.{positive}
-use Rattle.display.proofs.Multiples.{same_test}
-use Rattle.display.proofs.ScaledIntegers.{factor_cancels, twice, same_product}
+use Rattle.display.proofs.ScaledIntegers.{same_test, factor_cancels, twice, same_product}
 
 -- z × 10 ^ i × 10 ^ j is z × 10 ^ (i + j).
 both_powers : (z : ℤ) (i j : ℕ) → z *ℤ pos (10 ^ i) *ℤ pos (10 ^ j) ≡ z *ℤ pos (10 ^ (i + j))
@@ -47,14 +43,3 @@ module _ (m n up down : ℕ) where
       shared_power n m (down - up) up
       ∙ ap (λ (k : ℕ). eqb (n * 10 ^ k) (m * 10 ^ up)) e
       ∙ same_test (n * 10 ^ down) (m * 10 ^ up) (m * 10 ^ up) (n * 10 ^ down) sym sym
-
--- The code's two cases: the signs differ, or they agree.
-module _ (x y : ScaledNumber) where
-  pub signs_differ : not (beq x.negative y.negative) ≡ true → false ≡ is_same_by_parts x y
-  unfolding is_same_by_parts
-  signs_differ e = simp (is_same_by_parts, not-true (beq x.negative y.negative) e)
-
-  pub signs_agree : not (beq x.negative y.negative) ≡ false
-      → eqb (x.magnitude * 10 ^ (x.zeros + y.places)) (y.magnitude * 10 ^ (y.zeros + x.places)) ≡ is_same_by_parts x y
-  unfolding is_same_by_parts
-  signs_agree e = simp (is_same_by_parts, not-false (beq x.negative y.negative) e)

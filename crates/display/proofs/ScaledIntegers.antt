@@ -1,16 +1,23 @@
 -- Laws of integers times positive factors: the factors can be swapped and cancelled, and two products are equal if signs and
 -- magnitudes agree.
 use mathlib.Core.Path.{◌≡◌, refl, sym, ap, ◌∙◌}
-use mathlib.Core.Bool.{true, not, ◌&&◌, beq}
+use mathlib.Core.Bool.{Bool, true, false, not, ◌&&◌, beq}
 use Prim.Native.Nat.{ℕ, zero, suc, ◌-◌, ◌*◌, ◌<◌}
 use native.Mathlib.Nat.{mul_assoc, mul_comm, mul-lt-mul_of_pos_right, eq_of_mul-eq-mul_left}
 use native.Mathlib.Omega.{arith}
-use borrow.Author.Tests.{eqb-true, eq-eqb}
+use borrow.Author.Tests.{eqb-true, eqb-false, eq-eqb, ne_eqb}
 use lib.Dec.{eqb}
 use lib.IntN.{ℤ, pos, negsuc, neg_ℤ, nat_abs, ◌*ℤ◌}
 use lib.Signed.{non_neg}
 use Rattle.display.specs.Equality.{is_same_integer}
-use Rattle.display.proofs.Multiples.{same_test}
+
+-- Two tests for equality agree if each equation follows from the other.
+pub same_test : (a b c d : ℕ) → (a ≡ b → c ≡ d) → (c ≡ d → a ≡ b) → eqb a b ≡ eqb c d
+same_test a b c d f g = go (eqb a b) refl
+  where
+    go : (t : Bool) → eqb a b ≡ t → t ≡ eqb c d
+    go true e = sym (eq-eqb c d (f (eqb-true a b e)))
+    go false e = sym (ne_eqb c d (λ q. eqb-false a b e (g q)))
 
 -- The negation of a number that is not 0.
 minus_some : (n : ℕ) → 0 < n → neg_ℤ (pos n) ≡ negsuc (n - 1)

@@ -1,14 +1,14 @@
 -- What the code's types stand for: the arguments and results of the public calls in document 01's terms.
-use Rattle.std.specs.Prelude.{List, ◌++◌, ℕ, ◌-◌, ◌≤◌, ℤ, length, replicate}
+use Rattle.std.specs.Prelude.{Bool, List, ◌++◌, ℕ, ◌-◌, ℤ, length, replicate, Result, Ok, Err}
+use Rattle.refusals.specs.Refusals.{number}
+use Rattle.refusals.specs.declared.Refusal.{Refusal}
 use Rattle.point_types.specs.Presence.{Presence}
 use Rattle.point_types.specs.CodeTypes.{to_spec_presence}
 use Rattle.values.specs.Classes.{twos_complement}
 use Rattle.display.specs.Amounts as Amounts
 use Rattle.display.specs.Decimals as Decimals
 use Rattle.display.specs.Equality as Equality
-use Rattle.display.specs.declared.DecimalText.{DecimalText}
 use Rattle.display.specs.declared.Digits.{Digits}
-use Rattle.display.specs.declared.Equality as declared
 use Rattle.display.specs.declared.Quantity.{Quantity}
 
 -- The scale factor in a register: two's complement.
@@ -34,15 +34,9 @@ length_of (Decimals.text t) = bytes (length t)
 length_of (Decimals.Decimal.refused n place) = Length.refused n place
 
 -- The code's result of `decimal`. A refusal is at place 0.
-abbrev pub to_spec_decimal : DecimalText → Length
-to_spec_decimal (DecimalText.Length n) = bytes n
-to_spec_decimal (DecimalText.Refused n) = Length.refused n 0
-
--- The returned length is at most the buffer's, so that a caller may cut the text out of the buffer. (`stored` says what the buffer
--- contains.)
-abbrev pub LengthFits : List ℕ → DecimalText → Type 0
-LengthFits buffer (DecimalText.Length n) = n ≤ length buffer
-LengthFits buffer (DecimalText.Refused n) = Unit {0}
+abbrev pub to_spec_decimal : Result ℕ Refusal → Length
+to_spec_decimal (Ok n) = bytes n
+to_spec_decimal (Err refusal) = Length.refused (number refusal) 0
 
 -- The result of `digits_of`: the digits, followed by zero bytes, and the number of digits.
 abbrev pub to_code_digits : ℕ → Digits
@@ -53,7 +47,6 @@ to_code_digits n =
     }
 
 -- The result of `equal_quantities`. A refusal is at place 0.
-abbrev pub to_spec_equality : declared.Equality → Equality.Equality
-to_spec_equality declared.Equality.Equal = Equality.equal
-to_spec_equality declared.Equality.Different = Equality.different
-to_spec_equality (declared.Equality.Refused n) = Equality.Equality.refused n 0
+abbrev pub to_spec_equality : Result Bool Refusal → Equality.Equality
+to_spec_equality (Ok same) = Equality.equal_if same
+to_spec_equality (Err refusal) = Equality.Equality.refused (number refusal) 0

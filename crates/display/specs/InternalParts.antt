@@ -6,7 +6,6 @@ use Rattle.std.specs.Int.Signed.{non_neg}
 use Rattle.display.specs.Amounts as Amounts
 use Rattle.display.specs.Decimals.{sign, unsigned_text}
 use Rattle.display.specs.declared.quantities.ScaledNumber.{ScaledNumber}
-use Rattle.display.specs.declared.quantities.Accepted.{Accepted}
 
 -- An amount's sign and magnitude, and its scale factor as zeros or places. Zero is never negative.
 abbrev pub to_code_parts : ℤ → ℤ → ScaledNumber
@@ -18,10 +17,12 @@ to_code_parts value scale =
       places = Amounts.places scale;
     }
 
--- What `accept` returns for an amount or a refusal. (The place is 0 in every refusal of a quantity.)
-abbrev pub to_code_accepted : Amounts.Amount → Accepted
-to_code_accepted (Amounts.amount value scale) = Accepted.Of (to_code_parts value scale)
-to_code_accepted (Amounts.refused n place) = Accepted.Refused n
+-- The amount is a value and a scale factor, and these are its parts.
+pub record IsAmount (a : Amounts.Amount) (parts : ScaledNumber) : Type 0 where
+  pub value : ℤ
+  pub scale : ℤ
+  pub is : a ≡ Amounts.amount value scale
+  pub form : parts ≡ to_code_parts value scale
 
 -- At most ten zeros or ten places, and not both.
 pub record TenAtMost (zeros places : ℕ) : Type 0 where

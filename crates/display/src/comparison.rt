@@ -1,64 +1,45 @@
 // Whether two quantities are the same amount.
 ghost use Rattle.std.specs.Prelude.{◌≡◌, ◌*◌, ◌^◌, eqb};
-ghost use Rattle.display.specs.Equality.{equal_if, equality};
+ghost use Rattle.display.specs.Equality.{equality};
 ghost use Rattle.display.specs.CodeTypes.{quantity_amount, to_spec_equality};
 ghost use Rattle.display.specs.InternalParts.{TenAtMost, is_same_by_parts};
 
-use crate::powers::{POWERS, power_of_ten};
-use crate::quantities::{Accepted, ScaledNumber, accept};
-use crate::{Equality, Quantity};
+use crate::Quantity;
+use crate::quantities::{ScaledNumber, accept};
+use refusals::Refusal;
 
 // Is value × 10 ^ scale the same number for both? The first quantity's refusal comes before the second's.
-pub fn equal_quantities(a: Quantity, b: Quantity) -> Equality
+#[tactic(auto, using(crate::proofs::AmountCases::parts_within, crate::proofs::EqualityCases::both_accepted), unfolding(crate::specs::Equality::equality))]
+pub fn equal_quantities(a: Quantity, b: Quantity) -> Result<bool, Refusal>
     ensures { to_spec_equality result ≡ equality (quantity_amount a) (quantity_amount b) }
 {
-    let first = accept(a);
-    let second = accept(b);
-    match first {
-        Accepted::Refused { number } => Equality::Refused { number },
-        Accepted::Of(x) => match second {
-            Accepted::Refused { number } => Equality::Refused { number },
-            Accepted::Of(y) => equal_if(is_same(x, y)),
-        },
-    }
-}
-
-// The result for two quantities that are accepted.
-fn equal_if(same: bool) -> Equality
-    ensures { to_spec_equality result ≡ equal_if same }
-{
-    if same {
-        return Equality::Equal;
-    }
-    Equality::Different
+    let x = accept(a)?;
+    let y = accept(b)?;
+    Ok(is_same(x, y))
 }
 
 // The same sign, and the same magnitude at a common scale.
+#[tactic(auto, using(crate::proofs::SameAmount::first_larger, crate::proofs::SameAmount::second_larger), unfolding(crate::specs::InternalParts::is_same_by_parts))]
 fn is_same(x: ScaledNumber, y: ScaledNumber) -> bool
     requires { TenAtMost x.zeros x.places × TenAtMost y.zeros y.places }
     ensures { result ≡ is_same_by_parts x y }
 {
-    if x.negative != y.negative {
-        return false;
-    }
     let up = x.zeros + y.places;
     let down = y.zeros + x.places;
-    if down <= up {
-        return is_shifted(x.magnitude, up - down, y.magnitude);
-    }
-    is_shifted(y.magnitude, down - up, x.magnitude)
+    x.negative == y.negative
+        && if down <= up {
+            is_shifted(x.magnitude, up - down, y.magnitude)
+        } else {
+            is_shifted(y.magnitude, down - up, x.magnitude)
+        }
 }
 
-// Is m = n × 10 ^ k? By division: the product may need more than 64 bits.
-fn is_shifted(n: u64, k: usize, m: u64) -> bool
+// Is m = n × 10 ^ k? The power and the product may need more than 64 bits.
+fn is_shifted(n: u64, k: u32, m: u64) -> bool
     ensures { result ≡ eqb (n * 10 ^ k) m }
 {
-    if POWERS <= k {
-        return n == 0 && m == 0;
+    match 10u64.checked_pow(k) {
+        Some(power) => n.checked_mul(power) == Some(m),
+        None => n == 0 && m == 0,
     }
-    let power = power_of_ten(k);
-    if m % power != 0 {
-        return false;
-    }
-    m / power == n
 }

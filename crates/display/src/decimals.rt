@@ -1,45 +1,42 @@
 // Exact decimal text.
-ghost use Rattle.std.specs.Prelude.{◌≡◌, ◌+◌, ◌*◌, ◌^◌, ◌≤◌, ◌<◌, length};
+ghost use Rattle.std.specs.Prelude.{◌≡◌, ◌+◌, ◌*◌, ◌^◌, ◌≤◌, ◌<◌, length, IfOk};
 ghost use Rattle.point_types.specs.CodeTypes.{to_spec_presence};
-ghost use Rattle.display.specs.Decimals.{digit_at, last_digits, digit_count, digits_of, sign, unsigned_text, stored};
-ghost use Rattle.display.specs.CodeTypes.{decimal_into, length_of, to_spec_decimal, LengthFits, to_code_digits};
+ghost use Rattle.display.specs.Decimals.{last_digits, digit_count, digits_of, sign, unsigned_text, stored};
+ghost use Rattle.display.specs.CodeTypes.{decimal_into, length_of, to_spec_decimal, to_code_digits};
 ghost use Rattle.display.specs.InternalParts.{TenAtMost, parts_text, Put};
 
 use crate::powers::{POWERS, power_of_ten};
-use crate::quantities::{Accepted, ScaledNumber, accept};
-use crate::{DecimalText, Digits, MOST_DIGITS, Presence, Quantity};
+use crate::quantities::{ScaledNumber, accept};
+use crate::{Digits, MOST_DIGITS, Presence, Quantity};
+use refusals::Refusal;
 
 // The least length of a buffer, whatever the text.
 const LEAST_BUFFER: usize = 32;
 
 // Writes value × 10 ^ scale, exact, at the start of `out`, and returns the length of the text. On a refusal it
 // writes nothing.
+#[tactic(auto, using(crate::proofs::AmountCases::parts_within, crate::proofs::DecimalCases::long_buffer), unfolding(crate::specs::Decimals::decimal_of))]
 pub fn decimal(
     type_code: u16,
     presence: Presence,
     raw: u64,
     scale: u16,
     out: &mut [u8],
-) -> DecimalText
+) -> Result<usize, Refusal>
     ensures result_value { to_spec_decimal result ≡ length_of (decimal_into type_code (to_spec_presence presence) raw scale out.old) }
     ensures out_after { out.new ≡ stored (decimal_into type_code (to_spec_presence presence) raw scale out.old) out.old }
-    ensures length_fits { LengthFits out.new result }
+    ensures length_fits { IfOk result (λ n. n ≤ length out.new) }
 {
-    let accepted = accept(Quantity {
+    let amount = accept(Quantity {
         type_code,
         presence,
         raw,
         scale,
-    });
-    match accepted {
-        Accepted::Refused { number } => DecimalText::Refused { number },
-        Accepted::Of(amount) => {
-            if out.len() < LEAST_BUFFER {
-                return DecimalText::Refused { number: 46 };
-            }
-            DecimalText::Length(put_amount(out, amount))
-        }
+    })?;
+    if out.len() < LEAST_BUFFER {
+        return Err(Refusal::ShortBuffer);
     }
+    Ok(put_amount(out, amount))
 }
 
 // The digits of n, without a leading zero; 0 is one digit.
@@ -62,9 +59,10 @@ fn put_amount(out: &mut [u8], amount: ScaledNumber) -> usize
 {
     let at = put_sign(out, amount.negative);
     if amount.places == 0 {
-        return put_whole(out, at, amount.magnitude, amount.zeros);
+        put_whole(out, at, amount.magnitude, amount.zeros)
+    } else {
+        put_places(out, at, amount.magnitude, amount.places)
     }
-    put_places(out, at, amount.magnitude, amount.places)
 }
 
 // A minus if the number is below 0.
@@ -75,33 +73,35 @@ fn put_sign(out: &mut [u8], negative: bool) -> usize
 {
     if negative {
         out[0] = b'-';
-        return 1;
+        1
+    } else {
+        0
     }
-    0
 }
 
 // n × 10 ^ zeros: its digits and the zeros, but one 0 for zero.
-fn put_whole(out: &mut [u8], at: usize, n: u64, zeros: usize) -> usize
+fn put_whole(out: &mut [u8], at: usize, n: u64, zeros: u32) -> usize
     requires { (zeros ≤ 10) × (at + 30 ≤ length out.old) }
     ensures put { Put out.old out.new at (unsigned_text (n * 10 ^ zeros) 0) result }
     ensures upper_bound { result ≤ at + 30 }
 {
-    if n == 0 {
-        return put_digits(out, at, 1, 0);
-    }
     let end = put_number(out, at, n);
-    put_digits(out, end, zeros, 0)
+    if n == 0 {
+        end
+    } else {
+        put_digits(out, end, zeros as usize, 0)
+    }
 }
 
 // n / 10 ^ places: the whole part, the point and the last digits.
-fn put_places(out: &mut [u8], at: usize, n: u64, places: usize) -> usize
+fn put_places(out: &mut [u8], at: usize, n: u64, places: u32) -> usize
     requires { (1 ≤ places) × (places ≤ 10) × (at + 31 ≤ length out.old) }
     ensures put { Put out.old out.new at (unsigned_text n places) result }
     ensures upper_bound { result ≤ at + 31 }
 {
     let point = put_number(out, at, n / power_of_ten(places));
     out[point] = b'.';
-    put_digits(out, point + 1, places, n)
+    put_digits(out, point + 1, places as usize, n)
 }
 
 // The digits of n without a leading zero.
@@ -119,22 +119,12 @@ fn put_digits(out: &mut [u8], at: usize, count: usize, n: u64) -> usize
     ensures put { Put out.old out.new at (last_digits count n) result }
     ensures value { result ≡ at + count }
 {
-    let mut left = count;
-    let mut i = at;
-    while 0 < left {
-        left -= 1;
-        out[i] = digit(n, left);
-        i += 1;
+    let mut rest = n;
+    for i in (at..at + count).rev() {
+        out[i] = b'0' + (rest % 10) as u8;
+        rest /= 10;
     }
-    i
-}
-
-// The digit of n at the position k, counted from the last.
-fn digit(n: u64, k: usize) -> u8
-    requires { k < 20 }
-    ensures { result ≡ digit_at n k }
-{
-    b'0' + (n / power_of_ten(k) % 10) as u8
+    at + count
 }
 
 // The number of digits of n.
@@ -142,12 +132,10 @@ fn digit_count(n: u64) -> usize
     ensures value { result ≡ digit_count n }
     ensures upper_bound { result ≤ 20 }
 {
-    let mut count = 1;
-    while count < POWERS {
+    for count in 1..POWERS {
         if n < power_of_ten(count) {
-            return count;
+            return count as usize;
         }
-        count += 1;
     }
-    count
+    POWERS as usize
 }

@@ -14,18 +14,11 @@ pub use event_fields::{EventBits, event_bits};
 pub use point_types::Presence;
 pub use strings::text;
 
-// The length of the text that was written. Refused: 43 to 46, at place 0.
-#[derive(Clone, Copy)]
-pub enum DecimalText {
-    Length(usize),
-    Refused { number: u16 },
-}
-
 // The most digits of a 64-bit number.
 pub const MOST_DIGITS: usize = 20;
 
 // The digits of a number, at the start of `bytes`, and their number. The bytes after them are 0.
-#[derive(Clone, Copy)]
+#[derive(Clone, Copy, Debug, PartialEq, Eq)]
 pub struct Digits {
     pub bytes: [u8; MOST_DIGITS],
     pub count: usize,
@@ -33,18 +26,10 @@ pub struct Digits {
 
 // A raw value under its type, of a mandatory or an optional point, and its scale factor as a register: in two's
 // complement.
-#[derive(Clone, Copy)]
+#[derive(Clone, Copy, Debug, PartialEq, Eq)]
 pub struct Quantity {
     pub type_code: u16,
     pub presence: Presence,
     pub raw: u64,
     pub scale: u16,
-}
-
-// Whether two quantities are the same amount. Refused: 43 to 45, at place 0.
-#[derive(Clone, Copy)]
-pub enum Equality {
-    Equal,
-    Different,
-    Refused { number: u16 },
 }

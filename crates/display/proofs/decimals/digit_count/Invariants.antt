@@ -3,7 +3,4 @@ use Prim.Native.Nat.{◌-◌, ◌^◌, ◌≤◌, ◌<◌}
 use Rattle.display.proofs.decimals.digit_count.Given as goal
 
 abbrev pub invariant-loop-count : goal.invariant-loop-count
-invariant-loop-count l = (1 ≤ l.count) × (l.count ≤ 20) × (1 < l.count → 10 ^ (l.count - 1) ≤ l.n)
-
-abbrev pub decreases-loop-count : goal.decreases-loop-count
-decreases-loop-count l = 20 - l.count
+invariant-loop-count l = 1 < l.count → 10 ^ (l.count - 1) ≤ l.n

@@ -1,17 +1,14 @@
--- `put_digits`: storing the digits left from here on gives the buffer with all digits stored.
+-- `put_digits`: the digits from here on are stored, and `rest` has the ones before them.
 use mathlib.Core.Path.{◌≡◌}
-use Prim.Native.Nat.{◌+◌, ◌≤◌}
-use lib.ListN.{length}
+use Prim.Native.Nat.{◌+◌, ◌-◌, ◌/◌, ◌^◌, ◌≤◌}
 use lib.Seq.{sets}
 use Rattle.display.specs.Decimals.{last_digits}
 use Rattle.display.proofs.decimals.put_digits.Given as goal
 
-abbrev pub invariant-loop-left : goal.invariant-loop-left
-invariant-loop-left l =
-    (sets l.out l.i (last_digits l.left l.n) ≡ sets l.initial.out l.at (last_digits l.count l.n))
-    × (l.i + l.left ≡ l.at + l.count)
-    × (l.left ≤ l.count)
-    × (length l.out ≡ length l.initial.out)
-
-abbrev pub decreases-loop-left : goal.decreases-loop-left
-decreases-loop-left l = l.left
+abbrev pub invariant-loop-i : goal.invariant-loop-i
+invariant-loop-i l =
+    record {
+      from : l.at ≤ l.i;
+      stored : l.out ≡ sets l.initial.out l.i (last_digits (l.at + l.count - l.i) l.n);
+      left : l.rest ≡ l.n / 10 ^ (l.at + l.count - l.i);
+    }
