@@ -2,7 +2,7 @@
 use mathlib.Core.Path.{◌≡◌, refl, sym, ap, subst, ◌∙◌}
 use mathlib.Core.List.{List, [], ◌++◌}
 use mathlib.Core.List as Lists
-use Prim.Native.Nat.{ℕ, ◌+◌, ◌*◌, ◌≤◌, ◌<◌}
+use Prim.Native.Nat.{ℕ, ◌+◌, ◌*◌, ◌≤◌}
 use native.Mathlib.Omega.{arith}
 use lib.Dec.{eqb}
 use lib.ListN.{length, drop, length-append, length-map}
@@ -20,7 +20,7 @@ use Rattle.listing.specs.InternalContracts.{written, WalkFits}
 use Rattle.listing.specs.declared.records.Visit.{Visit}
 use Rattle.listing.proofs.WrittenRecords.{entries_length, entries_append, written_none, written_length}
 use Rattle.listing.proofs.WalkSteps.{not_listed, prepended_listed}
-use Rattle.listing.proofs.MapSteps.{walk_at, model_at, walk_starts, walk_at_end, walk_at_refused, walk_at_late, walk_at_unknown, walk_at_faulty, walk_at_points}
+use Rattle.listing.proofs.MapSteps.{walk_at, model_at, walk_starts, walk_at_end, walk_at_refused, walk_at_unknown, walk_at_faulty, walk_at_points}
 
 -- Without points, nothing is written.
 pub nothing_written : (visit : Visit) (k : ℕ) (ps : List ModelPoint) (out : List ℕ) → ps ≡ []
@@ -73,21 +73,17 @@ walking_starts read map out = go (walked read map) refl
 module _ {read : Model → Reading} {map before out : List ℕ} {at index records : ℕ}
     (here : WalkingMap read map before out at index records) where
   -- At the end marker all records are written.
-  pub walking_ends : at < length map → header_at (eqb at 2) (drop at map) ≡ end_marker → out ≡ stored (walked read map) before
+  pub walking_ends : header_at (eqb at 2) (drop at map) ≡ end_marker → out ≡ stored (walked read map) before
   unfolding consecutive
-  walking_ends inside h =
+  walking_ends h =
       let e : listed [] (index + 1) ≡ listed here.left here.headers =
-      sym (walk_at_end read map index at inside h) ∙ here.rest in
+      sym (walk_at_end read map index at h) ∙ here.rest in
       let none : [] ≡ here.left = cc in
       ap (λ rs. sets out (record_width * records) (entries rs)) none ∙ here.leads
 
   -- A refused header cannot occur.
-  pub walking_refused : {A : Type 0} {number : ℕ} → at < length map → header_at (eqb at 2) (drop at map) ≡ refused number → A
-  walking_refused inside h = not_listed (sym (walk_at_refused read map index at inside h) ∙ here.rest)
-
-  -- Nor can the map end without an end marker.
-  pub walking_late : {A : Type 0} → length map ≤ at → A
-  walking_late past = not_listed (sym (walk_at_late read map index at past) ∙ here.rest)
+  pub walking_refused : {A : Type 0} {number : ℕ} → header_at (eqb at 2) (drop at map) ≡ refused number → A
+  walking_refused h = not_listed (sym (walk_at_refused read map index at h) ∙ here.rest)
 
   module _ (short : length map ≤ 65536) {id len : ℕ} (h : header_at (eqb at 2) (drop at map) ≡ model id len) where
     abbrev own : Model

@@ -4,7 +4,7 @@ use mathlib.Core.Bool.{Bool, true, false}
 use mathlib.Core.List.{List, [], ◌∷◌}
 use mathlib.Core.List as Lists
 use mathlib.Core.Option.{Option, none, some}
-use Prim.Native.Nat.{ℕ, ◌+◌, ◌≤◌, ◌<◌}
+use Prim.Native.Nat.{ℕ, ◌+◌, ◌≤◌}
 use native.Mathlib.Omega.{arith}
 use borrow.Author.Tests.{eq-eqb, ne_eqb}
 use lib.Dec.{eqb}
@@ -23,7 +23,7 @@ use Rattle.listing.specs.Finding as Finding
 use Rattle.listing.specs.Finding.{is_record, finding_in, Result, nothing_result, result}
 use Rattle.listing.specs.InternalContracts.{result_at, IsListed}
 use Rattle.listing.proofs.Searches.{skipped, own_records, none_later}
-use Rattle.listing.proofs.MapSteps.{walk_at, model_at, walk_starts, walk_at_end, walk_at_refused, walk_at_late, walk_at_unknown, walk_at_faulty, walk_at_points}
+use Rattle.listing.proofs.MapSteps.{walk_at, model_at, walk_starts, walk_at_end, walk_at_refused, walk_at_unknown, walk_at_faulty, walk_at_points}
 
 -- Answers that are no refusal.
 under_records : (rs : List Record) (a : Answer) → IsListed (with_records rs a) → IsListed a
@@ -112,17 +112,14 @@ module _ {read : Model → Reading} {map : List ℕ} {target number : ℕ} {path
   expected = result (finding_in target number path (walked read map))
 
   -- At the end marker there is no such point.
-  pub search_ends : at < length map → header_at (eqb at 2) (drop at map) ≡ end_marker → nothing_result ≡ expected
+  pub search_ends : header_at (eqb at 2) (drop at map) ≡ end_marker → nothing_result ≡ expected
   unfolding first_with
-  search_ends inside h =
-      sym (ap (λ a. result (finding_in target number path a)) (walk_at_end read map index at inside h)) ∙ ap result here.same
+  search_ends h =
+      sym (ap (λ a. result (finding_in target number path a)) (walk_at_end read map index at h)) ∙ ap result here.same
 
-  -- A refused header cannot occur, nor a map without an end marker.
-  pub search_refused : {A : Type 0} {n : ℕ} → at < length map → header_at (eqb at 2) (drop at map) ≡ refused n → A
-  search_refused inside h = absurd (subst IsListed (walk_at_refused read map index at inside h) here.is_listed)
-
-  pub search_late : {A : Type 0} → length map ≤ at → A
-  search_late past = absurd (subst IsListed (walk_at_late read map index at past) here.is_listed)
+  -- A refused header cannot occur.
+  pub search_refused : {A : Type 0} {n : ℕ} → header_at (eqb at 2) (drop at map) ≡ refused n → A
+  search_refused h = absurd (subst IsListed (walk_at_refused read map index at h) here.is_listed)
 
   module _ {id len : ℕ} (h : header_at (eqb at 2) (drop at map) ≡ model id len) where
     abbrev own : Model

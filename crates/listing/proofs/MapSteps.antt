@@ -3,10 +3,12 @@ use mathlib.Core.Path.{◌≡◌, refl, ap, ◌∙◌}
 use mathlib.Core.List.{List, []}
 use mathlib.Core.List as Lists
 use Prim.Native.Nat.{ℕ, suc, ◌+◌, ◌-◌, ◌≤◌, ◌<◌}
+use native.Mathlib.Decide.{dec_le}
 use native.Mathlib.Omega.{arith}
 use lib.Dec.{eqb}
 use lib.ListN.{length, take, drop, length-drop}
 use lib.Seq.{length-take-le}
+use Rattle.lists.proofs.TestOutcomes.{impossible}
 use Rattle.register_map.specs.Headers.{model, end_marker, refused, header_at}
 use Rattle.register_map.specs.Scan.{Model, size_of, Scan, marked, broken, with_model, scan_from, scan}
 use Rattle.register_map.proofs.ScanSteps.{scan_next, scan_end, scan_refused, scan_enough}
@@ -52,22 +54,37 @@ module _ (map : List ℕ) (at : ℕ) where
       ∙ ap (with_model (model_at map at id len))
       (scan_enough k (length map) (eqb next 2) (drop next map) (omega (arith, left)) (omega (arith, left)))
 
-  -- The end marker.
-  scan_at_end : at < length map → header_at (eqb at 2) (drop at map) ≡ end_marker
-      → scan_at map at ≡ record { models = []; ending = marked }
-  scan_at_end inside h = bound_left inside ∙ scan_end (length map - 1) (eqb at 2) (drop at map) h
-
-  -- A header that is refused.
-  scan_at_refused : {number : ℕ} → at < length map → header_at (eqb at 2) (drop at map) ≡ refused number
-      → scan_at map at ≡ record { models = []; ending = broken number }
-  scan_at_refused inside h = bound_left inside ∙ scan_refused (length map - 1) (eqb at 2) (drop at map) h
-
-  -- No register is left.
+  -- No register is left: the scan is broken by 22, and so is the header.
   scan_at_late : length map ≤ at → scan_at map at ≡ record { models = []; ending = broken 22 }
   scan_at_late past =
       let left = length-drop at map in
       scan_enough (length map) 1 (eqb at 2) (drop at map) (omega (arith, left)) (omega (arith, left))
       ∙ scan_refused 0 (eqb at 2) (drop at map) (header_late (eqb at 2) map at (omega arith))
+
+  -- The end marker.
+  scan_at_end : header_at (eqb at 2) (drop at map) ≡ end_marker → scan_at map at ≡ record { models = []; ending = marked }
+  scan_at_end h = go (dec_le (length map) at)
+    where
+      go : Dec (length map ≤ at) → scan_at map at ≡ record { models = []; ending = marked }
+      go (yes past) =
+          let late = header_late (eqb at 2) map at (omega arith) in
+          impossible (cc)
+      go (no inside) = bound_left (omega arith) ∙ scan_end (length map - 1) (eqb at 2) (drop at map) h
+
+  -- A header that is refused, also for want of registers.
+  scan_at_refused : {number : ℕ} → header_at (eqb at 2) (drop at map) ≡ refused number
+      → scan_at map at ≡ record { models = []; ending = broken number }
+  scan_at_refused {number} h = go (dec_le (length map) at)
+    where
+      ends_by : ℕ → Scan
+      ends_by n = record { models = []; ending = broken n }
+
+      go : Dec (length map ≤ at) → scan_at map at ≡ record { models = []; ending = broken number }
+      go (yes past) =
+          let late = header_late (eqb at 2) map at (omega arith) in
+          let same : 22 ≡ number = cc in
+          scan_at_late past ∙ ap ends_by same
+      go (no inside) = bound_left (omega arith) ∙ scan_refused (length map - 1) (eqb at 2) (drop at map) h
 
   -- A model's body has the number of registers that its length says.
   pub body_length : (id len : ℕ) → header_at (eqb at 2) (drop at map) ≡ model id len → length (take len (drop (at + 2) map)) ≡ len
@@ -87,21 +104,15 @@ module _ (read : Model → Reading) (map : List ℕ) (index at : ℕ) where
   by_scan e = ap (λ s. walk read s.ending index at s.models) e
 
   -- At the end marker no record is left.
-  pub walk_at_end : at < length map → header_at (eqb at 2) (drop at map) ≡ end_marker
-      → walk_at read map index at ≡ listed [] (index + 1)
+  pub walk_at_end : header_at (eqb at 2) (drop at map) ≡ end_marker → walk_at read map index at ≡ listed [] (index + 1)
   unfolding walk
-  walk_at_end inside h = by_scan (scan_at_end map at inside h)
+  walk_at_end h = by_scan (scan_at_end map at h)
 
   -- A header that is refused.
-  pub walk_at_refused : {number : ℕ} → at < length map → header_at (eqb at 2) (drop at map) ≡ refused number
+  pub walk_at_refused : {number : ℕ} → header_at (eqb at 2) (drop at map) ≡ refused number
       → walk_at read map index at ≡ Listing.refused number at index
   unfolding walk
-  walk_at_refused inside h = by_scan (scan_at_refused map at inside h)
-
-  -- No register is left.
-  pub walk_at_late : length map ≤ at → walk_at read map index at ≡ Listing.refused 22 at index
-  unfolding walk
-  walk_at_late past = by_scan (scan_at_late map at past)
+  walk_at_refused h = by_scan (scan_at_refused map at h)
 
   module _ (id len : ℕ) (low : 2 ≤ at) (h : header_at (eqb at 2) (drop at map) ≡ model id len) where
     -- The walk after a model.

@@ -2,10 +2,12 @@
 use mathlib.Core.Path.{◌≡◌, refl, sym, ap, ◌∙◌, subst}
 use mathlib.Core.List.{List, []}
 use mathlib.Core.List as Lists
-use Prim.Native.Nat.{ℕ, ◌+◌, ◌≤◌, ◌<◌}
+use Prim.Native.Nat.{ℕ, ◌+◌, ◌≤◌}
 use native.Mathlib.Omega.{arith}
 use lib.Dec.{eqb}
 use lib.ListN.{length, drop, length-append, length-map}
+use Rattle.std.specs.Prelude as Std
+use Rattle.std.specs.Option.{option_map_or}
 use Rattle.lists.proofs.TestOutcomes.{impossible}
 use Rattle.register_map.specs.Headers.{model, end_marker, refused, header_at}
 use Rattle.register_map.specs.Scan.{Model}
@@ -13,9 +15,11 @@ use Rattle.register_map.proofs.HeaderCases.{model_ends}
 use Rattle.layout.specs.Points.{ModelPoint}
 use Rattle.layout.specs.Reading.{Reading, unknown, faulty, points, Fault, fault_number}
 use Rattle.layout.specs.InternalWalks.{surveyed_unknown, surveyed_refused, surveyed_points, surveyed, points_of, HasPoints}
+use Rattle.listing.specs.InternalCodeTypes.{to_spec_survey}
+use Rattle.listing.specs.declared.surveys.Survey.{Survey}
 use Rattle.listing.specs.Listing as Listing
 use Rattle.listing.specs.Listing.{Record, record_of, Answer, listed, with_records, walked, Result, refused_result, listed_result, result}
-use Rattle.listing.proofs.MapSteps.{walk_at, model_at, body_length, walk_starts, walk_at_end, walk_at_refused, walk_at_late, walk_at_unknown, walk_at_faulty, walk_at_points}
+use Rattle.listing.proofs.MapSteps.{walk_at, model_at, body_length, walk_starts, walk_at_end, walk_at_refused, walk_at_unknown, walk_at_faulty, walk_at_points}
 
 -- ---- A reading by its survey
 
@@ -35,6 +39,10 @@ points_surveyed : (r : Reading) {n : ℕ} → surveyed_points n ≡ surveyed r
 points_surveyed unknown e = impossible (cc)
 points_surveyed (faulty fault) e = impossible (cc)
 points_surveyed (points ps) e = (ps, refl, cc)
+
+-- The number of points that a survey counts, 0 of an unknown model.
+abbrev pub survey_count : Std.Option Survey → ℕ
+survey_count s = option_map_or (λ v. v.points) s 0
 
 -- A model that is unknown or refused has no points.
 pub no_points_unknown : (r : Reading) → surveyed_unknown ≡ surveyed r → points_of r ≡ []
@@ -88,20 +96,16 @@ module _ {read : Model → Reading} {map : List ℕ} {at headers count : ℕ} (h
   answers e = ap (λ a. with_points count (result a)) (sym e) ∙ here.rest
 
   -- At the end marker all points are counted.
-  pub survey_ends : at < length map → header_at (eqb at 2) (drop at map) ≡ end_marker
+  pub survey_ends : header_at (eqb at 2) (drop at map) ≡ end_marker
       → listed_result count (headers + 1) ≡ result (walked read map)
-  survey_ends inside h =
+  survey_ends h =
       let all : count ≡ count + 0 = omega arith in
-      ap (λ n. listed_result n (headers + 1)) all ∙ answers (walk_at_end read map headers at inside h)
+      ap (λ n. listed_result n (headers + 1)) all ∙ answers (walk_at_end read map headers at h)
 
   -- A header is refused.
-  pub survey_refused : {number : ℕ} → at < length map → header_at (eqb at 2) (drop at map) ≡ refused number
+  pub survey_refused : {number : ℕ} → header_at (eqb at 2) (drop at map) ≡ refused number
       → refused_result number at headers 0 ≡ result (walked read map)
-  survey_refused inside h = answers (walk_at_refused read map headers at inside h)
-
-  -- No register is left.
-  pub survey_late : length map ≤ at → refused_result 22 at headers 0 ≡ result (walked read map)
-  survey_late past = answers (walk_at_late read map headers at past)
+  survey_refused h = answers (walk_at_refused read map headers at h)
 
   module _ (short : length map ≤ 65536) {id len : ℕ} (h : header_at (eqb at 2) (drop at map) ≡ model id len) where
     -- An unknown model is skipped.
@@ -153,3 +157,12 @@ module _ {read : Model → Reading} {map : List ℕ} {at headers count : ℕ} (h
             few_headers = omega (arith, here.few_headers);
             few_points = omega (arith, here.few_points, more_fit);
           }
+
+    -- A survey that does not refuse: the points of a known model are added.
+    pub survey_on : ((m : Model) (ps : List ModelPoint) → read m ≡ points ps → length ps ≤ length m.body)
+        → (s : Std.Option Survey) → to_spec_survey (Std.Ok s) ≡ surveyed (read (model_at map at id len))
+        → (survey_count s ≤ len) × Surveying read map (at + (2 + len)) (headers + 1) (count + survey_count s)
+    survey_on few Std.None e =
+        let same : count ≡ count + 0 = omega arith in
+        (omega arith, subst (Surveying read map (at + (2 + len)) (headers + 1)) same (survey_unknown e))
+    survey_on few (Std.Some s) e = (more_fit few e, survey_points few e)

@@ -16,7 +16,7 @@ use Rattle.layout.specs.Layout.{points_at}
 use Rattle.layout.specs.FrameWalk.{point_of}
 use Rattle.layout.specs.PointTables.{scope_in, present_within}
 use Rattle.layout.specs.InternalWalks.{content_from, instance_in}
-use Rattle.shown_points.specs.CodeTypes.{PointShown, to_spec_shown, shown_by}
+use Rattle.shown_points.specs.CodeTypes.{PointShown, to_spec_status, to_spec_shown, shown_by}
 use Rattle.shown_points.specs.declared.Shown.{Shown}
 use Rattle.layout.proofs.FramePosition as position
 use Rattle.layout.proofs.RecordedPoints.{present_past, present_first}
@@ -27,19 +27,20 @@ use Rattle.listing.specs.declared.records.Progress.{Progress}
 use Rattle.listing.proofs.WrittenRecords.{written_none, written_length, written_append}
 
 -- The ten numbers that the code computes from a shown point are those of its record.
-pub shown_numbers : (visit : Visit) (body table path : List ℕ) (offset address : ℕ) (p : Point) (shown : Shown)
+pub shown_numbers : (visit : Visit) (body table path : List ℕ) (offset address : ℕ) (p : Point) (shown : Shown) (status : ℕ)
     → address ≡ visit.address + 2 + offset
+    → status ≡ to_spec_status shown.status
     → to_spec_shown shown ≡ shown_by p (point_class p (join (registers_at body offset p))) (registers_at body offset p)
     (scope_in table p.scale)
     → visit.index ∷ visit.id ∷ p.number ∷ get_or path 0 0 ∷ get_or path 1 0 ∷ get_or path 2 0 ∷ address
-    ∷ shown.status ∷ shown.raw ∷ shown.scale ∷ []
+    ∷ status ∷ shown.raw ∷ shown.scale ∷ []
     ≡ record_numbers (record_at visit (point_at body (instance_in table path) offset p))
 unfolding record_numbers point_at
-shown_numbers visit body table path offset address p shown at s =
-    let status = ap (λ (x : PointShown). x.status) s in
+shown_numbers visit body table path offset address p shown status at numbered s =
+    let by_shown = numbered ∙ ap (λ (x : PointShown). x.status) s in
     let raw = ap (λ (x : PointShown). x.raw) s in
     let scale = ap (λ (x : PointShown). x.scale) s in
-    rw (at, status, raw, scale)
+    rw (at, by_shown, raw, scale)
 
 -- The points that remain to be written.
 abbrev pub left_at : List ℕ → List ℕ → Progress → List Point

@@ -4,6 +4,8 @@ use mathlib.Core.Bool.{true, false}
 use mathlib.Core.List.{List}
 use mathlib.Core.Option.{some}
 use Prim.Native.Nat.{ℕ, ◌-◌, ◌≤◌, ◌<◌}
+use Rattle.std.specs.Prelude as Std
+use Rattle.refusals.specs.declared.Refusal.{Refusal}
 use native.Mathlib.Omega.{arith}
 use lib.ListN.{length, get_or}
 use Rattle.lists.specs.Each.{Each}
@@ -105,7 +107,7 @@ module _ {ws : List ℕ} (id : ℕ) {first : ℕ} (accepted : Accepted ws) (pars
         unimplemented u = models.unimplemented_surveyed id c body kept long (sym extent.unimplemented ∙ u)
 
         -- Otherwise 29 or the number of points.
-        pub surveyed_here : groups.unimplemented ≡ false → {s : Survey} → s ≡ fitted_by first run groups (length body)
+        pub surveyed_here : groups.unimplemented ≡ false → {s : Std.Result (Std.Option Survey) Refusal} → s ≡ fitted_by first run groups (length body)
             → (to_spec_survey s ≡ surveyed (read_by id c body)) × (ReadyBy ws id body after s × IsTable after)
         surveyed_here u {s} q =
             let d = q ∙ models.fitted_by_definition first run groups c body short sound_groups r.size r.points extent in (

@@ -11,6 +11,8 @@ use native.Mathlib.Omega.{arith}
 use borrow.Author.Tests.{eqb-true, eqb-false, le-ltb, lt-ltb, leb-true, leb-false}
 use lib.Dec.{eqb, leb}
 use lib.ListN.{length}
+use Rattle.std.specs.Prelude as Std
+use Rattle.refusals.specs.declared.Refusal.{Refusal}
 use Rattle.lists.specs.Members.{In}
 use Rattle.lists.proofs.TestOutcomes.{by_test}
 use Rattle.catalog_frames.specs.Frames.{Point, Head, fill}
@@ -64,13 +66,20 @@ extent_agrees s s' top enclosing level g r agree e x =
       unimplemented = x.unimplemented ∙ unimplemented_agrees s s' top agree enclosing level g e;
     }
 
+-- A survey that counts points, and 29.
+abbrev pub counted : ℕ → ℕ → ℕ → Std.Result (Std.Option Survey) Refusal
+counted begin number count = Std.Ok (Std.Some (record { first = begin; points = number; fill = count }))
+
+abbrev pub no_fit : Std.Result (Std.Option Survey) Refusal
+no_fit = Std.Err Refusal.LengthNotSize
+
 -- ---- By numbers: T and N are the registers and points of the top group, G and P those of the groups without a fill group, size
 -- and Q those of an instance of the fill group, L is the length.
 
 -- A model without a fill group.
 fitted_rest : (first L T N G P : ℕ) (run : Run) (groups : Extent) → L ≤ 65535 → P ≤ G
     → run.size ≡ T → run.points ≡ N → groups.size ≡ min G 65536 → groups.points ≡ min P 65536 → groups.fill_size ≡ 0
-    → fitted_by first run groups L ≡ elim (eqb L (T + G)) [ true ↦ Survey.Points first (N + P) 0 | false ↦ Survey.Refused 29 ]
+    → fitted_by first run groups L ≡ elim (eqb L (T + G)) [ true ↦ counted first (N + P) 0 | false ↦ no_fit ]
 fitted_rest first L T N G P run groups short few t n g p z = go (eqb L (T + G)) refl
   where
     rest : ℕ
@@ -80,11 +89,11 @@ fitted_rest first L T N G P run groups short few t n g p z = go (eqb L (T + G)) 
     size = groups.fill_size
 
     go : (b : Bool) → eqb L (T + G) ≡ b
-        → fitted_by first run groups L ≡ elim b [ true ↦ Survey.Points first (N + P) 0 | false ↦ Survey.Refused 29 ]
+        → fitted_by first run groups L ≡ elim b [ true ↦ counted first (N + P) 0 | false ↦ no_fit ]
     go true y =
         let v = eqb-true L (T + G) y in
         let k : run.points + groups.points + 0 * groups.fill_points ≡ N + P = omega arith in
-        ap (surveyed_by first run groups) (fills.rest_alone L rest size z (omega arith)) ∙ ap (λ m. Survey.Points first m 0) k
+        ap (surveyed_by first run groups) (fills.rest_alone L rest size z (omega arith)) ∙ ap (λ m. counted first m 0) k
     go false y =
         let v = eqb-false L (T + G) y in
         ap (surveyed_by first run groups) (none_fits (dec_le rest L) (λ q. v (omega arith)))
@@ -122,24 +131,24 @@ module _ (l size fs : ℕ) (short : l ≤ 65535) (z : fs ≡ min size 65536) whe
 by_remainder : (first over often : ℕ) (run : Run) (groups : Extent)
     → surveyed_by first run groups (elim (eqb over 0) [ true ↦ some often | false ↦ none ])
     ≡ elim (eqb over 0) [
-      | true ↦ Survey.Points first (run.points + groups.points + often * groups.fill_points) often
-      | false ↦ Survey.Refused 29
+      | true ↦ counted first (run.points + groups.points + often * groups.fill_points) often
+      | false ↦ no_fit
     ]
 by_remainder first over often run groups = go (eqb over 0)
   where
     go : (b : Bool) → surveyed_by first run groups (elim b [ true ↦ some often | false ↦ none ])
         ≡ elim b [
-          | true ↦ Survey.Points first (run.points + groups.points + often * groups.fill_points) often
-          | false ↦ Survey.Refused 29
+          | true ↦ counted first (run.points + groups.points + often * groups.fill_points) often
+          | false ↦ no_fit
         ]
     go true = refl
     go false = refl
 
 same_survey : (first m n p q f g : ℕ) → m ≡ n → p ≡ q → f ≡ g
-    → ◌≡◌ {A = Survey} (elim (eqb m 0) [ true ↦ Survey.Points first p f | false ↦ Survey.Refused 29 ])
-    (elim (eqb n 0) [ true ↦ Survey.Points first q g | false ↦ Survey.Refused 29 ])
+    → ◌≡◌ {A = Std.Result (Std.Option Survey) Refusal} (elim (eqb m 0) [ true ↦ counted first p f | false ↦ no_fit ])
+    (elim (eqb n 0) [ true ↦ counted first q g | false ↦ no_fit ])
 same_survey first m n p q f g a b c k =
-    elim (eqb (a k) 0) [ true ↦ Survey.Points first (b k) (c k) | false ↦ Survey.Refused 29 ]
+    elim (eqb (a k) 0) [ true ↦ counted first (b k) (c k) | false ↦ no_fit ]
 
 -- A model with a fill group.
 fitted_fill : (first L T N G P size Q : ℕ) (run : Run) (groups : Extent) → L ≤ 65535 → P ≤ G → 1 ≤ size → Q ≤ size
@@ -147,8 +156,8 @@ fitted_fill : (first L T N G P size Q : ℕ) (run : Run) (groups : Extent) → L
     → groups.fill_size ≡ min size 65536 → groups.fill_points ≡ min Q 65536
     → fitted_by first run groups L
     ≡ elim (leb (T + G) L && eqb ((L - (T + G)) % size) 0) [
-      | true ↦ Survey.Points first (N + (P + (L - (T + G)) / size * Q)) ((L - (T + G)) / size)
-      | false ↦ Survey.Refused 29
+      | true ↦ counted first (N + (P + (L - (T + G)) / size * Q)) ((L - (T + G)) / size)
+      | false ↦ no_fit
     ]
 fitted_fill first L T N G P size Q run groups short few one fewer t n g p z q = go (leb (T + G) L) refl
   where
@@ -161,9 +170,9 @@ fitted_fill first L T N G P size Q run groups short few one fewer t n g p z q = 
     left : ℕ
     left = L - (T + G)
 
-    right : Bool → Survey
+    right : Bool → Std.Result (Std.Option Survey) Refusal
     right b =
-        elim b [ true ↦ Survey.Points first (N + (P + left / size * Q)) (left / size) | false ↦ Survey.Refused 29 ]
+        elim b [ true ↦ counted first (N + (P + left / size * Q)) (left / size) | false ↦ no_fit ]
 
     go : (a : Bool) → leb (T + G) L ≡ a
         → fitted_by first run groups L ≡ right (a && eqb (left % size) 0)
@@ -196,11 +205,11 @@ module _ (first : ℕ) (run : Run) (groups : Extent) (c : Content) (body : List 
   -- 29, or the number of points and the fill count.
   pub fitted_by_definition : fitted_by first run groups (length body)
       ≡ elim (fits c body) [
-        | true ↦ Survey.Points first (length (content_at c body)) (fill_of c body)
-        | false ↦ Survey.Refused 29
+        | true ↦ counted first (length (content_at c body)) (fill_of c body)
+        | false ↦ no_fit
       ]
   unfolding fits fill_of
-  fitted_by_definition = go (fill_size_of c body) refl counted
+  fitted_by_definition = go (fill_size_of c body) refl all_points
     where
       s : Scope
       s = top_scope c.points body
@@ -226,8 +235,8 @@ module _ (first : ℕ) (run : Run) (groups : Extent) (c : Content) (body : List 
       few : P ≤ G
       few = groups_fit (count_of s 0) c.points c.points 2 c.groups sound
 
-      counted : length (content_at c body) ≡ N + (P + fill_of c body * Q)
-      counted =
+      all_points : length (content_at c body) ≡ N + (P + fill_of c body * Q)
+      all_points =
           content_counted c body
           ∙ ap (λ k. N + k) (fill_adds length s (fill_of c body) c.points c.points c.groups sound)
 
@@ -237,8 +246,8 @@ module _ (first : ℕ) (run : Run) (groups : Extent) (c : Content) (body : List 
       fill_by : Option ℕ → ℕ
       fill_by o = elim o [ none ↦ 0 | some n ↦ (L - (T + G)) / n ]
 
-      result : Bool → ℕ → ℕ → Survey
-      result b k f = elim b [ true ↦ Survey.Points first k f | false ↦ Survey.Refused 29 ]
+      result : Bool → ℕ → ℕ → Std.Result (Std.Option Survey) Refusal
+      result b k f = elim b [ true ↦ counted first k f | false ↦ no_fit ]
 
       go : (o : Option ℕ) → fill_size_of c body ≡ o → length (content_at c body) ≡ N + (P + fill_by o * Q)
           → fitted_by first run groups L ≡ result (fits_by o) (length (content_at c body)) (fill_by o)
@@ -297,10 +306,10 @@ module _ (id : ℕ) (c : Content) (body : List ℕ) where
           sym (ap surveyed (whole ∙ e))
 
       -- Otherwise 29 or the number of points.
-      pub fits_surveyed : (r : Survey) (first : ℕ) → count_unimplemented (top_scope c.points body) c.groups ≡ false
+      pub fits_surveyed : (r : Std.Result (Std.Option Survey) Refusal) (first : ℕ) → count_unimplemented (top_scope c.points body) c.groups ≡ false
           → r ≡ elim (fits c body) [
-            | true ↦ Survey.Points first (length (content_at c body)) (fill_of c body)
-            | false ↦ Survey.Refused 29
+            | true ↦ counted first (length (content_at c body)) (fill_of c body)
+            | false ↦ no_fit
           ]
           → to_spec_survey r ≡ surveyed (read_by id c body)
       unfolding read_full
@@ -311,16 +320,16 @@ module _ (id : ℕ) (c : Content) (body : List ℕ) where
         where
           go : (b : Bool)
               → to_spec_survey (elim b [
-                | true ↦ Survey.Points first (length (content_at c body)) (fill_of c body)
-                | false ↦ Survey.Refused 29
+                | true ↦ counted first (length (content_at c body)) (fill_of c body)
+                | false ↦ no_fit
               ])
               ≡ surveyed (elim b [ false ↦ faulty not_the_size | true ↦ points (content_at c body) ])
           go true = refl
           go false = refl
 
 -- If the survey counts points, the definition and the table are ready for writing records.
-pub ready_by : (ws : List ℕ) (id : ℕ) (body table : List ℕ) (first number f : ℕ) (b : Bool) (r : Survey)
-    → r ≡ elim b [ true ↦ Survey.Points first number f | false ↦ Survey.Refused 29 ] → Ready ws id body table first f
+pub ready_by : (ws : List ℕ) (id : ℕ) (body table : List ℕ) (first number f : ℕ) (b : Bool) (r : Std.Result (Std.Option Survey) Refusal)
+    → r ≡ elim b [ true ↦ counted first number f | false ↦ no_fit ] → Ready ws id body table first f
     → ReadyBy ws id body table r
 ready_by ws id body table first number f b r q h =
     subst (ReadyBy ws id body table) (sym q) (by_test (ReadyBy ws id body table) b (λ t. h) (λ t. tt))

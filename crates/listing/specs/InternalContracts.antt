@@ -1,8 +1,10 @@
 -- Internal: contracts between private functions of this crate; no public contract cites this file.
-use Rattle.std.specs.Prelude.{◌≡◌, true, false, ◌&&◌, ◌||◌, List, map, ℕ, ◌+◌, ◌*◌, ◌/◌, ◌≤◌, min, eqb, length, take, drop}
-use Rattle.std.proofs.Math.Option.{Option, none, some}
+use Rattle.std.specs.Prelude.{◌≡◌, Option, Some, None, Result, Ok, Err, true, false, ◌&&◌, ◌||◌, List, map, ℕ, ◌+◌, ◌*◌, ◌/◌, ◌≤◌, min, eqb, length, take, drop}
+use Rattle.std.proofs.Math.Option as Math
+use Rattle.std.proofs.Math.Option.{none, some}
 use Rattle.std.proofs.lemmas.List.Edits.{sets}
 use Rattle.lists.specs.Each.{Each}
+use Rattle.refusals.specs.declared.Refusal.{Refusal}
 use Rattle.registers.specs.Registers.{shown_raw}
 use Rattle.catalog_frames.specs.Frames as Frames
 use Rattle.frame_rules.specs.FrameTests.{is_size_of}
@@ -17,7 +19,6 @@ use Rattle.layout.specs.PointTables.{present_within, scope_in}
 use Rattle.layout.specs.InternalWalks.{content_from, ParsesAt, past_end, Ready, IsTable, AtGroups}
 use Rattle.listing.specs.Listing as Listing
 use Rattle.listing.specs.Finding as Finding
-use Rattle.listing.specs.declared.frames.Found.{Found}
 use Rattle.definition_frames.specs.declared.runs.Run.{Run}
 use Rattle.listing.specs.declared.extents.Extent.{Extent}
 use Rattle.listing.specs.declared.surveys.Survey.{Survey}
@@ -26,9 +27,9 @@ use Rattle.listing.specs.declared.records.Visit.{Visit}
 use Rattle.listing.specs.declared.records.Progress.{Progress}
 
 -- If a definition was found at frame i, the frames of its top group, to their end frame, begin there.
-abbrev pub FoundParses : List ℕ → Found → Type 0
-FoundParses ws (Found.At i) = ParsesAt ws i
-FoundParses ws Found.Nothing = Unit {0}
+abbrev pub FoundParses : List ℕ → Option ℕ → Type 0
+FoundParses ws (Some i) = ParsesAt ws i
+FoundParses ws None = Unit {0}
 
 -- The run r is that of the points of the group whose content begins at frame `first`.
 abbrev pub RunOf : List ℕ → ℕ → Run → Type 0
@@ -64,20 +65,20 @@ pub record WithGroup (sum : Extent) (top : Scope) (h : Frames.Head) (run : Run) 
   pub next : r.next ≡ inside.next
 
 -- The result of a survey by the count of the fill group: 29 if the length does not fit, else the number of points.
-abbrev pub surveyed_by : ℕ → Run → Extent → Option ℕ → Survey
-surveyed_by first run groups none = Survey.Refused 29
+abbrev pub surveyed_by : ℕ → Run → Extent → Math.Option ℕ → Result (Option Survey) Refusal
+surveyed_by first run groups none = Err Refusal.LengthNotSize
 surveyed_by first run groups (some count) =
-    Survey.Points first (run.points + groups.points + count * groups.fill_points) count
+    Ok (Some (record { first = first; points = run.points + groups.points + count * groups.fill_points; fill = count }))
 
 -- The same for a model of length `len`, by the sizes.
-abbrev pub fitted_by : ℕ → Run → Extent → ℕ → Survey
+abbrev pub fitted_by : ℕ → Run → Extent → ℕ → Result (Option Survey) Refusal
 fitted_by first run groups len = surveyed_by first run groups (filled len (run.size + groups.size) groups.fill_size)
 
 -- If a survey counts points, the catalog and the table are ready for writing their records.
-abbrev pub ReadyBy : List ℕ → ℕ → List ℕ → List ℕ → Survey → Type 0
-ReadyBy ws id body table Survey.Unknown = Unit {0}
-ReadyBy ws id body table (Survey.Refused number) = Unit {0}
-ReadyBy ws id body table (Survey.Points first points fill) = Ready ws id body table first fill
+abbrev pub ReadyBy : List ℕ → ℕ → List ℕ → List ℕ → Result (Option Survey) Refusal → Type 0
+ReadyBy ws id body table (Ok None) = Unit {0}
+ReadyBy ws id body table (Ok (Some s)) = Ready ws id body table s.first s.fill
+ReadyBy ws id body table (Err refusal) = Unit {0}
 
 -- What locating a point in groups requires: sound groups, at most `levels` levels deep, begin at `frame` and end at offset 65536
 -- or before.
@@ -95,7 +96,7 @@ pub record ModelAsks (ws table : List ℕ) (len first fill : ℕ) : Type 0 where
   pub groups : LocateAsks ws table fill 3 (first + length (content_from ws first).points) (points_size (content_from ws first).points)
 
 -- Point `number` at `path` in a model of length `len`: among the top points that begin within the length, or in the groups.
-abbrev pub located_within : (Frames.Head → ℕ) → ℕ → List ℕ → ℕ → Content → Option Located
+abbrev pub located_within : (Frames.Head → ℕ) → ℕ → List ℕ → ℕ → Content → Math.Option Located
 located_within count number path len c =
     or_else (located_own number path 1 0 (present_within len 0 c.points))
     (located_in count number path 2 (points_size c.points) c.groups)
@@ -121,7 +122,7 @@ target_at at body l =
     }
 
 -- What a search in the model whose header has address `at` returns for the point that it finds, if any.
-abbrev pub result_at : ℕ → Option ModelPoint → Finding.Result
+abbrev pub result_at : ℕ → Math.Option ModelPoint → Finding.Result
 result_at at none = Finding.nothing_result
 result_at at (some p) = Finding.found_result (record { address = at + 2 + p.offset; definition = p.definition; raw = p.raw })
 

@@ -2,11 +2,12 @@
 ghost use Rattle.std.specs.Prelude.{◌≡◌, ◌+◌, ◌*◌, ◌≤◌, min};
 ghost use Rattle.catalog_frames.specs.CodeTypes.{to_spec_head};
 ghost use Rattle.layout.specs.PointTables.{scope_in};
-ghost use Rattle.layout.specs.InternalWalks.{content_from, past_end, IsTable, AtGroups};
-ghost use Rattle.listing.specs.InternalContracts.{ExtentOf, SameExtent, WithGroup};
+ghost use Rattle.layout.specs.InternalWalks.{content_from, past_end, AtGroups};
+ghost use Rattle.listing.specs.InternalContracts.{ExtentOf, WithGroup};
 
+use crate::Table;
 use catalog::{FILL, Head};
-use definition_frames::{GroupOr, Run, group_at, run_extent};
+use definition_frames::{Run, group_at, run_extent};
 use group_instances::{count_of, is_unimplemented};
 
 // A size with nested counts may need more than 64 bits. No map has more registers than CAP, so sizes and numbers
@@ -27,14 +28,12 @@ pub(crate) struct Extent {
 }
 
 // The extent of the groups from frame `first` on, in a group that may hold `levels` further levels. Reads each frame once.
-pub(crate) fn groups_extent(catalog: &[u16], table: &[u16], levels: usize, first: usize) -> Extent
+pub(crate) fn groups_extent(catalog: &[u16], table: &Table, levels: usize, first: usize) -> Extent
     requires at_groups { AtGroups catalog.now first levels }
-    requires table { IsTable table.now }
     requires levels_bound { levels ≤ 3 }
     ensures extent_of { ExtentOf (scope_in table.now) (content_from catalog.now first).groups result }
     ensures next_value { result.next ≡ past_end catalog.now first }
 {
-    let frames = catalog.len() / 8;
     let mut sum = Extent {
         size: 0,
         points: 0,
@@ -43,41 +42,19 @@ pub(crate) fn groups_extent(catalog: &[u16], table: &[u16], levels: usize, first
         unimplemented: false,
         next: first,
     };
-    while sum.next < frames {
-        let i = sum.next;
-        let next = group_at(catalog, i);
-        match next {
-            GroupOr::Group(head) => {
-                let run = run_extent(catalog, i + 1);
-                let inside = groups_extent(catalog, table, levels - 1, run.next);
-                sum = with_group(sum, table, head, run, inside);
-            }
-            GroupOr::Other => {
-                return at_end(sum);
-            }
-        }
+    while let Some(head) = group_at(catalog, sum.next) {
+        let run = run_extent(catalog, sum.next + 1);
+        let inside = groups_extent(catalog, table, levels - 1, run.next);
+        sum = with_group(sum, table, head, run, inside);
     }
-    at_end(sum)
-}
-
-// The same extent, with `next` past the end frame.
-fn at_end(sum: Extent) -> Extent
-    requires { sum.next ≤ 65536 }
-    ensures { SameExtent sum result × (result.next ≡ sum.next + 1) }
-{
     Extent {
-        size: sum.size,
-        points: sum.points,
-        fill_size: sum.fill_size,
-        fill_points: sum.fill_points,
-        unimplemented: sum.unimplemented,
         next: sum.next + 1,
+        ..sum
     }
 }
 
 // The extent `sum` and one more group: its head, its points and the groups in it.
-fn with_group(sum: Extent, table: &[u16], head: Head, run: Run, inside: Extent) -> Extent
-    requires table { IsTable table.now }
+fn with_group(sum: Extent, table: &Table, head: Head, run: Run, inside: Extent) -> Extent
     requires size_bound { (sum.size ≤ 65536) × (sum.points ≤ 65536) × (inside.size ≤ 65536) × (inside.points ≤ 65536) }
     requires size_bound_2 { (run.size ≤ 268435456) × (run.points ≤ 4096) }
     ensures { WithGroup sum (scope_in table.now) (to_spec_head head) run inside result }
@@ -101,9 +78,5 @@ fn grown(sum: usize, count: usize, size: usize) -> usize
     requires { (sum ≤ 268435456) × (count ≤ 65535) × (size ≤ 65536) }
     ensures { result ≡ min (sum + count * size) 65536 }
 {
-    let grown = sum + count * size;
-    if CAP < grown {
-        return CAP;
-    }
-    grown
+    CAP.min(sum + count * size)
 }

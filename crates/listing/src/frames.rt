@@ -8,41 +8,25 @@ ghost use Rattle.listing.specs.InternalCodeTypes.{to_spec_found};
 ghost use Rattle.listing.specs.InternalContracts.{FoundParses};
 
 use catalog::{Frame, read_frame};
+use catalog_frames::FRAME_WORDS;
 
-// The frame where a definition begins, right after its model frame; or that the catalog lacks it.
-#[derive(Clone, Copy)]
-pub(crate) enum Found {
-    At(usize),
-    Nothing,
-}
-
-// Where the definition of `id` begins, if the catalog has it. Searches the frames in order.
-pub(crate) fn find_model(catalog: &[u16], id: u16) -> Found
+// The frame where the definition of `id` begins, right after its model frame, if the catalog has it. Searches the frames in order.
+pub(crate) fn find_model(catalog: &[u16], id: u16) -> Option<usize>
     requires { Accepted catalog.now }
     ensures result_value { to_spec_found catalog.now result ≡ top_of id (definitions catalog.now) }
     ensures found_parses { FoundParses catalog.now result }
 {
-    let frames = catalog.len() / 8;
-    let mut i = 0;
-    while i < frames {
+    for i in 0..catalog.len() / FRAME_WORDS {
         if is_model(catalog, i, id) {
-            return Found::At(i + 1);
+            return Some(i + 1);
         }
-        i += 1;
     }
-    Found::Nothing
+    None
 }
 
 // Is frame i the model frame of `id`?
 fn is_model(catalog: &[u16], i: usize, id: u16) -> bool
     ensures { result ≡ is_model_of id (frame_in catalog.now i) }
 {
-    let frame = read_frame(catalog, i);
-    match frame {
-        Frame::Model(found) => found == id,
-        Frame::Group(_) => false,
-        Frame::Point(_) => false,
-        Frame::End => false,
-        Frame::Malformed => false,
-    }
+    read_frame(catalog, i) == Some(Frame::Model(id))
 }

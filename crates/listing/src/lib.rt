@@ -12,38 +12,91 @@ mod surveys;
 ghost use Rattle.std.specs.Prelude.{◌≡◌, ◌+◌, ◌*◌, ◌≤◌, length};
 ghost use Rattle.std.proofs.Math.Option.{none};
 ghost use Rattle.std.proofs.Math.ListN as Lists;
+ghost use Rattle.refusals.specs.Refusals.{number};
 ghost use Rattle.model_definitions.specs.Definitions.{definitions};
 ghost use Rattle.register_map.specs.Headers.{opening};
 ghost use Rattle.layout.specs.Reading.{reading};
-ghost use Rattle.layout.specs.InternalWalks.{Accepted, IsTable, points_of, read_in};
+ghost use Rattle.layout.specs.InternalWalks.{Accepted, points_of, read_in};
 ghost use Rattle.listing.specs.Listing as Listings;
-ghost use Rattle.listing.specs.CodeTypes.{to_spec_listing, HeadersCounted};
+ghost use Rattle.listing.specs.CodeTypes.{to_spec_listing, HeadersCounted, WithoutHeaders, BeforeHeaders, AtStart};
 ghost use Rattle.listing.specs.Calls.{ListCall};
 ghost use Rattle.listing.specs.InternalContracts.{written, body_at, WalkFits};
 
-use catalog::{Checked, check};
+use catalog::check;
 pub use group_instances::InstancePath;
 use group_instances::NUMBERS;
 pub use records::WIDTH;
 use records::{Visit, put_model};
-use register_map::{FIRST_HEADER, Header, Opening, body_address, header_at, opened};
+use refusals::{Refusal, Refused};
+use register_map::{FIRST_HEADER, Header, body_address, header_at, opened};
 use registers::part;
-pub use search::{Finding, Target, find};
-use surveys::{Survey, survey_model};
+pub use search::{Target, find};
+use std::error::Error;
+use std::fmt;
+use surveys::survey_model;
 
-// What `list` returns: the count of points and the number of headers; or a refusal's number, its place and the
-// number of headers before the refused one, with 30 all of them.
-#[derive(Clone, Copy)]
-pub enum Listing {
-    Listed {
-        points: usize,
-        headers: usize,
-    },
-    Refused {
-        number: u16,
-        place: usize,
-        headers: usize,
-    },
+// The points in scope: the first register of each, by the point's number.
+pub(crate) type Table = [u16; NUMBERS];
+
+// What `list` returns of a map that it lists: the count of points and the number of headers.
+#[derive(Clone, Copy, Debug, PartialEq, Eq)]
+pub struct Listed {
+    pub points: usize,
+    pub headers: usize,
+}
+
+// What `list` returns else: the refusal, its place, and the number of headers before the refused one, with 30 all of them.
+#[derive(Clone, Copy, Debug, PartialEq, Eq)]
+pub struct NotListed {
+    pub refusal: Refusal,
+    pub place: usize,
+    pub headers: usize,
+}
+
+impl fmt::Display for NotListed {
+    fn fmt<W: fmt::Write>(&self, f: &mut fmt::Formatter<W>) -> fmt::Result {
+        write!(
+            f,
+            "{} at {}, after {} headers",
+            self.refusal, self.place, self.headers
+        )
+    }
+}
+
+impl Error for NotListed {}
+
+// The refusal and its place.
+impl From<NotListed> for Refused {
+    ghost from_gives = { WithoutHeaders };
+
+    fn from(not_listed: NotListed) -> Refused {
+        Refused {
+            refusal: not_listed.refusal,
+            place: not_listed.place,
+        }
+    }
+}
+
+// A refusal of the catalog is before the first header.
+impl From<Refused> for NotListed {
+    ghost from_gives = { BeforeHeaders };
+
+    fn from(refused: Refused) -> NotListed {
+        NotListed {
+            refusal: refused.refusal,
+            place: refused.place,
+            headers: 0,
+        }
+    }
+}
+
+// So is a refusal of the map as a whole; its place is 0.
+impl From<Refusal> for NotListed {
+    ghost from_gives = { AtStart };
+
+    fn from(refusal: Refusal) -> NotListed {
+        NotListed::from(Refused::from(refusal))
+    }
 }
 
 // Lists the points of a map into `out`, ten numbers a record. All refusals and the count of points are decided
@@ -51,95 +104,60 @@ pub enum Listing {
 // Apart from checking the catalog, the time is at most proportional to the map's registers times the catalog's
 // frames: each model searches the catalog for its id, each instance reads the frames of its group again, and no
 // point needs a search.
-pub fn list(catalog: &[u16], map: &[u16], out: &mut [u64]) -> Listing
+pub fn list(catalog: &[u16], map: &[u16], out: &mut [u64]) -> Result<Listed, NotListed>
     ensures result_value { to_spec_listing result ≡ Listings.result (Listings.listing catalog.now map.now (length out.old)) }
     ensures out_after { out.new ≡ Listings.stored (Listings.listing catalog.now map.now (length out.old)) out.old }
     ensures headers_counted { HeadersCounted map.now result }
     ensures list_call { ListCall catalog.now map.now out.old result out.new }
 {
     let mut table = [0u16; NUMBERS];
-    let survey = survey_plant(catalog, map, &mut table);
-    match survey {
-        Listing::Listed { points, headers } => {
-            if out.len() / WIDTH < points {
-                return refused(30, points, headers);
-            }
-            put_map(catalog, map, &mut table, out);
-            Listing::Listed { points, headers }
-        }
-        Listing::Refused {
-            number,
-            place,
-            headers,
-        } => refused(number, place, headers),
+    let listed = survey_plant(catalog, map, &mut table)?;
+    if out.len() / WIDTH < listed.points {
+        return refused(Refusal::ShortList, listed.points, listed.headers);
     }
+    put_map(catalog, map, &mut table, out);
+    Ok(listed)
 }
 
-// 1 to 29, or the count of points of all known models and the number of headers. Walks over the headers and writes nothing.
-fn survey_plant(catalog: &[u16], map: &[u16], table: &mut [u16]) -> Listing
-    requires { IsTable table.old }
-    ensures result_value { to_spec_listing result ≡ Listings.result (Listings.all_records catalog.now map.now) }
-    ensures table { IsTable table.new }
+// 1 to 11, 20, 21, then 22 to 29 at the headers; or the count of points of all known models and the number of headers. Writes
+// nothing.
+fn survey_plant(catalog: &[u16], map: &[u16], table: &mut Table) -> Result<Listed, NotListed>
+    ensures { to_spec_listing result ≡ Listings.result (Listings.all_records catalog.now map.now) }
 {
-    let checked = check(catalog);
-    match checked {
-        Checked::Models(_) => survey_checked(catalog, map, table),
-        Checked::Refused { number, place } => refused(number, place, 0),
-    }
-}
-
-// The same for a catalog that was accepted: 20 and 21, then the walk.
-fn survey_checked(catalog: &[u16], map: &[u16], table: &mut [u16]) -> Listing
-    requires accepted { Accepted catalog.now }
-    requires table { IsTable table.old }
-    ensures result_value { to_spec_listing result ≡ Listings.result (Listings.records_by (reading (definitions catalog.now)) map.now) }
-    ensures table_2 { IsTable table.new }
-{
-    let opening = opened(map);
-    match opening {
-        Opening::Opened => survey_map(catalog, map, table),
-        Opening::Refused(number) => refused(number, 0, 0),
-    }
+    check(catalog)?;
+    opened(map)?;
+    survey_map(catalog, map, table)
 }
 
 // 22 to 29 at the headers, or the count of points of all known models and the number of headers.
-fn survey_map(catalog: &[u16], map: &[u16], table: &mut [u16]) -> Listing
+fn survey_map(catalog: &[u16], map: &[u16], table: &mut Table) -> Result<Listed, NotListed>
     requires accepted { Accepted catalog.now }
     requires map_value { opening map.now ≡ none }
-    requires table { IsTable table.old }
-    ensures result_value { to_spec_listing result ≡ Listings.result (Listings.walked (reading (definitions catalog.now)) map.now) }
-    ensures table_2 { IsTable table.new }
+    ensures { to_spec_listing result ≡ Listings.result (Listings.walked (reading (definitions catalog.now)) map.now) }
 {
     let mut at = FIRST_HEADER;
-    let mut headers = 0usize;
-    let mut points = 0usize;
-    while at < map.len() {
-        let header = header_at(map, at);
-        match header {
-            Header::Model { id, length } => {
-                let survey = survey_model(catalog, table, id, part(map, at + 2, length as usize));
-                match survey {
-                    Survey::Unknown => {}
-                    Survey::Refused(number) => {
-                        return refused(number, at, headers);
-                    }
-                    Survey::Points { points: more, .. } => points += more,
+    let mut headers = 0;
+    let mut points = 0;
+    loop {
+        match header_at(map, at) {
+            Ok(Header::Model { id, length }) => {
+                let body = part(map, at + 2, length as usize);
+                match survey_model(catalog, table, id, body) {
+                    Ok(survey) => points += survey.map_or(0, |survey| survey.points),
+                    Err(refusal) => return refused(refusal, at, headers),
                 }
                 at = after_model(at, length);
                 headers += 1;
             }
-            Header::End => {
-                return Listing::Listed {
+            Ok(Header::End) => {
+                return Ok(Listed {
                     points,
                     headers: headers + 1,
-                };
+                });
             }
-            Header::Refused(number) => {
-                return refused(number, at, headers);
-            }
+            Err(refusal) => return refused(refusal, at, headers),
         }
     }
-    refused(22, at, headers)
 }
 
 // The address of the header after a model.
@@ -150,44 +168,36 @@ fn after_model(at: usize, length: u16) -> usize
     body_address(at as u32, length as u32)
 }
 
-// A refusal, with count 0.
-fn refused(number: u16, place: usize, headers: usize) -> Listing
-    ensures { to_spec_listing result ≡ Listings.refused_result number place headers 0 }
+// The refusal with its place and its number of headers.
+fn refused(refusal: Refusal, place: usize, headers: usize) -> Result<Listed, NotListed>
+    ensures { to_spec_listing result ≡ Listings.refused_result (number refusal) place headers 0 }
 {
-    Listing::Refused {
-        number,
+    Err(NotListed {
+        refusal,
         place,
         headers,
-    }
+    })
 }
 
 // Writes the records of the known models of a map that was surveyed.
-fn put_map(catalog: &[u16], map: &[u16], table: &mut [u16], out: &mut [u64])
+fn put_map(catalog: &[u16], map: &[u16], table: &mut Table, out: &mut [u64])
     requires accepted { Accepted catalog.now }
     requires map_value { opening map.now ≡ none }
-    requires table { IsTable table.old }
     requires walk_fits { WalkFits (Listings.walked (reading (definitions catalog.now)) map.now) out.old }
     ensures { out.new ≡ Listings.stored (Listings.walked (reading (definitions catalog.now)) map.now) out.old }
 {
     let mut at = FIRST_HEADER;
     let mut index = 0usize;
     let mut records = 0usize;
-    while at < map.len() {
-        let header = header_at(map, at);
-        match header {
-            Header::Model { id, length } => {
-                let visit = Visit {
-                    index,
-                    id,
-                    address: at,
-                };
-                records = put_known(catalog, map, table, out, visit, length as usize, records);
-                at = after_model(at, length);
-                index += 1;
-            }
-            Header::End => return,
-            Header::Refused(_) => return,
-        }
+    while let Ok(Header::Model { id, length }) = header_at(map, at) {
+        let visit = Visit {
+            index,
+            id,
+            address: at,
+        };
+        records = put_known(catalog, map, table, out, visit, length as usize, records);
+        at = after_model(at, length);
+        index += 1;
     }
 }
 
@@ -195,29 +205,31 @@ fn put_map(catalog: &[u16], map: &[u16], table: &mut [u16], out: &mut [u64])
 fn put_known(
     catalog: &[u16],
     map: &[u16],
-    table: &mut [u16],
+    table: &mut Table,
     out: &mut [u64],
     visit: Visit,
     length: usize,
     records: usize,
 ) -> usize
     requires accepted { Accepted catalog.now }
-    requires table { IsTable table.old }
     requires length_bound { (visit.address + 2 + length ≤ Lists.length map.now) × (length ≤ 65535) × (Lists.length map.now ≤ 65536) }
     requires length_bound_2 { Listings.record_width * (records + Lists.length (points_of (read_in catalog.now visit.id (body_at map.now visit length)))) ≤ Lists.length out.old }
     ensures value { result ≡ records + Lists.length (points_of (read_in catalog.now visit.id (body_at map.now visit length))) }
     ensures out_after { out.new ≡ written visit records (points_of (read_in catalog.now visit.id (body_at map.now visit length))) out.old }
-    ensures table_2 { IsTable table.new }
 {
     let body = part(map, visit.address + 2, length);
-    let survey = survey_model(catalog, table, visit.id, body);
-    match survey {
-        Survey::Unknown => records,
-        Survey::Refused(_) => records,
-        Survey::Points {
-            first,
-            points: _,
-            fill,
-        } => put_model(catalog, table, out, visit, body, first, fill, records),
+    match survey_model(catalog, table, visit.id, body) {
+        Ok(Some(survey)) => put_model(
+            catalog,
+            table,
+            out,
+            visit,
+            body,
+            survey.first,
+            survey.fill,
+            records,
+        ),
+        Ok(None) => records,
+        Err(_) => records,
     }
 }

@@ -7,14 +7,15 @@ ghost use Rattle.catalog_frames.specs.CodeTypes.{to_spec_head};
 ghost use Rattle.layout.specs.Layout.{count_of};
 ghost use Rattle.layout.specs.FrameWalk.{head_of};
 ghost use Rattle.layout.specs.PointTables.{scope_in, present_within};
-ghost use Rattle.layout.specs.InternalWalks.{content_from, ParsesAt, level_of, IsTable, AtGroups};
+ghost use Rattle.layout.specs.InternalWalks.{content_from, ParsesAt, level_of, AtGroups};
 ghost use Rattle.layout.specs.Locating.{located_among, located_own, located_in};
 ghost use Rattle.listing.specs.InternalCodeTypes.{to_spec_located};
 ghost use Rattle.listing.specs.InternalContracts.{ModelAsks, located_within, LocateAsks, ShapeOf};
 
+use crate::Table;
 use crate::extents::groups_extent;
 use catalog::{Head, Point};
-use definition_frames::{GroupOr, PointOr, group_at, point_at, run_extent};
+use definition_frames::{group_at, point_at, run_extent};
 use group_instances::{InstancePath, LOWER_LEVELS, count_of, is_zero_from, number_at};
 
 // The search key: a point's number and its instance path.
@@ -31,13 +32,6 @@ pub(crate) struct Location {
     pub(crate) point: Point,
 }
 
-// The point with the search key, or that there is none.
-#[derive(Clone, Copy)]
-pub(crate) enum Located {
-    At(Location),
-    Nothing,
-}
-
 // A frame of the definition, and the offset in the body where its points or groups begin.
 #[derive(Clone, Copy)]
 pub(crate) struct Position {
@@ -49,23 +43,21 @@ pub(crate) struct Position {
 // points are in the table. A pad that is left out begins at the end of the body, so it is not found.
 pub(crate) fn locate_model(
     catalog: &[u16],
-    table: &[u16],
+    table: &Table,
     length: usize,
     first: usize,
     fill: usize,
     key: Key,
-) -> Located
-    requires model_asks { ModelAsks catalog.now table.now length first fill }
-    requires instances_value { Lists.length key.path.instances ≡ 3 }
+) -> Option<Location>
+    requires { ModelAsks catalog.now table.now length first fill }
     ensures { to_spec_located result ≡ located_within (count_of (scope_in table.now) fill) key.number key.path.instances length (content_from catalog.now first) }
 {
     let top = Position {
         frame: first,
         offset: 0,
     };
-    let found = locate_own(catalog, top, length, LOWER_LEVELS, key);
-    if let Located::At(location) = found {
-        return Located::At(location);
+    if let Some(location) = locate_own(catalog, top, length, LOWER_LEVELS, key) {
+        return Some(location);
     }
     let run = run_extent(catalog, first);
     let groups = Position {
@@ -90,64 +82,55 @@ struct Shape {
 // the instance with the path's number can have it: among its own points, or in the groups in it.
 fn locate_groups(
     catalog: &[u16],
-    table: &[u16],
+    table: &Table,
     fill: usize,
     levels: usize,
     start: Position,
     key: Key,
-) -> Located
-    requires locate_asks { LocateAsks catalog.now table.now fill levels start.frame start.offset }
-    requires instances_len { length key.path.instances ≡ 3 }
+) -> Option<Location>
+    requires { LocateAsks catalog.now table.now fill levels start.frame start.offset }
     ensures { to_spec_located result ≡ located_in (count_of (scope_in table.now) fill) key.number key.path.instances (level_of levels) start.offset (content_from catalog.now start.frame).groups }
 {
-    let frames = catalog.len() / 8;
     let mut at = start;
-    while at.frame < frames {
-        let next = group_at(catalog, at.frame);
-        match next {
-            GroupOr::Group(head) => {
-                let shape = shape_of(catalog, table, fill, levels, at.frame, head);
-                let j = number_at(key.path, LOWER_LEVELS - levels);
-                if j < shape.count {
-                    let own = Position {
-                        frame: at.frame + 1,
-                        offset: at.offset + j * shape.size,
-                    };
-                    let lower = Position {
-                        frame: shape.inside,
-                        offset: own.offset + shape.own_size,
-                    };
-                    let found = locate_own(catalog, own, lower.offset, levels - 1, key);
-                    if let Located::At(location) = found {
-                        return Located::At(location);
-                    }
-                    let found = locate_groups(catalog, table, fill, levels - 1, lower, key);
-                    if let Located::At(location) = found {
-                        return Located::At(location);
-                    }
-                }
-                at = Position {
-                    frame: shape.next,
-                    offset: at.offset + shape.count * shape.size,
-                };
+    while let Some(head) = group_at(catalog, at.frame) {
+        let shape = shape_of(catalog, table, fill, levels, at.frame, head);
+        let j = number_at(key.path, LOWER_LEVELS - levels);
+        if j < shape.count {
+            let own = Position {
+                frame: at.frame + 1,
+                offset: at.offset + j * shape.size,
+            };
+            let lower = Position {
+                frame: shape.inside,
+                offset: own.offset + shape.own_size,
+            };
+            let limit = lower.offset;
+            if let Some(location) = locate_own(catalog, own, limit, levels - 1, key) {
+                return Some(location);
             }
-            GroupOr::Other => return Located::Nothing,
+            if let Some(location) = locate_groups(catalog, table, fill, levels - 1, lower, key) {
+                return Some(location);
+            }
         }
+        at = Position {
+            frame: shape.next,
+            offset: at.offset + shape.count * shape.size,
+        };
     }
-    Located::Nothing
+    None
 }
 
 // The shape of the group at frame `frame`, by its head, its points and the groups in it.
 fn shape_of(
     catalog: &[u16],
-    table: &[u16],
+    table: &Table,
     fill: usize,
     levels: usize,
     frame: usize,
     head: Head,
 ) -> Shape
     requires at_groups { AtGroups catalog.now frame levels }
-    requires table { IsTable table.now × (levels ≤ 3) × (fill ≤ 65535) }
+    requires levels_bound { (levels ≤ 3) × (fill ≤ 65535) }
     requires frame_value { head_of (frame_in catalog.now frame) ≡ some (to_spec_head head) }
     ensures { ShapeOf catalog.now (count_of (scope_in table.now) fill) (to_spec_head head) frame result }
 {
@@ -164,42 +147,43 @@ fn shape_of(
 
 // Looks for the point among the own points of an instance that may hold `levels` further levels. Their path has number 0 at
 // every deeper level.
-fn locate_own(catalog: &[u16], start: Position, limit: usize, levels: usize, key: Key) -> Located
+fn locate_own(
+    catalog: &[u16],
+    start: Position,
+    limit: usize,
+    levels: usize,
+    key: Key,
+) -> Option<Location>
     requires parses_at { ParsesAt catalog.now start.frame × (length catalog.now / 8 ≤ 4096) }
-    requires limit_bound { (limit ≤ 65536) × (levels ≤ 3) × (length key.path.instances ≡ 3) }
+    requires limit_bound { (limit ≤ 65536) × (levels ≤ 3) }
     ensures { to_spec_located result ≡ located_own key.number key.path.instances (4 - levels) start.offset (present_within limit start.offset (content_from catalog.now start.frame).points) }
 {
-    if is_zero_from(key.path, LOWER_LEVELS - levels) {
-        return locate_run(catalog, start, limit, key.number);
+    if !is_zero_from(key.path, LOWER_LEVELS - levels) {
+        return None;
     }
-    Located::Nothing
+    locate_run(catalog, start, limit, key.number)
 }
 
 // Looks for the point with number `number` among the points from `start` on. Ends at offset `limit`, so that a pad that is
 // left out is not found.
-fn locate_run(catalog: &[u16], start: Position, limit: usize, number: u16) -> Located
+fn locate_run(catalog: &[u16], start: Position, limit: usize, number: u16) -> Option<Location>
     requires parses_at { ParsesAt catalog.now start.frame × (length catalog.now / 8 ≤ 4096) }
     requires limit_bound { limit ≤ 65536 }
     ensures { to_spec_located result ≡ located_among number start.offset (present_within limit start.offset (content_from catalog.now start.frame).points) }
 {
     let mut at = start;
     while at.offset < limit {
-        let next = point_at(catalog, at.frame);
-        match next {
-            PointOr::Point(point) => {
-                if point.number == number {
-                    return Located::At(Location {
-                        offset: at.offset,
-                        point,
-                    });
-                }
-                at = Position {
-                    frame: at.frame + 1,
-                    offset: at.offset + point.size as usize,
-                };
-            }
-            PointOr::Other => return Located::Nothing,
+        let point = point_at(catalog, at.frame)?;
+        if point.number == number {
+            return Some(Location {
+                offset: at.offset,
+                point,
+            });
         }
+        at = Position {
+            frame: at.frame + 1,
+            offset: at.offset + point.size as usize,
+        };
     }
-    Located::Nothing
+    None
 }

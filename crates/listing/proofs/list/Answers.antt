@@ -2,7 +2,11 @@
 use Rattle.std.proofs.Common.{◌≡◌, ℕ, List, ◌/◌, ◌≤◌, length, sym, ap, subst, ◌∙◌, arith}
 use Rattle.model_definitions.specs.Definitions.{definitions}
 use Rattle.layout.specs.Reading.{reading}
-use Rattle.listing.specs.declared.Listing as Code
+use Rattle.std.specs.Prelude.{Result, Ok, Err}
+use Rattle.std.proofs.lemmas.Result.{err_from_is_err_and}
+use Rattle.refusals.specs.Refusals.{number}
+use Rattle.listing.specs.declared.Listed.{Listed}
+use Rattle.listing.specs.declared.NotListed.{NotListed}
 use Rattle.listing.specs.Listing.{walked, all_records, listing, listed_result, result, stored, record_width}
 use Rattle.listing.specs.InternalContracts.{WalkFits}
 use Rattle.listing.specs.CodeTypes.{to_spec_listing, HeadersCounted}
@@ -27,7 +31,7 @@ survey_walk catalog registers out points headers e capacity =
     (w, subst (λ a. WalkFits a out) (sym w.walks) fits, w.walks)
 
 -- The headers follow from the result, and both equations make the call.
-with_headers : (catalog map out : List ℕ) (r : Code.Listing) {out' : List ℕ}
+with_headers : (catalog map out : List ℕ) (r : Result Listed NotListed) {out' : List ℕ}
     → Answered (listing catalog map (length out)) out (to_spec_listing r) out'
     → (to_spec_listing r ≡ result (listing catalog map (length out)))
     × (out' ≡ stored (listing catalog map (length out)) out)
@@ -36,12 +40,12 @@ with_headers : (catalog map out : List ℕ) (r : Code.Listing) {out' : List ℕ}
 with_headers catalog map out r w =
     (w.0, w.1, headers_counted catalog map (length out) r w.0, record { result = w.0; list = w.1 })
 
-pub returns-then-out-points : goal.returns-then-out-points
-returns-then-out-points c =
+pub returns-then-out-listed : goal.returns-then-out-listed
+returns-then-out-listed c =
     let v = c.args in
     let out = v.out.now in
     let a = all_records v.catalog.now v.map.now in
-    let n = too_short out a c.in-Listed.points c.in-Listed.headers c.in-Listed.ensures.result_value (omega arith) in
+    let n = too_short out a c.in_ok-listed.listed.points c.in_ok-listed.listed.headers c.in_ok-listed.ensures (omega arith) in
     let w = with_headers v.catalog.now v.map.now out c.refused.result
     (answered_by_lem out (listing_records v.catalog.now v.map.now (length out)) (c.refused.ensures ∙ n.0, n.1)) in
     record { result_value = w.0; out_after = w.1; headers_counted = w.2; list_call = w.3 }
@@ -49,30 +53,32 @@ returns-then-out-points c =
 pub put_map-requires : goal.put_map-requires
 put_map-requires c =
     let v = c.args in
-    let s = c.in-Listed.ensures in
-    let w = survey_walk v.catalog.now v.map.now v.out.now c.in-Listed.points c.in-Listed.headers s.result_value (omega arith) in
-    record { accepted = (w.0.models, w.0.accepted); map_value = w.0.opens; table = s.table; walk_fits = w.1 }
+    let s = c.in_ok-listed.ensures in
+    let w = survey_walk v.catalog.now v.map.now v.out.now c.in_ok-listed.listed.points c.in_ok-listed.listed.headers s (omega arith) in
+    record { accepted = (w.0.models, w.0.accepted); map_value = w.0.opens; walk_fits = w.1 }
 
-pub returns-else-out-points : goal.returns-else-out-points
-returns-else-out-points c =
+pub returns : goal.returns
+returns c =
     let v = c.args in
     let out = v.out.now in
-    let points = c.in-Listed.points in
-    let headers = c.in-Listed.headers in
-    let e = c.in-Listed.ensures.result_value in
+    let points = c.in_ok-listed.listed.points in
+    let headers = c.in_ok-listed.listed.headers in
+    let e = c.in_ok-listed.ensures in
     let capacity = has_capacity out (all_records v.catalog.now v.map.now) points headers e (omega arith) in
     let walk = survey_walk v.catalog.now v.map.now out points headers e (omega arith) in
-    let w = with_headers v.catalog.now v.map.now out (Code.Listing.Listed points headers)
+    let w = with_headers v.catalog.now v.map.now out (Ok c.in_ok-listed.listed)
     (answered_by_lem out (listing_records v.catalog.now v.map.now (length out) ∙ capacity.1)
     (e, c.put_map.ensures ∙ ap (λ x. stored x out) walk.2)) in
     record { result_value = w.0; out_after = w.1; headers_counted = w.2; list_call = w.3 }
 
-pub returns-in-Refused : goal.returns-in-Refused
-returns-in-Refused c =
+pub returns-in_err-listed : goal.returns-in_err-listed
+returns-in_err-listed c =
     let v = c.args in
     let out = v.out.now in
-    let r = c.in-Refused in
-    let n = before_capacity out (all_records v.catalog.now v.map.now) r.number r.place r.headers r.ensures.result_value in
-    let w = with_headers v.catalog.now v.map.now out c.refused-in-Refused.result
-    (answered_by_lem out (listing_records v.catalog.now v.map.now (length out)) (c.refused-in-Refused.ensures ∙ n.0, n.1)) in
+    let r = c.in_err-listed.field-0.0 in
+    let exit = err_from_is_err_and c.from_residual.result c.from_residual.ensures.1 in
+    let n = before_capacity out (all_records v.catalog.now v.map.now) (number r.refusal) r.place r.headers c.in_err-listed.ensures in
+    let w = with_headers v.catalog.now v.map.now out c.from_residual.result
+    (answered_by_lem out (listing_records v.catalog.now v.map.now (length out))
+    (ap to_spec_listing exit.1 ∙ ap (λ e. to_spec_listing (Err e)) exit.2 ∙ n.0, n.1)) in
     record { result_value = w.0; out_after = w.1; headers_counted = w.2; list_call = w.3 }

@@ -13,8 +13,9 @@ use Rattle.layout.specs.Reading.{Reading, reading}
 use Rattle.layout.specs.InternalWalks.{Surveyed, surveyed}
 use Rattle.layout.proofs.PointsInside.{points_few}
 use Rattle.listing.proofs.MapSteps.{body_length}
-use Rattle.listing.proofs.MapSurvey.{Surveying, survey_starts, survey_ends, survey_refused, survey_late}
-use Rattle.listing.proofs.MapSurvey.{survey_unknown, survey_faulty, more_fit, survey_points}
+use Rattle.listing.proofs.MapSurvey.{Surveying, survey_starts, survey_ends, survey_refused}
+use Rattle.listing.proofs.MapSurvey.{survey_count, survey_faulty, survey_on}
+use Rattle.std.proofs.Common.{rules}
 use Rattle.listing.proofs.survey_map.Goals as goal
 
 -- A survey of the part of the map that is the body is one of the model.
@@ -22,81 +23,59 @@ of_part : (read : Model → Reading) (id : ℕ) {part body : List ℕ} → part 
     → s ≡ surveyed (read (record { id = id; body = part })) → s ≡ surveyed (read (record { id = id; body = body }))
 of_part read id is e = e ∙ ap (λ b. surveyed (read (record { id = id; body = b }))) is
 
-pub loop-at-init : goal.loop-at-init
-loop-at-init c =
-    (survey_starts (reading (definitions c.args.catalog.now)) c.args.map.now, c.requires.table)
+pub loop-id-init : goal.loop-id-init
+loop-id-init c =
+    survey_starts (reading (definitions c.args.catalog.now)) c.args.map.now
 
-pub survey_model-survey-requires : goal.survey_model-survey-requires
-survey_model-survey-requires c =
-    let l = c.loop-at in
-    let h = sym c.in-Model.ensures in
+pub survey_model-requires : goal.survey_model-requires
+survey_model-requires c =
+    let l = c.loop-id in
+    let h = sym (rw c.in-Ok-Model.field-0-is at c.in-Ok-Model.ensures) in
     let short = (opening_none c.args.map.now c.requires.map_value).0 in
     let ends = model_ends (eqb l.at 2) c.args.map.now l.at h in
-    let all = ap length c.part.ensures ∙ body_length c.args.map.now l.at c.in-Model.id c.in-Model.length h in
-    record {
-      accepted = c.requires.accepted;
-      table = (l.invariant.1, omega (arith, all, short, ends));
-    }
+    let all = ap length c.part-body.ensures ∙ body_length c.args.map.now l.at c.in-Ok-Model.id c.in-Ok-Model.length h in
+    record { accepted = c.requires.accepted; body_len_bound = omega (arith, all, short, ends) }
 
-pub returns-in-Refused-survey : goal.returns-in-Refused-survey
-returns-in-Refused-survey c =
-    let l = c.loop-at in
-    let h = sym c.in-Model.ensures in
+pub returns-in-Err-survey_model : goal.returns-in-Err-survey_model
+returns-in-Err-survey_model c =
+    let l = c.loop-id in
+    let h = sym (rw c.in-Ok-Model.field-0-is at c.in-Ok-Model.ensures) in
     let short = (opening_none c.args.map.now c.requires.map_value).0 in
-    let e = of_part (reading (definitions c.args.catalog.now)) c.in-Model.id c.part.ensures c.in-Refused-survey.ensures.result_value in
-    record {
-      result_value = c.refused.ensures ∙ survey_faulty l.invariant.0 short h e;
-      table_2 = c.survey_model-survey.ensures.table_2;
-    }
+    let survey = c.in-Err-survey_model.ensures.result_value in
+    let e = of_part (reading (definitions c.args.catalog.now)) c.in-Ok-Model.id c.part-body.ensures survey in
+    c.refused.ensures ∙ survey_faulty l.invariant short h e
 
 pub overflow_add-points : goal.overflow_add-points
 overflow_add-points c =
-    let l = c.loop-at in
-    let h = sym c.in-Model.ensures in
+    let l = c.loop-id in
+    let h = sym (rw c.in-Ok-Model.field-0-is at c.in-Ok-Model.ensures) in
     let short = (opening_none c.args.map.now c.requires.map_value).0 in
-    let e = of_part (reading (definitions c.args.catalog.now)) c.in-Model.id c.part.ensures c.in-Points.ensures.result_value in
-    let more = more_fit l.invariant.0 short h (points_few c.args.catalog.now c.requires.accepted) e in
-    record { fits = omega (arith, more) }
+    let survey = c.in-Ok.ensures.result_value in
+    let e = of_part (reading (definitions c.args.catalog.now)) c.in-Ok-Model.id c.part-body.ensures survey in
+    let on = survey_on l.invariant short h (points_few c.args.catalog.now c.requires.accepted) c.in-Ok.survey e in
+    let more : c.map_or-points.result ≡ survey_count c.in-Ok.survey = search rules in
+    record { fits = omega (arith, on.0) }
 
-pub loop-at-preserved : goal.loop-at-preserved
-loop-at-preserved c =
-    let l = c.loop-at in
-    let h = sym c.in-Model.ensures in
+pub loop-id-preserved : goal.loop-id-preserved
+loop-id-preserved c =
+    let l = c.loop-id in
+    let h = sym (rw c.in-Ok-Model.field-0-is at c.in-Ok-Model.ensures) in
     let short = (opening_none c.args.map.now c.requires.map_value).0 in
     let read = reading (definitions c.args.catalog.now) in
-    let few = points_few c.args.catalog.now c.requires.accepted in
-    let Goes : ℕ → Type 0 = λ n. Surveying read c.args.map.now (l.at + (2 + c.in-Model.length)) (l.headers + 1) n in
-    let next : Goes c.match-survey.points = elim c.match-survey.branch [
-      | goal.in-Unknown w ↦
-          let e = of_part read c.in-Model.id c.part.ensures w.in-Unknown.ensures.result_value in
-          subst Goes (sym w.points-is) (survey_unknown l.invariant.0 short h e)
-      | goal.in-Points w ↦
-          let e = of_part read c.in-Model.id c.part.ensures w.in-Points.ensures.result_value in
-          subst Goes (sym w.points-is) (survey_points l.invariant.0 short h few e)
-    ] in
-    let Reached : ℕ → Type 0 = λ at. Surveying read c.args.map.now at (l.headers + 1) c.match-survey.points in
-    (subst Reached (sym c.after_model-at.ensures) next, c.survey_model-survey.ensures.table_2)
+    let survey = c.in-Ok.ensures.result_value in
+    let e = of_part read c.in-Ok-Model.id c.part-body.ensures survey in
+    let on = survey_on l.invariant short h (points_few c.args.catalog.now c.requires.accepted) c.in-Ok.survey e in
+    let more : c.map_or-points.result ≡ survey_count c.in-Ok.survey = search rules in
+    let Reached : ℕ → ℕ → Type 0 = λ at n. Surveying read c.args.map.now at (l.headers + 1) (l.points + n) in
+    let at_next = subst (λ at. Reached at (survey_count c.in-Ok.survey)) (sym c.after_model-at.ensures) on.1 in
+    subst (Reached c.after_model-at.result) (sym more) at_next
 
-pub returns-in-End : goal.returns-in-End
-returns-in-End c =
-    let l = c.loop-at in
-    record {
-      result_value = survey_ends l.invariant.0 (omega arith) (sym c.in-End.ensures);
-      table_2 = l.invariant.1;
-    }
+pub returns-in-Ok-End : goal.returns-in-Ok-End
+returns-in-Ok-End c =
+    let l = c.loop-id in
+    survey_ends l.invariant (sym (rw c.in-Ok-End.field-0-is at c.in-Ok-End.ensures))
 
-pub returns-in-Refused : goal.returns-in-Refused
-returns-in-Refused c =
-    let l = c.loop-at in
-    record {
-      result_value = c.refused-in-Refused.ensures ∙ survey_refused l.invariant.0 (omega arith) (sym c.in-Refused.ensures);
-      table_2 = l.invariant.1;
-    }
-
-pub returns : goal.returns
-returns c =
-    let l = c.loop-at in
-    record {
-      result_value = c.refused-2.ensures ∙ survey_late l.invariant.0 (omega arith);
-      table_2 = l.invariant.1;
-    }
+pub returns-in-Err : goal.returns-in-Err
+returns-in-Err c =
+    let l = c.loop-id in
+    c.refused-in-Err.ensures ∙ survey_refused l.invariant (sym c.in-Err.ensures)

@@ -1,11 +1,7 @@
 -- `listing::frames::find_model` meets its contract: the definition is at the current frame, at a later one, or nowhere.
 use mathlib.Core.Path.{◌≡◌}
-use Prim.Native.Nat.{◌-◌}
 use Rattle.layout.proofs.ModelSearch.{top_from}
 use Rattle.listing.proofs.frames.find_model.Given as goal
 
 abbrev pub invariant-loop-i : goal.invariant-loop-i
 invariant-loop-i l = top_from l.catalog l.id l.i ≡ top_from l.catalog l.id 0
-
-abbrev pub decreases-loop-i : goal.decreases-loop-i
-decreases-loop-i l = l.frames - l.i

@@ -1,5 +1,5 @@
 -- `listing::locating::locate_groups` meets its contract: at each group the result is the instance's, else that past the group.
-use mathlib.Core.Path.{◌≡◌, refl, sym, ap, ◌∙◌}
+use mathlib.Core.Path.{◌≡◌, sym, ap, ◌∙◌}
 use mathlib.Core.List.{List}
 use mathlib.Core.Option.{some}
 use Prim.Native.Nat.{ℕ, ◌+◌, ◌-◌, ◌*◌, ◌≤◌}
@@ -17,7 +17,7 @@ use Rattle.listing.specs.declared.locating.Shape.{Shape}
 use Rattle.listing.proofs.LocatedGroups as steps
 use Rattle.listing.proofs.LocatedGroups.{AtGroup}
 use Rattle.listing.proofs.locating.+locate_groups.Goals as goal
-use Rattle.listing.proofs.locating.+locate_groups.Goals.{then-j-shape+in_default+in_default-found, else-j-shape}
+use Rattle.listing.proofs.locating.+locate_groups.Goals.{then-j-shape+in_default-locate_own+in_default-locate_groups, else-j-shape}
 
 -- The search is at a group with the head that is read and its shape.
 at_group : {ws table : List ℕ} {fill levels frame offset : ℕ} {h : Head} {r : Shape}
@@ -34,75 +34,75 @@ at_number levels few path e =
 
 pub overflow_sub-levels-then-j-shape : goal.overflow_sub-levels-then-j-shape
 overflow_sub-levels-then-j-shape t c =
-    steps.level_left (at_group c.loop-at.invariant.0 c.in-Group.ensures c.shape_of-shape.ensures)
+    steps.level_left (at_group c.loop-head.invariant.0 c.in-Some.ensures c.shape_of-shape.ensures)
 
-pub locate_own-found-requires-clause-parses_at : goal.locate_own-found-requires-clause-parses_at
-locate_own-found-requires-clause-parses_at t c =
-    let asks = c.loop-at.invariant.0 in
-    (steps.own_parses (at_group asks c.in-Group.ensures c.shape_of-shape.ensures), asks.position.few)
+pub locate_own-requires-clause-parses_at : goal.locate_own-requires-clause-parses_at
+locate_own-requires-clause-parses_at t c =
+    let asks = c.loop-head.invariant.0 in
+    (steps.own_parses (at_group asks c.in-Some.ensures c.shape_of-shape.ensures), asks.position.few)
 
-pub locate_own-found-requires-clause-limit_bound : goal.locate_own-found-requires-clause-limit_bound
-locate_own-found-requires-clause-limit_bound t c =
-    let asks = c.loop-at.invariant.0 in
-    let there = at_group asks c.in-Group.ensures c.shape_of-shape.ensures in
+pub locate_own-requires-clause-limit_bound : goal.locate_own-requires-clause-limit_bound
+locate_own-requires-clause-limit_bound t c =
+    let asks = c.loop-head.invariant.0 in
+    let there = at_group asks c.in-Some.ensures c.shape_of-shape.ensures in
     let path = c.args.key.path.instances in
     let j = at_number c.args.levels asks.at_most3 path c.number_at-j.ensures in
-    (steps.own_within there c.args.key.number path j c.if-j-shape.true, omega (arith, asks.at_most3), c.requires.instances_len)
+    (steps.own_within there c.args.key.number path j c.if-j-shape.true, omega (arith, asks.at_most3))
 
-pub returns-in-At : goal.returns-in-At
-returns-in-At t c =
-    let asks = c.loop-at.invariant.0 in
-    let there = at_group asks c.in-Group.ensures c.shape_of-shape.ensures in
+pub returns-in-Some-locate_own : goal.returns-in-Some-locate_own
+returns-in-Some-locate_own t c =
+    let asks = c.loop-head.invariant.0 in
+    let there = at_group asks c.in-Some.ensures c.shape_of-shape.ensures in
     let path = c.args.key.path.instances in
     let j = at_number c.args.levels asks.at_most3 path c.number_at-j.ensures in
-    steps.found_own there c.args.key.number path j c.if-j-shape.true (sym c.in-At.ensures) ∙ c.loop-at.invariant.1
+    steps.found_own there c.args.key.number path j c.if-j-shape.true (sym c.in-Some-locate_own.ensures) ∙ c.loop-head.invariant.1
 
 pub overflow_sub-levels-then-j-shape-2 : goal.overflow_sub-levels-then-j-shape-2
 overflow_sub-levels-then-j-shape-2 t c =
-    steps.level_left (at_group c.loop-at.invariant.0 c.in-Group.ensures c.shape_of-shape.ensures)
+    steps.level_left (at_group c.loop-head.invariant.0 c.in-Some.ensures c.shape_of-shape.ensures)
 
-pub locate_groups-found-requires : goal.locate_groups-found-requires
-locate_groups-found-requires t c =
-    let asks = c.loop-at.invariant.0 in
-    let there = at_group asks c.in-Group.ensures c.shape_of-shape.ensures in
+pub locate_groups-requires : goal.locate_groups-requires
+locate_groups-requires t c =
+    let asks = c.loop-head.invariant.0 in
+    let there = at_group asks c.in-Some.ensures c.shape_of-shape.ensures in
     let path = c.args.key.path.instances in
     let j = at_number c.args.levels asks.at_most3 path c.number_at-j.ensures in
     let lower = steps.lower_asks there c.args.key.number path j c.if-j-shape.true in
-    (omega (arith, steps.level_left there, c.decreases), (lower, c.requires.instances_len))
+    (omega (arith, steps.level_left there, c.decreases), lower)
 
-pub returns-in-At-found : goal.returns-in-At-found
-returns-in-At-found t c =
-    let asks = c.loop-at.invariant.0 in
-    let there = at_group asks c.in-Group.ensures c.shape_of-shape.ensures in
+pub returns-in-Some-locate_groups : goal.returns-in-Some-locate_groups
+returns-in-Some-locate_groups t c =
+    let asks = c.loop-head.invariant.0 in
+    let there = at_group asks c.in-Some.ensures c.shape_of-shape.ensures in
     let path = c.args.key.path.instances in
     let j = at_number c.args.levels asks.at_most3 path c.number_at-j.ensures in
-    steps.found_lower there c.args.key.number path j c.if-j-shape.true (sym c.in_default.ensures) (sym c.in-At-found.ensures)
-    ∙ c.loop-at.invariant.1
+    steps.found_lower there c.args.key.number path j c.if-j-shape.true (sym c.in_default-locate_own.ensures) (sym c.in-Some-locate_groups.ensures)
+    ∙ c.loop-head.invariant.1
 
-pub loop-at-preserved : goal.loop-at-preserved
-loop-at-preserved t c =
-    let asks = c.loop-at.invariant.0 in
-    let there = at_group asks c.in-Group.ensures c.shape_of-shape.ensures in
+pub loop-head-preserved : goal.loop-head-preserved
+loop-head-preserved t c =
+    let asks = c.loop-head.invariant.0 in
+    let there = at_group asks c.in-Some.ensures c.shape_of-shape.ensures in
     let number = c.args.key.number in
     let path = c.args.key.path.instances in
     let j = at_number c.args.levels asks.at_most3 path c.number_at-j.ensures in
     let result = located_in (count_of (scope_in c.args.table.now) c.args.fill) number path (level_of c.args.levels) in
     let shape = c.shape_of-shape.result in
-    let same : result c.loop-at.at.offset (content_from c.args.catalog.now c.loop-at.at.frame).groups
-    ≡ result (c.loop-at.at.offset + shape.count * shape.size) (content_from c.args.catalog.now shape.next).groups =
+    let same : result c.loop-head.at.offset (content_from c.args.catalog.now c.loop-head.at.frame).groups
+    ≡ result (c.loop-head.at.offset + shape.count * shape.size) (content_from c.args.catalog.now shape.next).groups =
     elim c.if-j-shape.branch [
-      | then-j-shape+in_default+in_default-found w ↦
-          steps.found_neither there number path j w.if-j-shape.true (sym w.in_default.ensures) (sym w.in_default-found.ensures)
+      | then-j-shape+in_default-locate_own+in_default-locate_groups w ↦
+          steps.found_neither there number path j w.if-j-shape.true (sym w.in_default-locate_own.ensures) (sym w.in_default-locate_groups.ensures)
       | else-j-shape w ↦ steps.goes_past there number path j w.if-j-shape.false
     ] in
-    (steps.past_asks there, sym same ∙ c.loop-at.invariant.1, refl)
+    (steps.past_asks there, sym same ∙ c.loop-head.invariant.1)
 
-pub returns-in-Other : goal.returns-in-Other
-returns-in-Other t c =
-    sym (steps.ends c.loop-at.invariant.0 (sym c.in-Other.ensures) c.args.key.number c.args.key.path.instances)
-    ∙ c.loop-at.invariant.1
+pub loop-head-smaller : goal.loop-head-smaller
+loop-head-smaller t c =
+    let within = position.parses_within c.args.catalog.now c.loop-head.at.frame c.loop-head.invariant.0.position.parses in
+    omega (arith, within, c.shape_of-shape.ensures.next)
 
 pub returns : goal.returns
 returns t c =
-    let within = position.parses_within c.args.catalog.now c.loop-at.at.frame c.loop-at.invariant.0.position.parses in
-    absurd (omega (arith, within, c.loop-at.invariant.2, c.loop-at-test.false))
+    sym (steps.ends c.loop-head.invariant.0 (sym c.in_default.ensures) c.args.key.number c.args.key.path.instances)
+    ∙ c.loop-head.invariant.1

@@ -9,17 +9,16 @@ use Rattle.layout.specs.Locating.{located_in}
 use Rattle.listing.specs.InternalContracts.{LocateAsks}
 use Rattle.listing.proofs.locating.+locate_groups.Given as goal
 
-abbrev pub invariant-loop-at : goal.invariant-loop-at
-invariant-loop-at l =
+abbrev pub invariant-loop-head : goal.invariant-loop-head
+invariant-loop-head l =
     LocateAsks l.catalog l.table l.fill l.levels l.at.frame l.at.offset
     × (located_in (count_of (scope_in l.table) l.fill) l.key.number l.key.path.instances (level_of l.levels) l.at.offset
     (content_from l.catalog l.at.frame).groups
     ≡ located_in (count_of (scope_in l.table) l.fill) l.key.number l.key.path.instances (level_of l.levels) l.initial.at.offset
     (content_from l.catalog l.initial.at.frame).groups)
-    × (l.frames ≡ length l.catalog / 8)
 
-abbrev pub decreases-loop-at : goal.decreases-loop-at
-decreases-loop-at l = l.frames - l.at.frame
+abbrev pub decreases-loop-head : goal.decreases-loop-head
+decreases-loop-head l = length l.catalog / 8 - l.at.frame
 
 abbrev pub decreases-locate_groups : goal.decreases-locate_groups
 decreases-locate_groups l = l.levels

@@ -12,10 +12,10 @@ use Rattle.definition_frames.proofs.RunSteps.{content_run}
 use Rattle.listing.specs.InternalContracts.{LocateAsks}
 use Rattle.listing.proofs.locating.locate_model.Goals as goal
 
-pub locate_groups-requires-clause-locate_asks : goal.locate_groups-requires-clause-locate_asks
-locate_groups-requires-clause-locate_asks c =
+pub locate_groups-requires : goal.locate_groups-requires
+locate_groups-requires c =
     let a = c.args in
-    let asks = c.requires.model_asks in
+    let asks = c.requires in
     let run = content_run a.catalog.now a.first asks.parses asks.groups.position.few _ c.run_extent-run.ensures in
     let Asks : ℕ → ℕ → Type 0 = LocateAsks a.catalog.now a.table.now a.fill 3 in
     subst (λ n. Asks n c.run_extent-run.result.size) (sym run.next) (subst (Asks _) (sym run.size) asks.groups)
@@ -23,7 +23,7 @@ locate_groups-requires-clause-locate_asks c =
 pub returns : goal.returns
 returns c =
     let a = c.args in
-    let asks = c.requires.model_asks in
+    let asks = c.requires in
     let run = content_run a.catalog.now a.first asks.parses asks.groups.position.few _ c.run_extent-run.ensures in
     let top = content_from a.catalog.now a.first in
     let groups = ap (λ n. (content_from a.catalog.now n).groups) run.next

@@ -10,6 +10,7 @@ use Rattle.layout.specs.InternalWalks.{content_from}
 use Rattle.layout.specs.Locating.{located_among}
 use Rattle.layout.proofs.FramePosition as position
 use Rattle.layout.proofs.LocatingSteps.{none_left, none_past, found_first, not_first}
+use Rattle.listing.specs.InternalCodeTypes.{to_spec_located}
 use Rattle.listing.proofs.locating.locate_run.Goals as goal
 
 -- Among equal points the result is the same.
@@ -21,8 +22,8 @@ pub returns-then-point-number : goal.returns-then-point-number
 returns-then-point-number c =
     let a = c.args in
     let l = c.loop-at in
-    let p = to_spec_point c.in-Point.point in
-    let next = position.point_next a.catalog.now l.at.frame l.invariant.1 p (sym c.in-Point.ensures) in
+    let p = to_spec_point c.in_ok-point.point in
+    let next = position.point_next a.catalog.now l.at.frame l.invariant.1 p (sym c.in_ok-point.ensures) in
     sym (found_first a.number a.limit l.at.offset p (content_from a.catalog.now (l.at.frame + 1)).points (omega arith)
     (omega (arith, c.if-point-number)))
     ∙ among a.number a.limit l.at.offset next.0
@@ -42,8 +43,8 @@ pub loop-at-preserved : goal.loop-at-preserved
 loop-at-preserved c =
     let a = c.args in
     let l = c.loop-at in
-    let p = to_spec_point c.in-Point.point in
-    let next = position.point_next a.catalog.now l.at.frame l.invariant.1 p (sym c.in-Point.ensures) in (
+    let p = to_spec_point c.in_ok-point.point in
+    let next = position.point_next a.catalog.now l.at.frame l.invariant.1 p (sym c.in_ok-point.ensures) in (
       sym (not_first a.number a.limit l.at.offset p (content_from a.catalog.now (l.at.frame + 1)).points (omega arith)
           c.if-point-number.false)
           ∙ among a.number a.limit l.at.offset next.0
@@ -51,12 +52,13 @@ loop-at-preserved c =
       next.2,
     )
 
-pub returns-in-Other : goal.returns-in-Other
-returns-in-Other c =
+pub returns-in_err-point : goal.returns-in_err-point
+returns-in_err-point c =
     let a = c.args in
     let l = c.loop-at in
-    let none = position.no_point_lem a.catalog.now l.at.frame l.invariant.1 (sym c.in-Other.ensures) in
-    sym (none_left a.number a.limit l.at.offset)
+    let none = position.no_point_lem a.catalog.now l.at.frame l.invariant.1 (sym c.in_err-point.ensures) in
+    ap to_spec_located c.from_residual.ensures
+    ∙ sym (none_left a.number a.limit l.at.offset)
     ∙ among a.number a.limit l.at.offset none
     ∙ l.invariant.0
 

@@ -16,30 +16,30 @@ overflow_add-frame c =
 
 pub overflow_sub-levels : goal.overflow_sub-levels
 overflow_sub-levels c =
-    groups.level_left c.args.catalog.now c.args.frame c.args.levels c.requires.at_groups c.requires.table.1 _ c.requires.frame_value
+    groups.level_left c.args.catalog.now c.args.frame c.args.levels c.requires.at_groups c.requires.levels_bound.0 _ c.requires.frame_value
 
 pub groups_extent-inside-requires-clause-at_groups : goal.groups_extent-inside-requires-clause-at_groups
 groups_extent-inside-requires-clause-at_groups c =
     let a = c.args in
     let r = c.requires in
-    let own = own_run a.catalog.now a.frame a.levels r.at_groups r.table.1 _ r.frame_value _ c.run_extent-run.ensures in
-    let into = groups.into_group a.catalog.now a.frame a.levels r.at_groups r.table.1 _ r.frame_value in
+    let own = own_run a.catalog.now a.frame a.levels r.at_groups r.levels_bound.0 _ r.frame_value _ c.run_extent-run.ensures in
+    let into = groups.into_group a.catalog.now a.frame a.levels r.at_groups r.levels_bound.0 _ r.frame_value in
     subst (λ n. AtGroups a.catalog.now n (a.levels - 1)) (sym own.next) into.1
 
 pub overflow_add-result : goal.overflow_add-result
 overflow_add-result c =
     let a = c.args in
     let r = c.requires in
-    let own = own_run a.catalog.now a.frame a.levels r.at_groups r.table.1 _ r.frame_value _ c.run_extent-run.ensures in
-    let few = own_few a.catalog.now a.frame a.levels r.at_groups r.table.1 _ r.frame_value in
+    let own = own_run a.catalog.now a.frame a.levels r.at_groups r.levels_bound.0 _ r.frame_value _ c.run_extent-run.ensures in
+    let few = own_few a.catalog.now a.frame a.levels r.at_groups r.levels_bound.0 _ r.frame_value in
     omega (arith, own.size, few.1, c.groups_extent-inside.ensures.extent_of.size)
 
 pub returns : goal.returns
 returns c =
     let a = c.args in
     let r = c.requires in
-    let own = own_run a.catalog.now a.frame a.levels r.at_groups r.table.1 _ r.frame_value _ c.run_extent-run.ensures in
+    let own = own_run a.catalog.now a.frame a.levels r.at_groups r.levels_bound.0 _ r.frame_value _ c.run_extent-run.ensures in
     let lower = c.groups_extent-inside.ensures in
     let count = c.count_of.ensures in
-    shape_is a.catalog.now a.table.now a.fill a.levels a.frame r.at_groups r.table.1 _ r.frame_value _ _ _
-    own lower.extent_of lower.next_value count.value (omega (arith, count.upper_bound, r.table.2))
+    shape_is a.catalog.now a.table.now a.fill a.levels a.frame r.at_groups r.levels_bound.0 _ r.frame_value _ _ _
+    own lower.extent_of lower.next_value count.value (omega (arith, count.upper_bound, r.levels_bound.1))

@@ -9,8 +9,8 @@ use Rattle.listing.specs.InternalContracts.{written}
 use Rattle.listing.proofs.ModelWriting as model
 use Rattle.listing.proofs.records.put_model.Goals as goal
 
-pub put_run-after_points-requires-clause-run_asks : goal.put_run-after_points-requires-clause-run_asks
-put_run-after_points-requires-clause-run_asks c =
+pub put_run-after_points-requires : goal.put_run-after_points-requires
+put_run-after_points-requires c =
     let v = c.args in
     let pre = c.requires in
     let words : (k : ℕ) → get_or v.catalog.now k 0 < 65536 = λ k. omega (arith, c.type_inv.catalog k) in
@@ -31,7 +31,6 @@ returns-then-after_points-body c =
     record {
       value = omega (arith, run.records, n, ap length a);
       out_after = c.put_run-after_points.ensures.out_after ∙ ap (λ x. written v.visit v.records x v.out.now) a;
-      table = pre.ready.is_table;
     }
 
 pub put_groups-end-requires : goal.put_groups-end-requires
@@ -60,5 +59,4 @@ returns c =
           pre.body_len_bound.1 pre.has_points pre.body_in_bounds run full.0 full.1 wrote g.after_groups;
       out_after = model.list_after v.visit v.records v.out.now pre.accepted pre.ready words pre.body_len_bound.0
           pre.body_len_bound.1 pre.has_points pre.body_in_bounds run full.0 full.1 wrote g.out_after;
-      table = g.table;
     }

@@ -3,6 +3,7 @@ use mathlib.Core.Path.{◌≡◌, ap, ◌∙◌}
 use mathlib.Core.List.{List}
 use Prim.Native.Nat.{ℕ, ◌+◌, ◌<◌}
 use native.Mathlib.Omega.{arith}
+use Rattle.std.proofs.Common.{rules}
 use lib.ListN.{length, get_or}
 use Rattle.catalog_frames.specs.Frames.{Point}
 use Rattle.layout.specs.Points.{ModelPoint}
@@ -23,26 +24,26 @@ all_are_present : (ws body out : List ℕ) (visit : Visit) (at : Progress)
 all_are_present ws body out visit at asks =
     present_all (length body) at.offset (content_from ws at.frame).points asks.sized asks.inside
 
-pub overflow_add-inside : goal.overflow_add-inside
-overflow_add-inside c =
-    omega (arith, parses_within c.args.catalog.now (c.args.at.frame + 1) c.requires.run_asks.parses, c.requires.run_asks.few)
+pub overflow_add-first : goal.overflow_add-first
+overflow_add-first c =
+    omega (arith, parses_within c.args.catalog.now (c.args.at.frame + 1) c.requires.parses, c.requires.few)
 
-pub put_run-requires-clause-run_asks : goal.put_run-requires-clause-run_asks
-put_run-requires-clause-run_asks c =
-    rw (all_are_present _ _ _ _ _ c.requires.run_asks) c.requires.run_asks
+pub put_run-requires : goal.put_run-requires
+put_run-requires c =
+    rw (all_are_present _ _ _ _ _ c.requires) c.requires
 
 pub returns : goal.returns
 returns c =
     let a = c.args in
     let body = a.body.now in
     let own = (content_from a.catalog.now (a.at.frame + 1)).points in
-    let all = all_are_present _ _ _ _ _ c.requires.run_asks in
+    let all = all_are_present _ _ _ _ _ c.requires in
     let filled = c.record_run.ensures
-    ∙ content_recorded a.catalog.now (a.at.frame + 1) c.requires.run_asks.parses body a.at.offset a.table.now in
+    ∙ content_recorded a.catalog.now (a.at.frame + 1) c.requires.parses body a.at.offset a.table.now in
     let words : (k : ℕ) → get_or a.catalog.now k 0 < 65536 = λ k. omega (arith, c.type_inv.catalog k) in
-    let numbers = numbers_in_table a.catalog.now words (a.at.frame + 1) c.requires.run_asks.parses in
-    let points = own_points_lem body a.at.offset own a.table.now a.instance.path.instances
-    c.record_run.new.table c.requires.table.0 numbers all filled in
+    let numbers = numbers_in_table a.catalog.now words (a.at.frame + 1) c.requires.parses in
+    let points = own_points_lem body a.at.offset own a.table.now a.path.instances
+    c.record_run.new.table (search rules) numbers all filled in
     record {
       after_run = rw all at c.put_run.ensures.after_run;
       out_after = c.put_run.ensures.out_after ∙ ap (λ (ps : List ModelPoint). written a.visit a.at.records ps a.out.now) points;

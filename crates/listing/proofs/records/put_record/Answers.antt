@@ -26,7 +26,7 @@ returns c =
     fits.inside part.result.now part.ensures register shown c.show-shown.ensures in
     c.put.ensures
     ∙ ap (λ (ns : List ℕ). sets a.out.now (record_width * a.at.records) ns)
-    (shown_numbers a.visit a.body.now a.table.now a.instance.path.instances a.at.offset
-    c.body_address.result p shown c.body_address.ensures is)
+    (shown_numbers a.visit a.body.now a.table.now a.path.instances a.at.offset
+    c.body_address.result p shown c.number.result c.body_address.ensures c.number.ensures is)
     ∙ written_one a.visit a.at.records
-    (point_at a.body.now (instance_in a.table.now a.instance.path.instances) a.at.offset p) a.out.now
+    (point_at a.body.now (instance_in a.table.now a.path.instances) a.at.offset p) a.out.now

@@ -7,14 +7,14 @@ use Rattle.listing.proofs.records.put_run.Goals as goal
 
 pub put_record-requires-clause-point_fits : goal.put_record-requires-clause-point_fits
 put_record-requires-clause-point_fits c =
-    (first_fits c.loop-at.invariant (to_spec_point c.in-Point.point) c.loop-at-test.true (sym c.in-Point.ensures)).0
+    (first_fits c.loop-at.invariant (to_spec_point c.in-Some.point) c.loop-at-test.true (sym c.in-Some.ensures)).0
 
 pub put_record-requires-clause-records_in_bounds : goal.put_record-requires-clause-records_in_bounds
 put_record-requires-clause-records_in_bounds c =
-    (first_fits c.loop-at.invariant (to_spec_point c.in-Point.point) c.loop-at-test.true (sym c.in-Point.ensures)).1
+    (first_fits c.loop-at.invariant (to_spec_point c.in-Some.point) c.loop-at-test.true (sym c.in-Some.ensures)).1
 
-pub overflow_add-at-in-Point-2 : goal.overflow_add-at-in-Point-2
-overflow_add-at-in-Point-2 c =
+pub overflow_add-at-in-loop-at-2 : goal.overflow_add-at-in-loop-at-2
+overflow_add-at-in-loop-at-2 c =
     let i = c.loop-at.invariant in
     omega (arith, i.asks.few, still_within i)
 
@@ -24,12 +24,12 @@ loop-at-smaller c =
 
 pub loop-at-preserved : goal.loop-at-preserved
 loop-at-preserved c =
-    still_first c.loop-at.invariant (to_spec_point c.in-Point.point) c.loop-at-test.true (sym c.in-Point.ensures)
+    still_first c.loop-at.invariant (to_spec_point c.in-Some.point) c.loop-at-test.true (sym c.in-Some.ensures)
     c.put_record.new.out c.put_record.ensures
 
-pub returns-in-Other : goal.returns-in-Other
-returns-in-Other c =
-    let h = still_other c.loop-at.invariant (sym c.in-Other.ensures) in
+pub returns-in_default : goal.returns-in_default
+returns-in_default c =
+    let h = still_other c.loop-at.invariant (sym c.in_default.ensures) in
     record { after_run = h.0; out_after = h.1 }
 
 pub returns : goal.returns

@@ -5,7 +5,7 @@ use Rattle.listing.proofs.PointRuns.{StillWrites}
 use Rattle.listing.proofs.records.put_run.Given as goal
 
 abbrev pub invariant-loop-at : goal.invariant-loop-at
-invariant-loop-at l = StillWrites l.catalog l.body l.table l.visit l.instance.path.instances l.initial.out l.initial.at l.out l.at
+invariant-loop-at l = StillWrites l.catalog l.body l.table l.visit l.path.instances l.initial.out l.initial.at l.out l.at
 
 abbrev pub decreases-loop-at : goal.decreases-loop-at
 decreases-loop-at l = length l.catalog / 8 - l.at.frame

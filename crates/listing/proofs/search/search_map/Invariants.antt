@@ -3,13 +3,12 @@ use Prim.Native.Nat.{◌-◌}
 use lib.ListN.{length}
 use Rattle.model_definitions.specs.Definitions.{definitions}
 use Rattle.layout.specs.Reading.{reading}
-use Rattle.layout.specs.InternalWalks.{IsTable}
 use Rattle.listing.proofs.MapSearch.{Searching}
 use Rattle.listing.proofs.search.search_map.Given as goal
 
-abbrev pub invariant-loop-at : goal.invariant-loop-at
-invariant-loop-at l =
-    Searching (reading (definitions l.catalog)) l.map l.model l.key.number l.key.path.instances l.at l.index × IsTable l.table
+abbrev pub invariant-loop-id : goal.invariant-loop-id
+invariant-loop-id l =
+    Searching (reading (definitions l.catalog)) l.map l.model l.key.number l.key.path.instances l.at l.index
 
-abbrev pub decreases-loop-at : goal.decreases-loop-at
-decreases-loop-at l = length l.map - l.at
+abbrev pub decreases-loop-id : goal.decreases-loop-id
+decreases-loop-id l = length l.map - l.at

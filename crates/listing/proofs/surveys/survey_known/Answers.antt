@@ -4,6 +4,7 @@ use mathlib.Core.Bool.{Bool}
 use mathlib.Core.List.{List}
 use Prim.Native.Nat.{ℕ, ◌≤◌, ◌<◌}
 use native.Mathlib.Omega.{arith}
+use Rattle.std.proofs.Common.{rules}
 use lib.ListN.{length, get_or, take}
 use Rattle.catalog.specs.Rules.{run}
 use Rattle.catalog_frames.specs.Frames.{frame_in}
@@ -36,14 +37,15 @@ pad_test ws first parses {r} run id len e is = sym (e ∙ content_pad ws first p
 pub returns-then-is_pad_left_out : goal.returns-then-is_pad_left_out
 returns-then-is_pad_left_out c =
     let a = c.args in
+    let is_table : length a.table.now ≡ 65536 = search rules in
     let ws = a.catalog.now in
     let known = c.requires.parses_at in
     let r = top_run ws a.first c.requires.accepted known.0 _ c.run_extent-run.ensures in
     let e = pad_test ws a.first known.0 r a.id (length a.body.now) c.is_pad_left_out.ensures c.if-is_pad_left_out.true in
     let recorded = c.record_run.ensures ∙ content_recorded ws a.first known.0 a.body.now 0 a.table.now in
-    let surveyed = laws.pad_left_out_lem a.id c.requires.accepted known.0 known.1 a.body.now a.table.now c.requires.table.0
+    let surveyed = laws.pad_left_out_lem a.id c.requires.accepted known.0 known.1 a.body.now a.table.now is_table
     recorded r e in
-    record { result_value = surveyed.0; ready_by = surveyed.1.0; table_2 = surveyed.1.1 }
+    record { result_value = surveyed.0; ready_by = surveyed.1.0 }
 
 pub returns-then-body-run : goal.returns-then-body-run
 returns-then-body-run c =
@@ -56,7 +58,6 @@ returns-then-body-run c =
     record {
       result_value = models.below_surveyed a.id (content_from ws a.first) a.body.now e short;
       ready_by = tt;
-      table_2 = c.requires.table.0;
     }
 
 pub groups_extent-groups-requires : goal.groups_extent-groups-requires
@@ -68,13 +69,13 @@ groups_extent-groups-requires c =
     let recorded = c.record_run-2.ensures ∙ content_recorded ws a.first known.0 a.body.now 0 a.table.now in
     record {
       at_groups = laws.at_groups a.id c.requires.accepted known.0 known.1 r;
-      table = laws.still_table a.id c.requires.accepted known.0 known.1 a.body.now a.table.now c.requires.table.0 recorded;
       levels_bound = omega arith;
     }
 
 pub returns-then-groups : goal.returns-then-groups
 returns-then-groups c =
     let a = c.args in
+    let is_table : length a.table.now ≡ 65536 = search rules in
     let ws = a.catalog.now in
     let known = c.requires.parses_at in
     let r = top_run ws a.first c.requires.accepted known.0 _ c.run_extent-run.ensures in
@@ -83,10 +84,9 @@ returns-then-groups c =
     let words : (k : ℕ) → get_or ws k 0 < 65536 = λ k. omega (arith, c.type_inv.catalog k) in
     let long : points_size (content_from ws a.first).points ≤ length a.body.now = omega (arith, c.if-body-run.false, r.size) in
     record {
-      result_value = laws.unimplemented a.id c.requires.accepted known.0 known.1 a.body.now a.table.now c.requires.table.0
-          recorded words c.requires.table.1 e long r c.groups_extent-groups.ensures.extent_of c.if-groups.true;
+      result_value = laws.unimplemented a.id c.requires.accepted known.0 known.1 a.body.now a.table.now is_table
+          recorded words c.requires.body_len_bound e long r c.groups_extent-groups.ensures.extent_of c.if-groups.true;
       ready_by = tt;
-      table_2 = laws.still_table a.id c.requires.accepted known.0 known.1 a.body.now a.table.now c.requires.table.0 recorded;
     }
 
 pub fitted-requires : goal.fitted-requires
@@ -97,13 +97,14 @@ fitted-requires c =
     let few = laws.few_points_lem a.id c.requires.accepted known.0 known.1 r in
     let groups = c.groups_extent-groups.ensures.extent_of in
     record {
-      size_in_bounds = (omega (arith, c.if-body-run.false), c.requires.table.1, few);
+      size_in_bounds = (omega (arith, c.if-body-run.false), c.requires.body_len_bound, few);
       size_bound = (omega (arith, groups.size), omega (arith, groups.points), omega (arith, groups.fill_points));
     }
 
 pub returns : goal.returns
 returns c =
     let a = c.args in
+    let is_table : length a.table.now ≡ 65536 = search rules in
     let ws = a.catalog.now in
     let known = c.requires.parses_at in
     let r = top_run ws a.first c.requires.accepted known.0 _ c.run_extent-run.ensures in
@@ -111,6 +112,6 @@ returns c =
     let recorded = c.record_run-2.ensures ∙ content_recorded ws a.first known.0 a.body.now 0 a.table.now in
     let words : (k : ℕ) → get_or ws k 0 < 65536 = λ k. omega (arith, c.type_inv.catalog k) in
     let long : points_size (content_from ws a.first).points ≤ length a.body.now = omega (arith, c.if-body-run.false, r.size) in
-    let surveyed = laws.surveyed_here a.id c.requires.accepted known.0 known.1 a.body.now a.table.now c.requires.table.0
-    recorded words c.requires.table.1 e long r c.groups_extent-groups.ensures.extent_of c.if-groups.false c.fitted.ensures in
-    record { result_value = surveyed.0; ready_by = surveyed.1.0; table_2 = surveyed.1.1 }
+    let surveyed = laws.surveyed_here a.id c.requires.accepted known.0 known.1 a.body.now a.table.now is_table
+    recorded words c.requires.body_len_bound e long r c.groups_extent-groups.ensures.extent_of c.if-groups.false c.fitted.ensures in
+    record { result_value = surveyed.0; ready_by = surveyed.1.0 }
