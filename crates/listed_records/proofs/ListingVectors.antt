@@ -3,20 +3,9 @@ use mathlib.Core.Path.{◌≡◌, refl}
 use mathlib.Core.List.{List, [], ◌∷◌, ◌++◌, map}
 use Prim.Native.Nat.{ℕ, ◌+◌, ◌*◌}
 use lib.ListN.{length, replicate, take, drop}
-use Rattle.registers.specs.Registers.{join, shown_raw, too_wide}
-use Rattle.point_types.specs.Rows.{rows, row_among, may_scale, registers_of}
-use Rattle.values.specs.Classes.{twos_complement, integer, in_range, class_of, classified}
-use Rattle.catalog_frames.specs.Frames.{frame_of, frames_from}
-use Rattle.frame_rules.specs.FrameTests.{is_size_of}
-use Rattle.catalog.specs.Checking.{check_from, checked}
-use Rattle.model_definitions.specs.Definitions.{parsed}
-use Rattle.register_map.specs.Headers.{opening}
-use Rattle.register_map.specs.Scan.{scan_from, scan}
-use Rattle.layout.specs.Points.{point_at}
-use Rattle.layout.specs.Layout.{within, measured, fill_measured, count_unimplemented, fits, fill_of, points_at, instances, groups_by, entered, content_at}
-use Rattle.layout.specs.Reading.{ends_with_pad, all_but_last, read_full, read_by, top_of, reading}
 use Rattle.listing.specs.Listing as Listing
-use Rattle.listing.specs.Listing.{Result, listed_result, result, record_numbers, walk, records_by, all_records, with_capacity, listing, stored, consecutive}
+use Rattle.listing.specs.Listing.{Result, listed_result, result, record_numbers, listing, stored}
+use Rattle.listed_records.proofs.Computing.{computing}
 
 -- ---- The example, word by word
 
@@ -54,7 +43,7 @@ pub example : example_answer
           ∷ 1 ∷ 900 ∷ 5 ∷ 1 ∷ 0 ∷ 0 ∷ 12 ∷ 1 ∷ 4294967295 ∷ 0
           ∷ 9 ∷ 9 ∷ [],
     )
-unfolding check_from checked frames_from frame_of is_size_of rows row_among may_scale registers_of twos_complement join shown_raw too_wide integer in_range class_of classified parsed opening scan_from scan point_at within measured fill_measured count_unimplemented fits fill_of points_at instances groups_by entered content_at ends_with_pad all_but_last read_full read_by top_of reading record_numbers walk records_by all_records with_capacity listing stored consecutive
+unfolding computing
 example = refl
 
 -- ---- Catalogs and maps by hand
@@ -269,5 +258,5 @@ answers c = shown (listing c.catalog c.registers c.capacity)
 
 -- Every case has the answer that the list says.
 pub worked_cases : map answers cases ≡ map (λ (c : Case). c.answer) cases
-unfolding cases check_from checked frames_from frame_of is_size_of rows row_among may_scale registers_of twos_complement join shown_raw too_wide integer in_range class_of classified parsed opening scan_from scan point_at within measured fill_measured count_unimplemented fits fill_of points_at instances groups_by entered content_at ends_with_pad all_but_last read_full read_by top_of reading record_numbers walk records_by all_records with_capacity listing
+unfolding cases computing
 worked_cases = refl

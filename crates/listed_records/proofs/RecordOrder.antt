@@ -15,8 +15,8 @@ use Rattle.layout.specs.Tiling.{PointsTile}
 use Rattle.layout.proofs.TiledApart.{rises_lower, tiles_rise, above, apart, same_start}
 use Rattle.layout.proofs.PointsInside.{accepted_tiled}
 use Rattle.listing.specs.Listing.{Record, record_of, listed, walk, all_records, listing}
-use Rattle.listing.proofs.ListingCases.{records_walk, walk_records}
-use Rattle.listing.proofs.ListingInversion.{listed_walks}
+use Rattle.listing.proofs.ListingCases.{records_walk}
+use Rattle.listed_records.proofs.AllRecords.{all_shown}
 use Rattle.listed_records.specs.RecordOrder.{RecordsRise, RecordsApart}
 use Rattle.listed_records.proofs.ModelRecords.{end_listed}
 use Rattle.listed_records.proofs.WalkedModels.{records_first}
@@ -76,4 +76,4 @@ module _ (catalog map : List ℕ) (rs : List Record) (headers : ℕ) (all : all_
 pub listed_rise : (catalog registers : List ℕ) (capacity : ℕ) (rs : List Record) (headers : ℕ)
     → listing catalog registers capacity ≡ listed rs headers → RecordsRise 4 rs
 listed_rise catalog registers capacity rs headers e =
-    records_rise catalog registers rs headers (walk_records catalog registers (listed_walks catalog registers capacity rs headers e).0)
+    records_rise catalog registers rs headers (all_shown catalog registers capacity rs headers e)

@@ -43,6 +43,11 @@ pub record Source (catalog map : List ℕ) (r : Record) : Type 0 where
   pub id : r.id ≡ own.id
   pub address : r.address ≡ 2 + total_size preceding + 2 + r.point.offset
 
+-- The catalog knows the id of such a record.
+pub source_known : {catalog map : List ℕ} (r : Record) (o : Source catalog map r)
+    → top_of r.id (definitions catalog) ≡ some o.by.definition.top
+source_known {catalog} r o = ap (λ id. top_of id (definitions catalog)) o.id ∙ o.by.known
+
 -- A model with any body is read by the definition of its id.
 pub read_with : (ds : List Definition) (d : Definition) (id : ℕ) → d.id ≡ id → top_of id ds ≡ some d.top → (body : List ℕ)
     → reading ds (record { id = id; body = body }) ≡ read_by d.id d.top body

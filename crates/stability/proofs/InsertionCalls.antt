@@ -12,11 +12,10 @@ use Rattle.register_map.specs.Scan.{Model, scan}
 use Rattle.register_map.specs.Insertion.{placed, lengthened}
 use Rattle.listing.specs.Listing.{record_width, listing, stored, consecutive}
 use Rattle.listing.specs.Listing as Listing
-use Rattle.listing.specs.declared.Listing as Code
 use Rattle.listing.specs.CodeTypes.{to_spec_listing}
 use Rattle.listing.specs.Calls.{ListCall, points_in, records_in, index_in, address_in}
 use Rattle.stability.specs.Stability.{MadeOfWholeModels, UnknownModel, AreLower}
-use Rattle.stability.specs.TwoCalls.{moved_numbers, moved_list, moved_result, ResultByLower, InsertionMoves}
+use Rattle.stability.specs.TwoCalls.{Returned, moved_numbers, moved_list, moved_result, ResultByLower, InsertionMoves}
 use Rattle.stability.proofs.Insertion.{insertion}
 use Rattle.stability.proofs.ResultsMoved.{result_moved, list_moved, rest_stays, records_lower, header_lower}
 
@@ -25,8 +24,8 @@ pub insertion_calls : (catalog map : List ℕ) (gaps : List (List Model))
     → Each (Each (UnknownModel catalog)) gaps
     → length (lengthened map gaps) ≤ 65536
     → (out out' : List ℕ) → length out' ≡ length out
-    → (first : Code.Listing) (first_list : List ℕ) → ListCall catalog map out first first_list
-    → (second : Code.Listing) (second_list : List ℕ) → ListCall catalog (lengthened map gaps) out' second second_list
+    → (first : Returned) (first_list : List ℕ) → ListCall catalog map out first first_list
+    → (second : Returned) (second_list : List ℕ) → ListCall catalog (lengthened map gaps) out' second second_list
     → InsertionMoves map gaps first first_list out' second second_list
 insertion_calls catalog map gaps whole unknown short out out' same first first_list one second second_list two =
     let a = listing catalog map (length out) in
@@ -54,8 +53,8 @@ pub insertion_same_list : (catalog map : List ℕ) (gaps : List (List Model))
     → Each (Each (UnknownModel catalog)) gaps
     → length (lengthened map gaps) ≤ 65536
     → (out : List ℕ)
-    → (first : Code.Listing) (first_list : List ℕ) → ListCall catalog map out first first_list
-    → (second : Code.Listing) (second_list : List ℕ) → ListCall catalog (lengthened map gaps) out second second_list
+    → (first : Returned) (first_list : List ℕ) → ListCall catalog map out first first_list
+    → (second : Returned) (second_list : List ℕ) → ListCall catalog (lengthened map gaps) out second second_list
     → second_list ≡ moved_list gaps (points_in (to_spec_listing first)) first_list first_list
 insertion_same_list catalog map gaps whole unknown short out first first_list one second second_list two =
     let a = listing catalog map (length out) in

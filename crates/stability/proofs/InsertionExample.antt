@@ -6,29 +6,21 @@ use mathlib.Core.List.{List, [], ◌∷◌}
 use Prim.Native.Nat.{ℕ, ◌+◌, ◌≤◌}
 use native.Mathlib.Omega.{arith}
 use lib.ListN.{length, replicate}
-use lib.Ieee.{nan_bits}
+use Rattle.std.specs.Prelude.{Ok}
 use Rattle.lists.specs.Each.{Each}
 use Rattle.lists.specs.Members.{among}
-use Rattle.registers.specs.Registers.{join, shown_raw, too_wide}
-use Rattle.point_types.specs.Rows.{rows, row_among, registers_of}
-use Rattle.values.specs.Classes.{integer, in_range, class_of, classified}
 use Rattle.catalog_frames.specs.Frames.{frame_of, frames_from, frames}
-use Rattle.frame_rules.specs.FrameTests.{is_size_of}
-use Rattle.catalog.specs.Checking.{check_from, checked}
-use Rattle.model_definitions.specs.Definitions.{parsed, model_ids}
-use Rattle.register_map.specs.Headers.{opening}
+use Rattle.model_definitions.specs.Definitions.{model_ids}
 use Rattle.register_map.specs.Scan as Scan
 use Rattle.register_map.specs.Scan.{Model, WellFormed, scan_from, scan}
 use Rattle.register_map.specs.Insertion.{placed, lengthened, gaps_before}
-use Rattle.layout.specs.Points.{ModelPoint, point_at}
-use Rattle.layout.specs.Layout.{within, measured, fill_measured, count_unimplemented, fits, fill_of, points_at, groups_by, entered, content_at}
-use Rattle.layout.specs.Reading.{ends_with_pad, read_full, read_by, top_of, reading}
-use Rattle.listing.specs.Listing.{Record, Answer, record_numbers, listed, walk, records_by, all_records, with_capacity, listing, stored, listed_result, refused_result, consecutive}
-use Rattle.listing.specs.declared.Listing as Code
+use Rattle.layout.specs.Points.{ModelPoint}
+use Rattle.listing.specs.Listing.{Record, Answer, listed, listing, listed_result, refused_result, consecutive}
 use Rattle.listing.specs.CodeTypes.{to_spec_listing}
 use Rattle.listing.specs.Calls.{ListCall, records_in}
+use Rattle.listed_records.proofs.Computing.{computing}
 use Rattle.stability.specs.Stability.{MadeOfWholeModels, UnknownModel, moved_answer, MovedByLower}
-use Rattle.stability.specs.TwoCalls.{moved_result}
+use Rattle.stability.specs.TwoCalls.{Returned, moved_result}
 use Rattle.stability.proofs.Insertion.{insertion}
 use Rattle.stability.proofs.InsertionCalls.{insertion_calls}
 
@@ -77,14 +69,11 @@ model1 = record { index = 0; id = 1; address = 4; point = point 40 }
 
 pub old : listing catalog plant 20
     ≡ listed (model1 ∷ record { index = 1; id = 7; address = 7; point = point 50 } ∷ []) 3
-unfolding rows row_among registers_of join shown_raw too_wide in_range class_of classified
-    frame_of frames_from is_size_of check_from checked parsed opening scan_from scan
-    point_at within measured fill_measured count_unimplemented fits fill_of points_at groups_by entered content_at
-    ends_with_pad read_full read_by top_of reading walk records_by all_records with_capacity listing
+unfolding computing
 old = refl
 
 whole : MadeOfWholeModels plant
-unfolding MadeOfWholeModels frame_of frames_from check_from checked parsed opening scan_from scan top_of reading walk records_by all_records with_capacity listing
+unfolding MadeOfWholeModels computing
 whole = (3, refl)
 
 well : (id : ℕ) (x : ℕ) (xs : List ℕ) → (id ≡ 0 → ⊥) → (id ≡ 65535 → ⊥) → WellFormed (record { id = id; body = x ∷ xs })
@@ -137,17 +126,13 @@ out = replicate 21 9
 abbrev first_list : List ℕ
 first_list = 0 ∷ 1 ∷ 1 ∷ 0 ∷ 0 ∷ 0 ∷ 4 ∷ 0 ∷ 40 ∷ 0 ∷ 1 ∷ 7 ∷ 1 ∷ 0 ∷ 0 ∷ 0 ∷ 7 ∷ 0 ∷ 50 ∷ 0 ∷ 9 ∷ []
 
-first_call : ListCall catalog plant out (Code.Listing.Listed 2 3) first_list
-unfolding rows row_among registers_of join shown_raw too_wide in_range class_of classified
-    frame_of frames_from is_size_of check_from checked parsed opening scan_from scan
-    point_at within measured fill_measured count_unimplemented fits fill_of points_at groups_by entered content_at
-    ends_with_pad read_full read_by top_of reading walk records_by all_records with_capacity listing
-    record_numbers stored consecutive
+first_call : ListCall catalog plant out (Ok (record { points = 2; headers = 3 })) first_list
+unfolding computing
 first_call = record { result = refl; list = refl }
 
 -- Every call for the lengthened map returns 2 points and 6 headers. In its output list only the index (3) and the address (14) of
 -- model 7's record differ.
-pub second_list_lem : (second : Code.Listing) (second_list : List ℕ) → ListCall catalog (lengthened plant gaps) out second second_list
+pub second_list_lem : (second : Returned) (second_list : List ℕ) → ListCall catalog (lengthened plant gaps) out second second_list
     → (to_spec_listing second ≡ listed_result 2 6)
     × (second_list ≡ 0 ∷ 1 ∷ 1 ∷ 0 ∷ 0 ∷ 0 ∷ 4 ∷ 0 ∷ 40 ∷ 0 ∷ 3 ∷ 7 ∷ 1 ∷ 0 ∷ 0 ∷ 0 ∷ 14 ∷ 0 ∷ 50 ∷ 0 ∷ 9 ∷ [])
 unfolding scan_from scan gaps_before moved_result records_in consecutive
@@ -212,14 +197,11 @@ battery_records index address =
     at 1 21 0 0x4000000000000001 ∷ at 2 22 4 0x3FF8000000000000 ∷ at 3 18 8 0 ∷ []
 
 pub battery_old : listing battery_catalog battery 30 ≡ listed (battery_records 1 7) 3
-unfolding rows row_among registers_of join shown_raw too_wide integer in_range class_of classified nan_bits
-    frame_of frames_from is_size_of check_from checked parsed opening scan_from scan
-    point_at within measured fill_measured count_unimplemented fits fill_of points_at groups_by entered content_at
-    ends_with_pad read_full read_by top_of reading walk records_by all_records with_capacity listing
+unfolding computing
 battery_old = refl
 
 battery_whole : MadeOfWholeModels battery
-unfolding MadeOfWholeModels frame_of frames_from check_from checked parsed opening scan_from scan top_of reading walk records_by all_records with_capacity listing
+unfolding MadeOfWholeModels computing
 battery_whole = (3, refl)
 
 battery_unknown : Each (Each (UnknownModel battery_catalog)) gaps

@@ -7,6 +7,7 @@ use mathlib.Core.List.{List, ◌++◌}
 use mathlib.Core.List as Lists
 use Prim.Native.Nat.{ℕ, ◌*◌}
 use lib.ListN.{length, drop, length-map}
+use Rattle.std.specs.Prelude.{Ok}
 use Rattle.lists.specs.Members.{among}
 use Rattle.lists.proofs.SelectedLaws.{selected_map}
 use Rattle.catalog_frames.specs.Frames.{frames}
@@ -15,12 +16,11 @@ use Rattle.model_definitions.specs.Removal.{keeping}
 use Rattle.model_definitions.proofs.ModelIds.{ids_of_model_frames}
 use Rattle.listing.specs.Listing.{Record, record_numbers, record_width, listing, stored, listed_result, consecutive}
 use Rattle.listing.specs.Listing as Listing
-use Rattle.listing.specs.declared.Listing as Code
 use Rattle.listing.specs.Calls.{ListCall, records_in, id_in}
 use Rattle.listing.proofs.ResultCases.{result_listed}
 use Rattle.listing.proofs.OutputRecords.{records_back}
 use Rattle.stability.specs.Removed.{remaining_records, records_of}
-use Rattle.stability.specs.TwoCalls.{known_records, RemovalKeeps}
+use Rattle.stability.specs.TwoCalls.{Returned, known_records, RemovalKeeps}
 use Rattle.stability.proofs.Removal.{removal}
 use Rattle.stability.proofs.RemovalById.{remaining_by_id}
 
@@ -31,8 +31,9 @@ unfolding record_numbers
 known_numbers catalog rs = selected_map record_numbers (λ numbers. among (id_in numbers) (model_ids (frames catalog))) rs
 
 pub removal_calls : (choice : List Bool) (catalog map out out' : List ℕ) → length out' ≡ length out
-    → (points headers : ℕ) (first_list : List ℕ) → ListCall catalog map out (Code.Listing.Listed points headers) first_list
-    → (second : Code.Listing) (second_list : List ℕ) → ListCall (keeping choice catalog) map out' second second_list
+    → (points headers : ℕ) (first_list : List ℕ)
+    → ListCall catalog map out (Ok (record { points = points; headers = headers })) first_list
+    → (second : Returned) (second_list : List ℕ) → ListCall (keeping choice catalog) map out' second second_list
     → RemovalKeeps (keeping choice catalog) points headers first_list out' second second_list
 unfolding stored
 removal_calls choice catalog map out out' same points headers first_list one second second_list two =

@@ -3,24 +3,17 @@ use mathlib.Core.Path.{◌≡◌, refl, ap, ◌∙◌}
 use mathlib.Core.List.{List, [], ◌∷◌}
 use Prim.Native.Nat.{ℕ}
 use lib.ListN.{replicate}
-use Rattle.registers.specs.Registers.{join, shown_raw, too_wide}
-use Rattle.point_types.specs.Rows.{rows, row_among, registers_of}
-use Rattle.values.specs.Classes.{in_range, class_of, classified}
+use Rattle.std.specs.Prelude.{Ok}
 use Rattle.lists.specs.Tests.{selected}
 use Rattle.catalog_frames.specs.Frames.{frame_of, frames_from, words_of_all}
-use Rattle.frame_rules.specs.FrameTests.{is_size_of}
-use Rattle.catalog.specs.Checking.{check_from, checked}
 use Rattle.model_definitions.specs.Definitions.{parsed, definitions}
 use Rattle.model_definitions.specs.Removal.{keeping, all_but_one}
-use Rattle.register_map.specs.Headers.{opening}
-use Rattle.register_map.specs.Scan.{scan_from, scan}
-use Rattle.layout.specs.Points.{ModelPoint, point_at}
-use Rattle.layout.specs.Layout.{within, measured, fill_measured, count_unimplemented, fits, fill_of, points_at, groups_by, entered, content_at}
-use Rattle.layout.specs.Reading.{ends_with_pad, read_full, read_by, top_of, reading}
-use Rattle.listing.specs.Listing.{Record, record_numbers, listed, walk, records_by, all_records, with_capacity, listing, stored, consecutive}
-use Rattle.listing.specs.declared.Listing as Code
+use Rattle.layout.specs.Points.{ModelPoint}
+use Rattle.listing.specs.Listing.{Record, listed, listing, consecutive}
 use Rattle.listing.specs.Calls.{ListCall, records_in}
+use Rattle.listed_records.proofs.Computing.{computing}
 use Rattle.stability.specs.Removed.{keeps_id, remaining_records}
+use Rattle.stability.specs.TwoCalls.{Returned}
 use Rattle.stability.proofs.Removal.{removal}
 use Rattle.stability.proofs.RemovalCalls.{removal_calls}
 
@@ -61,10 +54,7 @@ model7 = record { index = 2; id = 7; address = 11; point = point 50 }
 
 -- The listing by the whole catalog.
 pub both_listed : listing catalog plant 20 ≡ listed (model1 ∷ model7 ∷ []) 4
-unfolding rows row_among registers_of join shown_raw too_wide in_range class_of classified
-    frame_of frames_from is_size_of check_from checked parsed opening scan_from scan
-    point_at within measured fill_measured count_unimplemented fits fill_of points_at groups_by entered content_at
-    ends_with_pad read_full read_by top_of reading walk records_by all_records with_capacity listing
+unfolding computing
 both_listed = refl
 
 -- The remaining records without model 1.
@@ -86,16 +76,12 @@ out = replicate 21 9
 abbrev first_list : List ℕ
 first_list = 0 ∷ 1 ∷ 1 ∷ 0 ∷ 0 ∷ 0 ∷ 4 ∷ 0 ∷ 40 ∷ 0 ∷ 2 ∷ 7 ∷ 1 ∷ 0 ∷ 0 ∷ 0 ∷ 11 ∷ 0 ∷ 50 ∷ 0 ∷ 9 ∷ []
 
-first_call : ListCall catalog plant out (Code.Listing.Listed 2 4) first_list
-unfolding rows row_among registers_of join shown_raw too_wide in_range class_of classified
-    frame_of frames_from is_size_of check_from checked parsed opening scan_from scan
-    point_at within measured fill_measured count_unimplemented fits fill_of points_at groups_by entered content_at
-    ends_with_pad read_full read_by top_of reading walk records_by all_records with_capacity listing
-    record_numbers stored consecutive
+first_call : ListCall catalog plant out (Ok (record { points = 2; headers = 4 })) first_list
+unfolding computing
 first_call = record { result = refl; list = refl }
 
 -- Every call by the catalog without model 1 leaves the record of model 7 in its output list, and the other entries as they were.
-pub second_list_lem : (second : Code.Listing) (second_list : List ℕ)
+pub second_list_lem : (second : Returned) (second_list : List ℕ)
     → ListCall (keeping (all_but_one 0) catalog) plant out second second_list
     → second_list ≡ 2 ∷ 7 ∷ 1 ∷ 0 ∷ 0 ∷ 0 ∷ 11 ∷ 0 ∷ 50 ∷ 0 ∷ replicate 11 9
 unfolding frame_of frames_from words_of_all parsed keeping selected records_in consecutive

@@ -1,6 +1,7 @@
 -- Two calls of `list` compared (document 01, "The map"): how inserted or removed models change the result and the output list. The
 -- records of a call are decoded from its own output list.
 use Rattle.std.specs.Prelude.{◌≡◌, List, ◌++◌, map, ℕ, ◌+◌, ◌*◌, length, drop, set}
+use Rattle.std.specs.Prelude as Std
 use Rattle.lists.specs.Each.{Each}
 use Rattle.lists.specs.Members.{among}
 use Rattle.lists.specs.Tests.{selected}
@@ -9,10 +10,15 @@ use Rattle.model_definitions.specs.Definitions.{model_ids}
 use Rattle.register_map.specs.Scan.{Model, total_size, scan}
 use Rattle.register_map.specs.Insertion.{Placed, placed, gaps_before}
 use Rattle.listing.specs.Listing.{Result, refused_result, listed_result, record_width, consecutive}
-use Rattle.listing.specs.declared.Listing as Code
+use Rattle.listing.specs.declared.Listed.{Listed}
+use Rattle.listing.specs.declared.NotListed.{NotListed}
 use Rattle.listing.specs.CodeTypes.{to_spec_listing}
 use Rattle.listing.specs.Calls.{points_in, records_in, index_in, id_in, address_in}
 use Rattle.stability.specs.Stability.{AreLower, HeaderByLower, moved_place, moved_headers}
+
+-- What a call of `list` returns.
+abbrev pub Returned : Type 0
+Returned = Std.Result Listed NotListed
 
 -- ---- Models inserted into the map
 
@@ -43,8 +49,8 @@ ResultByLower ps gaps (refused_result number place headers count) = HeaderByLowe
 -- with unknown models (`UnknownModel`) inserted in its gaps, at most 65,536 registers long, into a list of the same length that was
 -- `out`. The second's result and records are the first's, moved, and the rest of its list stays. Each record and each header refused by
 -- 27 to 29 is moved by exactly the inserted models with lower addresses.
-pub record InsertionMoves (map : List ℕ) (gaps : List (List Model)) (first : Code.Listing) (first_list out : List ℕ)
-    (second : Code.Listing) (second_list : List ℕ) : Type 0 where
+pub record InsertionMoves (map : List ℕ) (gaps : List (List Model)) (first : Returned) (first_list out : List ℕ)
+    (second : Returned) (second_list : List ℕ) : Type 0 where
   pub result : to_spec_listing second ≡ moved_result (length (scan map).models) gaps (to_spec_listing first)
   pub list : second_list ≡ moved_list gaps (points_in (to_spec_listing first)) first_list out
   pub records_by_lower : Each (λ numbers. AreLower (placed (scan map).models gaps) gaps (index_in numbers) (address_in numbers))
@@ -61,7 +67,7 @@ known_records catalog = selected (λ numbers. among (id_in numbers) (model_ids (
 -- by the remaining catalog, into a list of the same length that was `out`: it accepts the map too, with the same headers. Its records are
 -- exactly those of the first call whose models the remaining catalog has, in their order and with all their numbers; its count is
 -- their number, and the rest of its list stays.
-pub record RemovalKeeps (remaining : List ℕ) (points headers : ℕ) (first_list out : List ℕ) (second : Code.Listing)
+pub record RemovalKeeps (remaining : List ℕ) (points headers : ℕ) (first_list out : List ℕ) (second : Returned)
     (second_list : List ℕ) : Type 0 where
   pub result : to_spec_listing second ≡ listed_result (length (known_records remaining (records_in points first_list))) headers
   pub list : second_list

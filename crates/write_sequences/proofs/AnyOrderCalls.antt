@@ -4,25 +4,17 @@ use mathlib.Core.List.{List, [], ◌∷◌, map}
 use Prim.Native.Nat.{ℕ}
 use Rattle.lists.specs.Runs.{state_after, Handled, handled}
 use Rattle.lists.specs.Orders.{picked}
-use Rattle.lists.proofs.TestOutcomes.{impossible}
 use Rattle.lists.proofs.MapLaws.{map_injective}
 use Rattle.lists.proofs.Positions.{map_picked}
 use Rattle.writing.specs.Writing.{Result}
-use Rattle.writing.specs.CodeTypes.{to_spec_written}
-use Rattle.writing.specs.declared.Written.{Written}
+use Rattle.writing.specs.CodeTypes.{Written, to_spec_written}
+use Rattle.writing.proofs.SameResults.{same_returned}
 use Rattle.write_sequences.specs.Writes.{Write, map_after_writes, write_results}
 use Rattle.write_sequences.specs.AnyOrder.{Allowed}
 use Rattle.write_sequences.specs.Calls.{WriteCalls, no_call, call, CallsEndAlike}
 use Rattle.write_sequences.proofs.AnyOrder.{any_order}
 
 -- ---- What calls return
-
--- Different values of the code's type are different results.
-same_returned_lem : (x y : Written) → to_spec_written x ≡ to_spec_written y → x ≡ y
-same_returned_lem Written.Done Written.Done e = refl
-same_returned_lem Written.Done (Written.Refused n place) e = impossible (cc)
-same_returned_lem (Written.Refused n place) Written.Done e = impossible (cc)
-same_returned_lem (Written.Refused n place) (Written.Refused m at) e = cc
 
 -- The results without the writes.
 abbrev pub results_in : List (Handled Write Result) → List Result
@@ -58,7 +50,7 @@ any_order_calls catalog map₀ other ws order allowed returned after calls retur
       same_map = m'.0 ∙ a.same_map ∙ sym m.0;
       same_returned = λ none.
           let other_result : Handled Write Result = record { item = other; result = to_spec_written none } in
-          map_injective to_spec_written same_returned_lem returned' (picked none returned order)
+          map_injective to_spec_written same_returned returned' (picked none returned order)
           (m'.1
           ∙ ap results_in (a.same_results other_result)
           ∙ map_picked (λ (h : Handled Write Result). h.result) other_result (write_results catalog map₀ ws) order

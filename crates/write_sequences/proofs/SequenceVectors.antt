@@ -6,30 +6,17 @@ use mathlib.Core.List.{List, [], ◌∷◌, map}
 use Prim.Native.Nat.{ℕ}
 use native.Mathlib.Omega.{arith}
 use lib.ListN.{get_or}
+use Rattle.std.specs.Prelude.{Ok, Err}
+use Rattle.refusals.specs.declared.Refusal.{Refusal}
 use Rattle.lists.specs.Each.{Each}
-use Rattle.lists.specs.Tests.{first_with}
 use Rattle.lists.specs.Runs.{state_after, handled}
 use Rattle.lists.specs.Orders.{picked}
 use Rattle.lists.proofs.EachLaws.{each_implied}
 use Rattle.lists.proofs.RearrangingTest.{is_rearrangement, tested}
-use Rattle.registers.specs.Registers.{join, split, shown_raw, too_wide}
-use Rattle.point_types.specs.Rows.{rows, row_among, may_scale, registers_of}
-use Rattle.values.specs.Classes.{twos_complement, integer, in_range, class_of, classified}
-use Rattle.catalog_frames.specs.Frames.{frame_of, frames_from}
-use Rattle.frame_rules.specs.FrameTests.{is_size_of}
-use Rattle.catalog.specs.Checking.{check_from, checked}
-use Rattle.model_definitions.specs.Definitions.{parsed}
-use Rattle.register_map.specs.Headers.{opening}
-use Rattle.register_map.specs.Scan.{scan_from, scan}
-use Rattle.layout.specs.Points.{point_at}
-use Rattle.layout.specs.Layout.{within, measured, fill_measured, count_unimplemented, fits, fill_of, points_at, instances, groups_by, entered, content_at}
-use Rattle.layout.specs.Reading.{ends_with_pad, all_but_last, read_full, read_by, top_of, reading}
-use Rattle.listing.specs.Listing.{walk, records_by, all_records}
-use Rattle.listing.specs.Finding.{finding}
 use Rattle.listed_records.proofs.ListingVectors.{model, times, uint16, scaled, sunssf, end, joined, body}
-use Rattle.writing.specs.Writing.{refusal, rewritten, writing, refused_result, written_result}
-use Rattle.writing.specs.declared.Written.{Written}
-use Rattle.writing.proofs.WritingVectors.{writable, catalog, plant, plant_with, instance}
+use Rattle.writing.specs.Writing.{refused_result, written_result}
+use Rattle.writing.specs.CodeTypes.{Written}
+use Rattle.writing.proofs.WritingVectors.{computing_writes, writable, catalog, plant, plant_with, instance}
 use Rattle.write_sequences.specs.Writes.{Write, same_point, map_after_writes, write_results}
 use Rattle.write_sequences.specs.AnyOrder.{Allowed, EndsAlike}
 use Rattle.write_sequences.specs.Calls.{WriteCalls, no_call, call, CallsEndAlike}
@@ -66,19 +53,13 @@ pub three_writes : (map (λ order. map_after_writes catalog plant (picked past_e
     ∷ (written_result ∷ written_result ∷ refused_result 35 0 ∷ [])
     ∷ (refused_result 35 0 ∷ written_result ∷ written_result ∷ [])
     ∷ [])
-unfolding check_from checked frames_from frame_of is_size_of rows row_among may_scale registers_of twos_complement join shown_raw too_wide
-    integer in_range class_of classified parsed opening scan_from scan point_at within measured fill_measured count_unimplemented
-    fits fill_of points_at instances groups_by entered content_at ends_with_pad all_but_last read_full read_by top_of reading walk records_by
-    all_records first_with finding split refusal rewritten writing state_after handled
+unfolding state_after handled computing_writes
 three_writes = (refl, refl)
 
 -- In the other orders the uint32 ends with its first value.
 pub order_matters : map (λ order. map_after_writes catalog plant (picked past_end three order)) other_orders
     ≡ plant_with 3 4 0 11 ∷ plant_with 3 4 0 11 ∷ plant_with 3 4 0 11 ∷ []
-unfolding check_from checked frames_from frame_of is_size_of rows row_among may_scale registers_of twos_complement join shown_raw too_wide
-    integer in_range class_of classified parsed opening scan_from scan point_at within measured fill_measured count_unimplemented
-    fits fill_of points_at instances groups_by entered content_at ends_with_pad all_but_last read_full read_by top_of reading walk records_by
-    all_records first_with finding split refusal rewritten writing state_after
+unfolding state_after computing_writes
 order_matters = refl
 
 -- That is another map: its register 7 differs.
@@ -107,12 +88,13 @@ others_not_allowed = (
 
 -- ---- Calls for the three writes
 
+-- What a call returns that is refused with 35.
+abbrev no_value : Written
+no_value = Err (record { refusal = Refusal.NoValueOfPoint; place = 0 })
+
 -- Calls in the order of the list: what they return, and the map that the last one leaves.
-pub three_calls : WriteCalls catalog plant three (Written.Done ∷ Written.Refused 35 0 ∷ Written.Done ∷ []) (plant_with 5 6 0 11)
-unfolding check_from checked frames_from frame_of is_size_of rows row_among may_scale registers_of twos_complement join shown_raw too_wide
-    integer in_range class_of classified parsed opening scan_from scan point_at within measured fill_measured count_unimplemented
-    fits fill_of points_at instances groups_by entered content_at ends_with_pad all_but_last read_full read_by top_of reading walk records_by
-    all_records first_with finding split refusal rewritten writing
+pub three_calls : WriteCalls catalog plant three (Ok tt ∷ no_value ∷ Ok tt ∷ []) (plant_with 5 6 0 11)
+unfolding computing_writes
 three_calls =
     call {between = plant_with 3 4 0 11} (record { result = refl; leaves = refl })
     (call {between = plant_with 3 4 0 11} (record { result = refl; leaves = refl })
@@ -120,23 +102,20 @@ three_calls =
 
 -- Calls with the refused write last.
 pub refused_last : WriteCalls catalog plant (picked past_end three (0 ∷ 2 ∷ 1 ∷ []))
-    (Written.Done ∷ Written.Done ∷ Written.Refused 35 0 ∷ []) (plant_with 5 6 0 11)
-unfolding check_from checked frames_from frame_of is_size_of rows row_among may_scale registers_of twos_complement join shown_raw too_wide
-    integer in_range class_of classified parsed opening scan_from scan point_at within measured fill_measured count_unimplemented
-    fits fill_of points_at instances groups_by entered content_at ends_with_pad all_but_last read_full read_by top_of reading walk records_by
-    all_records first_with finding split refusal rewritten writing
+    (Ok tt ∷ Ok tt ∷ no_value ∷ []) (plant_with 5 6 0 11)
+unfolding computing_writes
 refused_last =
     call {between = plant_with 3 4 0 11} (record { result = refl; leaves = refl })
     (call {between = plant_with 5 6 0 11} (record { result = refl; leaves = refl })
     (call {between = plant_with 5 6 0 11} (record { result = refl; leaves = refl }) no_call))
 
 -- The claim on calls, of these.
-pub calls_alike : CallsEndAlike (0 ∷ 2 ∷ 1 ∷ []) (Written.Done ∷ Written.Refused 35 0 ∷ Written.Done ∷ []) (plant_with 5 6 0 11)
-    (Written.Done ∷ Written.Done ∷ Written.Refused 35 0 ∷ []) (plant_with 5 6 0 11)
+pub calls_alike : CallsEndAlike (0 ∷ 2 ∷ 1 ∷ []) (Ok tt ∷ no_value ∷ Ok tt ∷ []) (plant_with 5 6 0 11)
+    (Ok tt ∷ Ok tt ∷ no_value ∷ []) (plant_with 5 6 0 11)
 calls_alike =
     any_order_calls catalog plant past_end three (0 ∷ 2 ∷ 1 ∷ []) three_allowed.1.0
-    (Written.Done ∷ Written.Refused 35 0 ∷ Written.Done ∷ []) (plant_with 5 6 0 11) three_calls
-    (Written.Done ∷ Written.Done ∷ Written.Refused 35 0 ∷ []) (plant_with 5 6 0 11) refused_last
+    (Ok tt ∷ no_value ∷ Ok tt ∷ []) (plant_with 5 6 0 11) three_calls
+    (Ok tt ∷ Ok tt ∷ no_value ∷ []) (plant_with 5 6 0 11) refused_last
 
 -- ---- Two writes to points that are nearly the same
 
@@ -181,10 +160,7 @@ pub two_writes : (map (λ order. map_after_writes deep_catalog (deep_plant 1 2) 
     ≡ body (250 ∷ 0xFFFE ∷ []) ∷ body (250 ∷ 0xFFFE ∷ []) ∷ [])
     × (map (λ order. map_after_writes scaled_catalog (two_models 200 0 300 0) (picked past_end in_two_models order)) both_orders
     ≡ two_models 250 0 350 0 ∷ two_models 250 0 350 0 ∷ [])
-unfolding check_from checked frames_from frame_of is_size_of rows row_among may_scale registers_of twos_complement join shown_raw too_wide
-    integer in_range class_of classified parsed opening scan_from scan point_at within measured fill_measured count_unimplemented
-    fits fill_of points_at instances groups_by entered content_at ends_with_pad all_but_last read_full read_by top_of reading walk records_by
-    all_records first_with finding split refusal rewritten writing state_after
+unfolding state_after computing_writes
 two_writes = (refl, refl, refl)
 
 -- Both orders are allowed, since the points differ.
@@ -204,8 +180,5 @@ missing_not_exchanged a = let h = a.keeps.0.0 refl in omega arith
 -- To a map that listing refuses, here the empty one, every write is refused with the same number and place, and the map stays.
 pub map_refused : (map_after_writes catalog [] three ≡ [])
     × (results_in (write_results catalog [] three) ≡ refused_result 21 0 ∷ refused_result 21 0 ∷ refused_result 21 0 ∷ [])
-unfolding check_from checked frames_from frame_of is_size_of rows row_among may_scale registers_of twos_complement join shown_raw too_wide
-    integer in_range class_of classified parsed opening scan_from scan point_at within measured fill_measured count_unimplemented
-    fits fill_of points_at instances groups_by entered content_at ends_with_pad all_but_last read_full read_by top_of reading walk records_by
-    all_records first_with finding split refusal rewritten writing state_after handled
+unfolding state_after handled computing_writes
 map_refused = (refl, refl)

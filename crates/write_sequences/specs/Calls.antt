@@ -2,7 +2,7 @@
 -- Proof: `proofs/AnyOrderCalls.antt`.
 use Rattle.std.specs.Prelude.{◌≡◌, List, [], ◌∷◌, ℕ}
 use Rattle.lists.specs.Orders.{picked}
-use Rattle.writing.specs.declared.Written.{Written}
+use Rattle.writing.specs.CodeTypes.{Written}
 use Rattle.writing.specs.Calls.{WriteCall}
 use Rattle.write_sequences.specs.Writes.{Write}
 

@@ -15,8 +15,8 @@ pub mod ScopesAfter
 pub mod ModelAfter
 pub mod DecidedByTarget
 pub mod WritingCases
+pub mod SameResults
 pub mod AfterCases
 pub mod MapAfter
-pub mod RefusalTests
 pub mod RegisterSteps
 pub mod FoundTargets

@@ -25,7 +25,7 @@ use Rattle.listing.specs.Finding.{is_record, target_of}
 use Rattle.listing.proofs.ListingCases.{records_walk, walk_records}
 use Rattle.listing.proofs.ListingInversion.{headers_walked}
 use Rattle.listed_records.proofs.WalkedModels.{records_replaced}
-use Rattle.listed_records.proofs.RecordSources.{record_source, read_with}
+use Rattle.listed_records.proofs.RecordSources.{record_source, source_known, read_with}
 use Rattle.writing.specs.Writing.{refusal, rewritten}
 use Rattle.writing.specs.AfterWriting.{PointAfter, PointBecomes, RecordAfter}
 use Rattle.writing.proofs.ModelAfter.{model_after}
@@ -86,13 +86,12 @@ module _ (catalog map : List ℕ) (rs : List Record) (headers : ℕ)
         split_length p.definition.size raw,
       ) in
       let index : w.index ≡ 0 + length o.preceding = omega (arith, o.index) in
-      let top : top_of w.id ds ≡ some d.top = ap (λ id. top_of id ds) o.id ∙ o.by.known in
       let old : walk read marked 0 2 (o.preceding ++ m ∷ o.following) ≡ listed rs headers =
       ap (λ ms. walk read marked 0 2 ms) (sym o.splits)
       ∙ ap (λ x. walk read x 0 2 (scan map).models) (sym ends)
       ∙ walks.walks in
       let r = records_replaced read marked R Q m n size o.all qs o.reads new a.2 w.index (other_model ds w raw)
-      (λ x. own_model ds w raw d.top top x m.id) o.preceding o.following 0 2 rs headers index old in
+      (λ x. own_model ds w raw d.top (source_known w o) x m.id) o.preceding o.following 0 2 rs headers index old in
       let scanned = scan_replaced map o.preceding m o.following o.made p.offset vs inside w.address o.address in (
         r.0,
         walk_records catalog (sets map w.address vs) {answer = listed r.0 headers} (record {

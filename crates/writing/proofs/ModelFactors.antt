@@ -7,7 +7,7 @@ use Prim.Native.Nat.{ℕ, zero, suc, ◌+◌, ◌≤◌}
 use native.Mathlib.Omega.{arith}
 use borrow.Author.Tests.{eqb-true, eq-eqb}
 use lib.Dec.{eqb}
-use lib.ListN.{length, take, drop, get_or, length-take}
+use lib.ListN.{length, take, drop, get_or}
 use lib.Seq.{drop-cons}
 use Rattle.lists.specs.Each.{Each}
 use Rattle.lists.specs.Members.{among, In}
@@ -200,18 +200,15 @@ module _ (d : Definition) (sound : SoundDefinition d) (body : List ℕ) (all : L
       let m = x.point in
       let number = x.number in
       let r = factor_register f.0 (known f.0 f.1) f.3 m x.there (number ∙ sym f.2) in
-      let may = sound_point.scalable (λ z. let c : ◌≡◌ {A = ℕ} 0 2 = sym z ∙ k in absurd (omega arith)) in
       let rs = registers_at body a p in
-      let four = types.scaled_small p.type_code p.size sound_point.sized may in
-      let few : length rs ≤ 4 = omega (arith, length-take p.size (drop a body)) in
       record {
         point = m;
         there = x.there;
         is = is_factor d.top m (point_at body (in_scope s path) a p) k number x.agrees;
         code = r.0;
-        may = may;
+        may = types.by_point_may around p sound_point k;
         gives = ap (λ (x : ℕ). shown_as path a p (join rs) (shown_raw rs) x) (x.holds ∙ sym r.1)
-            ∙ ap (λ (x : ℕ). shown_as path a p x (shown_raw rs) m.raw) (sym (shown rs few));
+            ∙ ap (λ (x : ℕ). shown_as path a p x (shown_raw rs) m.raw) (sym (shown rs (types.by_point_few around p sound_point k body a)));
       }
 
   -- The points of a model whose last pad is left out,

@@ -13,8 +13,7 @@ use Rattle.layout.specs.Paths.{path_of}
 use Rattle.listing.specs.Listing.{Record, Answer, listed, all_records}
 use Rattle.listing.specs.Listing as Listing
 use Rattle.listing.specs.Finding.{is_record, target_of}
-use Rattle.listing.proofs.ListingInversion.{listed_walks}
-use Rattle.listing.proofs.ListingCases.{walk_records}
+use Rattle.listed_records.proofs.AllRecords.{all_shown}
 use Rattle.listed_records.proofs.OneRecord.{own_found}
 use Rattle.writing.specs.Writing.{refused, writing}
 use Rattle.writing.specs.NoSuchPoint.{Missing, NoSuchPointExact}
@@ -60,7 +59,7 @@ module _ (catalog map : List ℕ) where
                 none = none;
                 unlisted = λ capacity ss n e.
                     let same : listed rs headers ≡ listed ss n =
-                    sym q ∙ walk_records catalog map (listed_walks catalog map capacity ss n e).0 in
+                    sym q ∙ all_shown catalog map capacity ss n e in
                     let records : rs ≡ ss = cc in
                     subst (Each (λ r. is_record index number path r ≡ false)) records none;
               },
@@ -71,10 +70,10 @@ module _ (catalog map : List ℕ) where
   no_such_point_exact =
       record {
         shown_is_found = λ capacity rs headers e r i.
-            let all = walk_records catalog map (listed_walks catalog map capacity rs headers e).0 in
+            let all = all_shown catalog map capacity rs headers e in
             finding_found catalog map r.index r.point.definition.number (path_of r.point) all
             (own_found catalog map rs headers all r i);
         shown_never31 = λ capacity rs headers e.
-            never_31 rs headers (walk_records catalog map (listed_walks catalog map capacity rs headers e).0);
+            never_31 rs headers (all_shown catalog map capacity rs headers e);
         refused_is_missing = λ index number path raw place e. by_records index number path raw place e (all_records catalog map) refl;
       }

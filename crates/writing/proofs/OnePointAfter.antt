@@ -134,15 +134,18 @@ module _ (top : Content) (w : ModelPoint) (raw : ℕ) (body : List ℕ) where
           not-true (too_wide w.definition.size raw)
           (both (is_value (point_class w.definition raw)) (not (too_wide w.definition.size raw)) x.holds).1
 
-      -- If the scale point is the point written, its register is the raw value.
-      factor_written : p.scale_kind ≡ scale_by_point → is_written path p.scale ≡ true → t p.scale ≡ raw
-      factor_written k e =
+      -- If the scale point is the point written, that is a sunssf point,
+      written_code : p.scale_kind ≡ scale_by_point → is_written path p.scale ≡ true → w.definition.type_code ≡ sunssf
+      written_code k e =
           let f = factor k in
           let number = eqb-true p.scale w.definition.number
           (both (eqb p.scale w.definition.number) (agree_to depth (path_of w) (levels path)) e).0 in
-          let same : f.0 ≡ w.definition = x.one_point f.0 w.definition f.1 x.known (f.2 ∙ number) in
-          let code : w.definition.type_code ≡ sunssf = sym (ap (λ (x : Point). x.type_code) same) ∙ f.3 in
-          let one : w.definition.size ≡ 1 = types.scale_factor_size w.definition.size (rw code at x.sized) in
+          ap (λ (x : Point). x.type_code) (sym (x.one_point f.0 w.definition f.1 x.known (f.2 ∙ number))) ∙ f.3
+
+      -- and the register is the raw value.
+      factor_written : p.scale_kind ≡ scale_by_point → is_written path p.scale ≡ true → t p.scale ≡ raw
+      factor_written k e =
+          let one : w.definition.size ≡ 1 = types.scale_factor_size w.definition.size (rw (written_code k e) at x.sized) in
           scale_register k
           ∙ becomes_written path p.scale (s p.scale) e
           ∙ first_stored body w.offset values fitting 0 (omega (arith, count, one))
@@ -177,11 +180,8 @@ module _ (top : Content) (w : ModelPoint) (raw : ℕ) (body : List ℕ) where
         unfolding point_at
         scaled other k e =
             let rs = registers_at body a p in
-            let may = sound.scalable (λ z. let c : ◌≡◌ {A = ℕ} 0 2 = sym z ∙ k in absurd (omega arith)) in
-            let four = types.scaled_small p.type_code p.size sound.sized may in
-            let few : length rs ≤ 4 = omega (arith, length-take p.size (drop a body)) in
             unchanged other raw (λ _. factor_written k e)
-            ∙ ap (λ (x : ℕ). shown_as path a p x (shown_raw rs) raw) (sym (shown rs few))
+            ∙ ap (λ (x : ℕ). shown_as path a p x (shown_raw rs) raw) (sym (shown rs (types.by_point_few around p sound k body a)))
 
         -- Any other point stays.
         stays : (a ≡ w.offset → ⊥) → (p.scale_kind ≡ scale_by_point → is_written path p.scale ≡ false) → after ≡ old
@@ -205,13 +205,8 @@ module _ (top : Content) (w : ModelPoint) (raw : ℕ) (body : List ℕ) where
         own_factor : a ≡ w.offset → p.scale_kind ≡ scale_by_point → t p.scale ≡ s p.scale
         own_factor here k =
             factor_stays k (fails (is_written path p.scale) (λ e.
-            let f = factor k in
-            let number = eqb-true p.scale w.definition.number
-            (both (eqb p.scale w.definition.number) (agree_to depth (path_of w) (levels path)) e).0 in
-            let same : f.0 ≡ p = x.one_point f.0 w.definition f.1 x.known (f.2 ∙ number) ∙ sym (same_point here) in
-            let code : p.type_code ≡ sunssf = sym (ap (λ (x : Point). x.type_code) same) ∙ f.3 in
-            let may = sound.scalable (λ z. let c : ◌≡◌ {A = ℕ} 0 2 = sym z ∙ k in absurd (omega arith)) in
-            sym may ∙ ap may_scale code ∙ types.scale_factor_unscaled))
+            let code = ap (λ (x : Point). x.type_code) (same_point here) ∙ written_code k e in
+            sym (types.by_point_may around p sound k) ∙ ap may_scale code ∙ types.scale_factor_unscaled))
 
         -- What it held was implemented,
         was_implemented : a ≡ w.offset → is_unimplemented_class (point_class p (join (registers_at body a p))) ≡ false

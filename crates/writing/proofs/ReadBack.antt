@@ -28,7 +28,7 @@ use Rattle.listing.specs.Listing.{Record, listed, all_records, with_capacity, li
 use Rattle.listing.specs.Finding.{is_record, target_of}
 use Rattle.listing.proofs.ListingCases.{with_capacity_lem, listing_records, walk_records}
 use Rattle.listing.proofs.ListingInversion.{listed_walks}
-use Rattle.listed_records.proofs.RecordSources.{record_source}
+use Rattle.listed_records.proofs.RecordSources.{record_source, source_known}
 use Rattle.writing.specs.Writing.{rewritten, written, writing}
 use Rattle.writing.specs.AfterWriting.{is_scale_factor_of, Holds, rescaled, RecordAfter}
 use Rattle.writing.specs.ScaleFactors.{IsFactor}
@@ -64,7 +64,7 @@ module _ (catalog map new : List ℕ) (before after : List Record) (headers : �
   top_of_lem : (top : Content) × (top_of w.id (definitions catalog) ≡ some top)
   top_of_lem =
       let o = record_source catalog map before headers all_before w there in
-      (o.by.definition.top, ap (λ id. top_of id (definitions catalog)) o.id ∙ o.by.known)
+      (o.by.definition.top, source_known w o)
 
   module _ (top : Content) (known : top_of w.id (definitions catalog) ≡ some top) where
     -- The point after the write.

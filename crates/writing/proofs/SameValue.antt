@@ -11,8 +11,7 @@ use Rattle.registers.proofs.StoredRegisters.{shown_stored}
 use Rattle.layout.specs.Paths.{path_of}
 use Rattle.listing.specs.Listing.{Record, listed, all_records, listing}
 use Rattle.listing.specs.Finding.{is_record, target_of}
-use Rattle.listing.proofs.ListingCases.{walk_records}
-use Rattle.listing.proofs.ListingInversion.{listed_walks}
+use Rattle.listed_records.proofs.AllRecords.{all_shown}
 use Rattle.listed_records.proofs.OneRecord.{own_found}
 use Rattle.listed_records.proofs.RawValues.{record_inside, record_raw}
 use Rattle.writing.specs.Writing.{rewritten, written, writing}
@@ -43,6 +42,6 @@ pub same_value_shown : (catalog map : List ℕ) (capacity : ℕ) (rs : List Reco
     → writing catalog map r.index r.point.definition.number (path_of r.point) r.point.raw ≡ written new
     → new ≡ map
 same_value_shown catalog map capacity rs headers new registers e r there q =
-    let all = walk_records catalog map (listed_walks catalog map capacity rs headers e).0 in
+    let all = all_shown catalog map capacity rs headers e in
     same_value catalog map r.index r.point.definition.number (path_of r.point) r.point.raw new registers q rs
     headers all r (own_found catalog map rs headers all r there) refl

@@ -18,12 +18,12 @@ use Rattle.layout.specs.Points.{ModelPoint}
 use Rattle.layout.specs.Reading.{top_of, reading}
 use Rattle.layout.specs.Paths.{path_of}
 use Rattle.listing.specs.Listing.{Record, record_of, listed, walk, all_records, listing}
-use Rattle.listing.proofs.ListingCases.{records_walk, walk_records}
+use Rattle.listing.proofs.ListingCases.{records_walk}
+use Rattle.listed_records.proofs.AllRecords.{all_shown}
 use Rattle.listed_records.specs.Tiling.{records_with}
 use Rattle.listed_records.proofs.ModelRecords.{RecordsOf, model_records}
 use Rattle.listed_records.proofs.WalkedModels.{in_records}
-use Rattle.listed_records.proofs.RecordSources.{Source, record_source}
-use Rattle.listing.proofs.ListingInversion.{listed_walks}
+use Rattle.listed_records.proofs.RecordSources.{Source, record_source, source_known}
 use Rattle.listed_records.proofs.OneRecord.{one_record}
 use Rattle.writing.specs.AfterWriting.{is_scale_factor_of}
 use Rattle.writing.specs.ScaleFactors.{IsFactor, ScaleFactors}
@@ -71,8 +71,7 @@ module _ (catalog registers : List ℕ) (rs : List Record) (headers : ℕ)
       -- Its definition has this top group.
       same_top : source.by.definition.top ≡ top
       same_top =
-          let q : some source.by.definition.top ≡ some top =
-          sym (ap (λ id. top_of id (definitions catalog)) source.id ∙ source.by.known) ∙ known in
+          let q : some source.by.definition.top ≡ some top = sym (source_known r source) ∙ known in
           cc
 
       -- A scale factor of the record is one of its point.
@@ -121,5 +120,4 @@ module _ (catalog registers : List ℕ) (rs : List Record) (headers : ℕ)
 pub shown_scale_factors : (catalog registers : List ℕ) (capacity : ℕ) (rs : List Record) (headers : ℕ)
     → listing catalog registers capacity ≡ listed rs headers → ScaleFactors (definitions catalog) rs
 shown_scale_factors catalog registers capacity rs headers e =
-    scale_factors catalog registers rs headers
-    (walk_records catalog registers (listed_walks catalog registers capacity rs headers e).0)
+    scale_factors catalog registers rs headers (all_shown catalog registers capacity rs headers e)

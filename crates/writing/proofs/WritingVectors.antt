@@ -6,31 +6,29 @@ use mathlib.Core.List.{List, [], ◌∷◌, ◌++◌, map}
 use mathlib.Core.Option.{Option, none, some}
 use Prim.Native.Nat.{ℕ}
 use lib.ListN.{take}
+use Rattle.std.specs.Prelude.{Ok, Err}
+use Rattle.refusals.specs.declared.Refusal.{Refusal}
 use Rattle.lists.specs.Tests.{first_with}
-use Rattle.registers.specs.Registers.{join, split, shown_raw, too_wide}
-use Rattle.point_types.specs.Rows.{rows, row_among, may_scale, registers_of}
-use Rattle.values.specs.Classes.{twos_complement, integer, in_range, class_of, classified}
-use Rattle.catalog_frames.specs.Frames.{frame_of, frames_from}
-use Rattle.frame_rules.specs.FrameTests.{is_size_of}
-use Rattle.catalog.specs.Checking.{check_from, checked}
-use Rattle.model_definitions.specs.Definitions.{Content, parsed, definitions}
-use Rattle.register_map.specs.Headers.{opening}
-use Rattle.register_map.specs.Scan.{scan_from, scan}
-use Rattle.layout.specs.Points.{point_at}
-use Rattle.layout.specs.Layout.{within, measured, fill_measured, count_unimplemented, fits, fill_of, points_at, instances, groups_by, entered, content_at}
-use Rattle.layout.specs.Reading.{ends_with_pad, all_but_last, read_full, read_by, top_of, reading}
+use Rattle.registers.specs.Registers.{split}
+use Rattle.model_definitions.specs.Definitions.{Content, definitions}
+use Rattle.layout.specs.Reading.{top_of}
 use Rattle.layout.specs.Paths.{depth_in}
 use Rattle.listing.specs.Listing as Listing
-use Rattle.listing.specs.Listing.{Record, record_numbers, walk, records_by, all_records, with_capacity, listing}
+use Rattle.listing.specs.Listing.{Record, all_records, listing}
 use Rattle.listing.specs.Finding.{is_record, finding}
+use Rattle.listed_records.proofs.Computing.{computing}
 use Rattle.listed_records.proofs.ListingVectors.{Shown, listed, shown, model, times, point, uint16, scaled, sunssf, end, joined, body, row}
 use Rattle.writing.specs.Writing.{refusal, rewritten, Answer, refused, written, map_after, writing, result}
 use Rattle.writing.specs.AfterWriting.{is_scale_factor_of}
 use Rattle.writing.specs.Calls.{WriteCall}
 use Rattle.writing.specs.ReadBack.{ReadBack}
 use Rattle.writing.specs.OtherRecords.{OtherRecords}
-use Rattle.writing.specs.declared.Written.{Written}
 use Rattle.writing.proofs.WrittenReadsBack.{done_records, done_reads_back, done_other_records}
+
+-- What a write computes with.
+unfoldable pub computing_writes : Unit {0}
+unfolding computing first_with finding split refusal rewritten writing
+computing_writes = tt
 
 -- ---- The plant
 
@@ -72,18 +70,12 @@ rescaled_plant =
 
 -- It is written -2: one register changes.
 pub factor_written : writing catalog plant 1 7 (instance 1) 0xFFFE ≡ written rescaled_plant
-unfolding check_from checked frames_from frame_of is_size_of rows row_among may_scale registers_of twos_complement join shown_raw too_wide
-    integer in_range class_of classified parsed opening scan_from scan point_at within measured fill_measured count_unimplemented
-    fits fill_of points_at instances groups_by entered content_at ends_with_pad all_but_last read_full read_by top_of reading walk records_by
-    all_records first_with finding split refusal rewritten writing
+unfolding computing_writes
 factor_written = refl
 
 -- A scale factor of 11 is refused.
 pub eleven_refused : writing catalog plant 1 7 (instance 0) 11 ≡ refused 35 0
-unfolding check_from checked frames_from frame_of is_size_of rows row_among may_scale registers_of twos_complement join shown_raw too_wide
-    integer in_range class_of classified parsed opening scan_from scan point_at within measured fill_measured count_unimplemented
-    fits fill_of points_at instances groups_by entered content_at ends_with_pad all_but_last read_full read_by top_of reading walk records_by
-    all_records first_with finding split refusal rewritten writing
+unfolding computing_writes
 eleven_refused = refl
 
 -- The records by the status and scale of the scaled point of instance 1, and by the status and raw value of its scale factor.
@@ -104,14 +96,11 @@ records_with status scale factor_status factor =
 -- Before the write and after it: nothing else has changed.
 pub records_changed : map (λ m. shown (listing catalog m 90)) (plant ∷ rescaled_plant ∷ [])
     ≡ records_with 4 0 5 11 ∷ records_with 0 65534 0 65534 ∷ []
-unfolding check_from checked frames_from frame_of is_size_of rows row_among may_scale registers_of twos_complement join shown_raw too_wide
-    integer in_range class_of classified parsed opening scan_from scan point_at within measured fill_measured count_unimplemented
-    fits fill_of points_at instances groups_by entered content_at ends_with_pad all_but_last read_full read_by top_of reading record_numbers
-    walk records_by all_records with_capacity listing
+unfolding computing
 records_changed = refl
 
--- A call of `write` that returns `Done` and leaves that map is as the contract says,
-pub factor_call : WriteCall catalog plant 1 7 (instance 1) 0xFFFE Written.Done rescaled_plant
+-- A call of `write` that returns `Ok` and leaves that map is as the contract says,
+pub factor_call : WriteCall catalog plant 1 7 (instance 1) 0xFFFE (Ok tt) rescaled_plant
 factor_call =
     record {
       result = sym (ap result factor_written);
@@ -135,7 +124,7 @@ others =
     factor_call
 
 -- A call that returns 35 and leaves the plant as it was is as the contract says too: 11 is no scale factor.
-pub refused_call : WriteCall catalog plant 1 7 (instance 0) 11 (Written.Refused 35 0) plant
+pub refused_call : WriteCall catalog plant 1 7 (instance 0) 11 (Err (record { refusal = Refusal.NoValueOfPoint; place = 0 })) plant
 refused_call =
     record {
       result = sym (ap result eleven_refused);
@@ -155,10 +144,7 @@ scaled_by number path (Listing.refused n place headers) top = []
 -- The scale factor of instance 1 is that of the scaled point of instance 1 only.
 pub scaled_by_instance_1 : scaled_by 7 (instance 1) (all_records catalog plant) (top_of 900 (definitions catalog))
     ≡ false ∷ false ∷ false ∷ false ∷ false ∷ false ∷ false ∷ true ∷ false ∷ []
-unfolding check_from checked frames_from frame_of is_size_of rows row_among may_scale registers_of twos_complement join shown_raw too_wide
-    integer in_range class_of classified parsed opening scan_from scan point_at within measured fill_measured count_unimplemented
-    fits fill_of points_at instances groups_by entered content_at ends_with_pad all_but_last read_full read_by top_of reading walk records_by
-    all_records first_with depth_in
+unfolding first_with depth_in computing
 scaled_by_instance_1 = refl
 
 -- ---- A point that was out of range
@@ -173,10 +159,7 @@ counter_with high low = body (high ∷ 0 ∷ 0 ∷ low ∷ 0xFFFF ∷ [])
 
 -- The acc64 is above its range, and is written 230.
 pub counter_written : writing counter_catalog (counter_with 0x8000 1) 1 1 (instance 0) 230 ≡ written (counter_with 0 230)
-unfolding check_from checked frames_from frame_of is_size_of rows row_among may_scale registers_of twos_complement join shown_raw too_wide
-    integer in_range class_of classified parsed opening scan_from scan point_at within measured fill_measured count_unimplemented
-    fits fill_of points_at instances groups_by entered content_at ends_with_pad all_but_last read_full read_by top_of reading walk records_by
-    all_records first_with finding split refusal rewritten writing
+unfolding computing_writes
 counter_written = refl
 
 -- Before the write its status is 5. After it, the status is 0 and the scale is that of its scale point.
@@ -184,10 +167,7 @@ pub counter_scaled : map (λ m. shown (listing counter_catalog m 20)) (counter_w
     ≡ listed (row 1 0 0 0 7 5 0x8000000000000001 0 ∷ row 2 0 0 0 11 0 65535 0 ∷ []) 3
     ∷ listed (row 1 0 0 0 7 0 230 65535 ∷ row 2 0 0 0 11 0 65535 0 ∷ []) 3
     ∷ []
-unfolding check_from checked frames_from frame_of is_size_of rows row_among may_scale registers_of twos_complement join shown_raw too_wide
-    integer in_range class_of classified parsed opening scan_from scan point_at within measured fill_measured count_unimplemented
-    fits fill_of points_at instances groups_by entered content_at ends_with_pad all_but_last read_full read_by top_of reading record_numbers
-    walk records_by all_records with_capacity listing
+unfolding computing
 counter_scaled = refl
 
 -- ---- A counter at 0 (change request 2)
@@ -203,19 +183,13 @@ meter_with count = body (0 ∷ count ∷ [])
 pub counters_written : map (λ (flag : ℕ). writing (meter_catalog flag) (meter_with 0) 1 1 (instance 0) 5
     ∷ writing (meter_catalog flag) (meter_with 5) 1 1 (instance 0) 0 ∷ []) (1 ∷ 0 ∷ [])
     ≡ (written (meter_with 5) ∷ written (meter_with 0) ∷ []) ∷ (refused 34 0 ∷ refused 35 0 ∷ []) ∷ []
-unfolding check_from checked frames_from frame_of is_size_of rows row_among may_scale registers_of twos_complement join shown_raw too_wide
-    integer in_range class_of classified parsed opening scan_from scan point_at within measured fill_measured count_unimplemented
-    fits fill_of points_at instances groups_by entered content_at ends_with_pad all_but_last read_full read_by top_of reading walk records_by
-    all_records first_with finding split refusal rewritten writing
+unfolding computing_writes
 counters_written = refl
 
 -- The 0 that was written reads back as a value.
 pub reset_reads_back : map (λ (flag : ℕ). shown (listing (meter_catalog flag) (meter_with 0) 10)) (1 ∷ 0 ∷ [])
     ≡ listed (row 1 0 0 0 7 0 0 65535 ∷ []) 3 ∷ listed (row 1 0 0 0 7 1 0 0 ∷ []) 3 ∷ []
-unfolding check_from checked frames_from frame_of is_size_of rows row_among may_scale registers_of twos_complement join shown_raw too_wide
-    integer in_range class_of classified parsed opening scan_from scan point_at within measured fill_measured count_unimplemented
-    fits fill_of points_at instances groups_by entered content_at ends_with_pad all_but_last read_full read_by top_of reading record_numbers
-    walk records_by all_records with_capacity listing
+unfolding computing
 reset_reads_back = refl
 
 -- ---- Other writes
@@ -258,8 +232,5 @@ writes =
 -- Every write has the answer that the list says.
 pub worked_writes : map (λ (w : Write). writing catalog plant 1 w.number w.path w.raw) writes
     ≡ map (λ (w : Write). w.answer) writes
-unfolding writes check_from checked frames_from frame_of is_size_of rows row_among may_scale registers_of twos_complement join shown_raw
-    too_wide integer in_range class_of classified parsed opening scan_from scan point_at within measured fill_measured
-    count_unimplemented fits fill_of points_at instances groups_by entered content_at ends_with_pad all_but_last read_full read_by top_of
-    reading walk records_by all_records first_with finding split refusal rewritten writing
+unfolding writes computing_writes
 worked_writes = refl

@@ -2,8 +2,7 @@
 use Rattle.std.specs.Prelude.{◌≡◌, List, ℕ}
 use Rattle.writing.specs.Writing.{map_after, writing}
 use Rattle.writing.specs.Writing as Writing
-use Rattle.writing.specs.CodeTypes.{to_spec_written}
-use Rattle.writing.specs.declared.Written.{Written}
+use Rattle.writing.specs.CodeTypes.{Written, to_spec_written}
 
 -- A call of `write` on `map` that returned `returned` and left the map `after`: the two equations of its contract, which cites this.
 pub record WriteCall (catalog map : List ℕ) (index number : ℕ) (path : List ℕ) (raw : ℕ) (returned : Written) (after : List ℕ)

@@ -1,8 +1,15 @@
 -- From the code's types to the definitions' types.
-use Rattle.writing.specs.Writing.{Result, refused_result, written_result}
-use Rattle.writing.specs.declared.Written.{Written}
+use Rattle.std.specs.Prelude.{Result, Ok, Err}
+use Rattle.refusals.specs.Refusals.{number}
+use Rattle.refusals.specs.declared.Refused.{Refused}
+use Rattle.writing.specs.Writing as Writing
+use Rattle.writing.specs.Writing.{refused_result, written_result}
 
 -- What `write` returns.
-abbrev pub to_spec_written : Written → Result
-to_spec_written Written.Done = written_result
-to_spec_written (Written.Refused number place) = refused_result number place
+abbrev pub Written : Type 0
+Written = Result (Unit {0}) Refused
+
+-- The result that it tells.
+abbrev pub to_spec_written : Written → Writing.Result
+to_spec_written (Ok done) = written_result
+to_spec_written (Err r) = refused_result (number r.refusal) r.place
