@@ -1,7 +1,8 @@
 -- The cases of `amount_of`, and the bounds and parts of an accepted amount.
-use mathlib.Core.Path.{◌≡◌, refl, sym, ap, ◌∙◌}
-use mathlib.Core.Bool.{Bool, true, false}
+use mathlib.Core.Path.{◌≡◌, sym, ap, ◌∙◌}
+use mathlib.Core.Bool.{true, false}
 use Prim.Native.Nat.{ℕ}
+use native.Mathlib.Omega.{arith}
 use lib.IntN.{ℤ}
 use Rattle.std.specs.Prelude.{Ok, Err}
 use Rattle.refusals.specs.Refusals.{number as code_of}
@@ -14,7 +15,7 @@ use Rattle.values.specs.CodeTypes.{to_code_unscaled}
 use Rattle.values.specs.declared.Integer.{Integer}
 use Rattle.values.proofs.UnscaledCases.{was_number}
 use Rattle.values.proofs.UnscaledRange.{unscaled_range}
-use Rattle.display.specs.Amounts.{Amount, amount, refused, amount_from, amount_of, zeros, places}
+use Rattle.display.specs.Amounts.{amount, refused, amount_from, amount_of, zeros, places}
 use Rattle.display.specs.InternalParts.{IsAmount, TenAtMost}
 use Rattle.display.specs.declared.quantities.ScaledNumber.{ScaledNumber}
 use Rattle.display.proofs.ScaleFactors.{ten_at_most}
@@ -28,20 +29,7 @@ module _ (code : ℕ) (presence : Presence) (raw : ℕ) (scale : ℤ) where
 
   pub amount_of_lem : (value s : ℤ) → amount_of code presence raw scale ≡ amount value s → AmountOf value s
   unfolding amount_of
-  amount_of_lem value s e = by_value (unscaled code presence raw) refl e
-    where
-      by_scale : (z : ℤ) → unscaled code presence raw ≡ number z → (b : Bool) → is_scale_factor scale ≡ b
-          → ◌≡◌ {A = Amount} (elim b [ true ↦ amount z scale | false ↦ refused 45 0 ]) (amount value s) → AmountOf value s
-      by_scale z u true b q =
-          let v : z ≡ value = cc in
-          record { is = u ∙ ap number v; same_scale = cc; in_range = b }
-      by_scale z u false b q = impossible (cc)
-
-      by_value : (u : Unscaled) → unscaled code presence raw ≡ u
-          → amount_from u scale ≡ amount value s → AmountOf value s
-      by_value (number z) u q = by_scale z u (is_scale_factor scale) refl q
-      by_value no_value u q = impossible (cc)
-      by_value not_scalable u q = impossible (cc)
+  amount_of_lem value s e = grind (arith, amount_of)
 
   pub value_within : (value s : ℤ) → amount_of code presence raw scale ≡ amount value s → Within64 value
   value_within value s e = unscaled_range code presence raw value (amount_of_lem value s e).is

@@ -1,16 +1,15 @@
 -- The cases of `decimal_of`, and the text of an amount by its parts.
 use mathlib.Core.Path.{◌≡◌, refl, sym, ap, ◌∙◌}
-use mathlib.Core.Logic.{◌⊎◌, inl, inr}
 use mathlib.Core.List.{[], ◌∷◌, ◌++◌, append-nil}
-use Prim.Native.Nat.{ℕ, zero, suc, ◌*◌, ◌/◌, ◌^◌, ◌≤◌}
-use native.Mathlib.Nat.{div-one, mul-one}
+use Prim.Native.Nat.{ℕ, zero, suc, ◌/◌, ◌^◌, ◌≤◌}
+use native.Mathlib.Nat.{div-one}
 use native.Mathlib.Omega.{arith}
 use borrow.Author.Tests.{le-ltb}
 use lib.IntN.{ℤ}
 use Rattle.point_types.specs.Presence.{Presence}
 use Rattle.display.specs.Amounts.{amount_of}
-use Rattle.display.specs.Decimals.{decimal_point, last_digits, digits_of, sign, unsigned_text, text, decimal_of}
-use Rattle.display.specs.InternalParts.{IsAmount, TenAtMost, parts_text}
+use Rattle.display.specs.Decimals.{decimal_point, last_digits, digits_of, unsigned_text, text, decimal_of}
+use Rattle.display.specs.InternalParts.{IsAmount, parts_text}
 use Rattle.display.specs.declared.quantities.ScaledNumber.{ScaledNumber}
 
 -- The text, if the buffer is long enough.
@@ -30,15 +29,3 @@ pub places_text : (n k : ℕ) → 1 ≤ k → digits_of (n / 10 ^ k) ++ decimal_
 unfolding unsigned_text
 places_text n zero h = absurd (omega arith)
 places_text n (suc k) h = refl
-
--- An amount has zeros or places, and not both: its text in each case.
-module _ (a : ScaledNumber) where
-  pub zeros_text : a.places ≡ 0 → sign a.negative ++ unsigned_text (a.magnitude * 10 ^ a.zeros) 0 ≡ parts_text a
-  zeros_text e = rw e
-
-  pub no_zeros_text : TenAtMost a.zeros a.places → (a.places ≡ 0 → ⊥) → sign a.negative ++ unsigned_text a.magnitude a.places ≡ parts_text a
-  no_zeros_text t h = go t.not_both
-    where
-      go : (a.zeros ≡ 0) ⊎ (a.places ≡ 0) → sign a.negative ++ unsigned_text a.magnitude a.places ≡ parts_text a
-      go (inl e) = rw (e, mul-one a.magnitude)
-      go (inr e) = absurd (h e)

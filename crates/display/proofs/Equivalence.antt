@@ -1,13 +1,15 @@
 -- On accepted quantities, equality of amounts is reflexive, symmetric and transitive; and it is equality of the cross-multiplied
 -- integers.
-use mathlib.Core.Path.{◌≡◌, refl, sym, ap, ◌∙◌}
+use mathlib.Core.Path.{◌≡◌, refl, ap, ◌∙◌}
 use mathlib.Core.Bool.{Bool, true, false}
 use Prim.Native.Nat.{◌<◌}
-use lib.IntN.{ℤ, pos, negsuc, ◌*ℤ◌}
+use native.Mathlib.Omega.{arith}
+use Rattle.std.proofs.lemmas.Bool.Decides.{nat_tests}
+use lib.IntN.{ℤ, pos, ◌*ℤ◌}
 use Rattle.display.specs.Amounts.{Amount, amount, refused, places, Fraction, fraction_of}
 use Rattle.display.specs.Equality.{is_same_integer, is_same_fraction, equal_if, equal, equality, Accepted, SameNumber}
 use Rattle.display.proofs.PowersOfTen.{positive}
-use Rattle.display.proofs.ScaledIntegers.{same_test, swap, cancel, same_integer, integer_same}
+use Rattle.display.proofs.ScaledIntegers.{swap, cancel, same_integer, integer_same}
 
 is_equal : (b : Bool) → equal_if b ≡ equal → b ≡ true
 is_equal true e = refl
@@ -33,10 +35,7 @@ reflexive (amount v s) h = means_equal v s v s refl
 reflexive (refused n place) h = absurd h
 
 either_way : (x y : ℤ) → is_same_integer x y ≡ is_same_integer y x
-either_way (pos a) (pos b) = same_test a b b a sym sym
-either_way (pos a) (negsuc b) = refl
-either_way (negsuc a) (pos b) = refl
-either_way (negsuc a) (negsuc b) = same_test a b b a sym sym
+either_way x y = grind (arith, nat_tests)
 
 -- The result is the same with the two quantities exchanged.
 pub symmetric : (a b : Amount) → Accepted a → Accepted b → equality a b ≡ equality b a

@@ -1,28 +1,25 @@
 -- Laws of integers times positive factors: the factors can be swapped and cancelled, and two products are equal if signs and
 -- magnitudes agree.
 use mathlib.Core.Path.{◌≡◌, refl, sym, ap, ◌∙◌}
-use mathlib.Core.Bool.{Bool, true, false, not, ◌&&◌, beq}
-use Prim.Native.Nat.{ℕ, zero, suc, ◌-◌, ◌*◌, ◌<◌}
+use mathlib.Core.Bool.{true, not, ◌&&◌, beq}
+use Prim.Native.Nat.{ℕ, suc, ◌-◌, ◌*◌, ◌<◌}
 use native.Mathlib.Nat.{mul_assoc, mul_comm, mul-lt-mul_of_pos_right, eq_of_mul-eq-mul_left}
 use native.Mathlib.Omega.{arith}
-use borrow.Author.Tests.{eqb-true, eqb-false, eq-eqb, ne_eqb}
+use borrow.Author.Tests.{eqb-true}
 use lib.Dec.{eqb}
 use lib.IntN.{ℤ, pos, negsuc, neg_ℤ, nat_abs, ◌*ℤ◌}
 use lib.Signed.{non_neg}
+use Rattle.std.proofs.lemmas.Bool.Decides.{nat_tests}
+use Rattle.std.proofs.lemmas.Int.{ints}
 use Rattle.display.specs.Equality.{is_same_integer}
 
 -- Two tests for equality agree if each equation follows from the other.
 pub same_test : (a b c d : ℕ) → (a ≡ b → c ≡ d) → (c ≡ d → a ≡ b) → eqb a b ≡ eqb c d
-same_test a b c d f g = go (eqb a b) refl
-  where
-    go : (t : Bool) → eqb a b ≡ t → t ≡ eqb c d
-    go true e = sym (eq-eqb c d (f (eqb-true a b e)))
-    go false e = sym (ne_eqb c d (λ q. eqb-false a b e (g q)))
+same_test a b c d f g = grind (arith, nat_tests)
 
 -- The negation of a number that is not 0.
 minus_some : (n : ℕ) → 0 < n → neg_ℤ (pos n) ≡ negsuc (n - 1)
-minus_some zero h = absurd (omega arith)
-minus_some (suc n) h = let e : suc n - 1 ≡ n = omega arith in rw e
+minus_some n h = omega (arith, ints)
 
 product_some : (a p : ℕ) → 0 < p → 0 < suc a * p
 product_some a p h = omega (arith, mul-lt-mul_of_pos_right {m = a} {n = suc a} {k = p} (omega arith) h)
@@ -58,17 +55,10 @@ same_product (negsuc a) (negsuc b) p q h k =
 
 -- `is_same_integer` tests equality.
 pub same_integer : (x y : ℤ) → is_same_integer x y ≡ true → x ≡ y
-same_integer (pos a) (pos b) e = ap pos (eqb-true a b e)
-same_integer (pos a) (negsuc b) e = cc
-same_integer (negsuc a) (pos b) e = cc
-same_integer (negsuc a) (negsuc b) e = ap negsuc (eqb-true a b e)
+same_integer x y e = grind (arith, nat_tests)
 
 pub integer_same : (x y : ℤ) → x ≡ y → is_same_integer x y ≡ true
-integer_same x y e = rw e (itself y)
-  where
-    itself : (z : ℤ) → is_same_integer z z ≡ true
-    itself (pos a) = eq-eqb a a refl
-    itself (negsuc a) = eq-eqb a a refl
+integer_same x y e = grind (arith, nat_tests)
 
 -- A common factor cancels.
 pub cancel : (x y : ℤ) (p : ℕ) → 0 < p → x *ℤ pos p ≡ y *ℤ pos p → x ≡ y

@@ -11,7 +11,6 @@ use native.Mathlib.Decide.{dec_le}
 use borrow.Author.Tests.{eqb-true, lt-leb, leb-true}
 use lib.Dec.{eqb}
 use lib.IntN.{pos}
-use lib.ListN.{length}
 use lib.Pow.{pow_mono}
 use Rattle.lists.specs.Each.{Each}
 use Rattle.lists.proofs.EachLaws.{each_implied}
@@ -25,7 +24,7 @@ use Rattle.values.proofs.ClassCases.{value_class, of_class_lem}
 use Rattle.values.proofs.Ranges.{in_up_to}
 use Rattle.values.proofs.ThreeClasses.{class_is_its_tests}
 use Rattle.values.proofs.UnscaledCases.{value_fits}
-use Rattle.event_fields.specs.Events.{is_set, set_among, set_positions, first_or, is_bitfield, bits, refused, event_bits}
+use Rattle.event_fields.specs.Events.{is_set, set_among, set_positions, first_or, is_bitfield, bits, event_bits}
 
 -- A bit that is set in a number below 2 ^ width is at a position below the width.
 set_below : (n position width : ℕ) → is_set n position ≡ true → n < 2 ^ width → position < width
@@ -65,18 +64,7 @@ module _ (code raw : ℕ) (row : TypeRow) (is : row_of code ≡ some row) where
   accepted : (count lowest : ℕ) → event_bits code raw ≡ bits count lowest
       → (is_bitfield code ≡ true) × (is_value (classified code optional raw) ≡ true) × (first_or 64 (set_positions raw) ≡ lowest)
   unfolding event_bits
-  accepted count lowest = go (is_bitfield code) refl (is_value (classified code optional raw)) refl
-    where
-      go : (b : Bool) → is_bitfield code ≡ b → (v : Bool) → is_value (classified code optional raw) ≡ v
-          → elim b [
-            | false ↦ refused 41 0
-            | true ↦ elim v [ true ↦ bits (length (set_positions raw)) (first_or 64 (set_positions raw)) | false ↦ refused 42 0 ]
-          ]
-          ≡ bits count lowest
-          → (is_bitfield code ≡ true) × (is_value (classified code optional raw) ≡ true) × (first_or 64 (set_positions raw) ≡ lowest)
-      go true b true v q = (b, v, cc)
-      go true b false v q = impossible (cc)
-      go false b v t q = impossible (cc)
+  accepted count lowest q = grind (arith, event_bits)
 
   by_code : {A : Type 0} → is_bitfield code ≡ true → (code ≡ 5 → A) → (code ≡ 13 → A) → (code ≡ 21 → A) → A
   by_code {A} = go (eqb code 5) refl (eqb code 13) refl (eqb code 21) refl

@@ -104,10 +104,7 @@ one_to_64 c r e =
 
 -- Two tests that agree have one outcome.
 same_outcome : (a b : Bool) → T (beq a b) → a ≡ b
-same_outcome true true t = refl
-same_outcome true false t = absurd t
-same_outcome false true t = absurd t
-same_outcome false false t = refl
+same_outcome a b t = grind arith
 
 -- The codes that `decode` takes, 1–18, 21 and 22, are those of at most four registers.
 abbrev four_test : TypeRow → Bool

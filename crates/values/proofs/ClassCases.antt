@@ -1,12 +1,12 @@
 -- The cases of `class_of`, `classified` and `decoded`.
-use mathlib.Core.Path.{◌≡◌, refl, sym, subst}
-use mathlib.Core.Bool.{Bool, true, false}
-use mathlib.Core.Option.{Option, none, some}
+use mathlib.Core.Path.{◌≡◌, refl}
+use mathlib.Core.Bool.{true, false}
+use mathlib.Core.Option.{none, some}
 use mathlib.Core.List.{List}
 use Prim.Native.Nat.{ℕ, ◌≤◌, ◌<◌}
-use borrow.Author.Tests.{le-leb, lt-leb, leb-true}
-use lib.Dec.{leb}
-use Rattle.lists.proofs.TestOutcomes.{impossible, clash}
+use borrow.Author.Tests.{le-leb, lt-leb}
+use native.Mathlib.Omega.{arith}
+use Rattle.std.proofs.lemmas.Bool.Decides.{nat_tests}
 use Rattle.registers.specs.Registers as registers
 use Rattle.point_types.specs.Presence.{Presence}
 use Rattle.point_types.specs.Rows.{TypeRow, row_of, unimplemented_for}
@@ -21,10 +21,10 @@ in_range_lem row presence raw m r = simp (class_of, m, r)
 -- A raw value that passes the test `is_value` is of the class of values.
 pub value_class : (c : Classified) → is_value c ≡ true → c ≡ of_class value
 value_class (of_class value) e = refl
-value_class (of_class unimplemented) e = clash (sym e)
-value_class (of_class out_of_range) e = clash (sym e)
-value_class too_wide e = clash (sym e)
-value_class unknown_type e = clash (sym e)
+value_class (of_class unimplemented) e = cc
+value_class (of_class out_of_range) e = cc
+value_class too_wide e = cc
+value_class unknown_type e = cc
 
 module _ (code : ℕ) (presence : Presence) (raw : ℕ) where
   pub too_wide_lem : (row : TypeRow) → row_of code ≡ some row → registers.too_wide row.most raw ≡ true → classified code presence raw ≡ too_wide
@@ -58,20 +58,7 @@ module _ (code : ℕ) (row : TypeRow) where
 
   decoding_row : decodable code ≡ some row → (row_of code ≡ some row) × (row.most ≤ 4)
   unfolding decodable
-  decoding_row = by_found (row_of code) refl
-    where
-      by_size : (r : TypeRow) → row_of code ≡ some r → (b : Bool) → leb r.most 4 ≡ b
-          → ◌≡◌ {A = Option TypeRow} (elim b [ true ↦ some r | false ↦ none ]) (some row) → (row_of code ≡ some row) × (row.most ≤ 4)
-      by_size r e true t q =
-          let s : r ≡ row = cc in
-          subst (λ (x : TypeRow). (row_of code ≡ some x) × (x.most ≤ 4)) s (e, leb-true r.most 4 t)
-      by_size r e false t q = impossible (cc)
-
-      by_found : (o : Option TypeRow) → row_of code ≡ o
-          → elim o [ none ↦ none | some r ↦ elim (leb r.most 4) [ true ↦ some r | false ↦ none ] ] ≡ some row
-          → (row_of code ≡ some row) × (row.most ≤ 4)
-      by_found none e q = impossible (cc)
-      by_found (some r) e q = by_size r e (leb r.most 4) refl q
+  decoding_row e = grind (arith, nat_tests, decodable)
 
   pub row_of_decodable : decodable code ≡ some row → row_of code ≡ some row
   row_of_decodable e = (decoding_row e).0

@@ -5,9 +5,9 @@ use mathlib.Core.List.{List, []}
 use mathlib.Core.Logic.{inl, inr}
 use mathlib.Core.Option.{Option, none, some}
 use Prim.Native.Nat.{ℕ}
+use native.Mathlib.Omega.{arith}
 use borrow.Author.Tests.{ne_eqb}
 use lib.IntN.{pos}
-use Rattle.lists.proofs.TestOutcomes.{impossible, clash}
 use Rattle.registers.specs.Registers.{too_wide}
 use Rattle.point_types.specs.Presence.{Presence, mandatory, optional}
 use Rattle.point_types.specs.Rows.{TypeRow, Unimplemented, never, rows, row_among, row_of, is_accumulator, unimplemented_for, AccumulatorCode}
@@ -18,8 +18,7 @@ use Rattle.values.specs.Decoding as decoding
 use Rattle.values.specs.Decoding.{number_of, pattern_in, value_by, value_of, decodable, decoded}
 use Rattle.values.specs.Unscaled.{number, no_value, unscaled_by, unscaled}
 use Rattle.values.specs.PresenceDecides.{CountsZero, HoldsZero, PresenceDecides, PresenceDecodes, PresenceUnscales, OptionalAsBefore, class_before, classified_before, decoded_before, unscaled_before}
-use Rattle.values.proofs.ThreeClasses.{class_is_its_tests}
-use Rattle.values.proofs.ClassCases.{too_wide_lem, of_class_lem, by_row, row_of_decodable}
+use Rattle.values.proofs.ClassCases.{by_row, row_of_decodable}
 
 -- The unimplemented pattern differs by the presence for an accumulator only, and that pattern is 0.
 module _ (code raw : ℕ) (row : TypeRow) (is : row_of code ≡ some row) (other : CountsZero code raw → ⊥) where
@@ -38,11 +37,8 @@ module _ (code raw : ℕ) (row : TypeRow) (is : row_of code ≡ some row) (other
   same_class = simp (class_of, same_pattern)
 
   same_classified : classified code mandatory raw ≡ classified code optional raw
-  same_classified = go (too_wide row.most raw) refl
-    where
-      go : (b : Bool) → too_wide row.most raw ≡ b → classified code mandatory raw ≡ classified code optional raw
-      go true w = too_wide_lem code mandatory raw row is w ∙ sym (too_wide_lem code optional raw row is w)
-      go false w = of_class_lem code mandatory raw row is w ∙ ap of_class same_class ∙ sym (of_class_lem code optional raw row is w)
+  unfolding classified
+  same_classified = grind (arith, classified, same_class)
 
 -- The three accumulators at 0, computed.
 at_zero : (code : ℕ) → AccumulatorCode code
@@ -90,24 +86,8 @@ not_zero_lem code optional raw n = refl
 
 -- A mandatory accumulator is never unimplemented, whatever its raw value.
 pub never_unimplemented : (code raw : ℕ) → AccumulatorCode code → classified code mandatory raw ≡ of_class classes.unimplemented → ⊥
-unfolding classified
-never_unimplemented code raw a = by_found (row_of code) refl
-  where
-    by_width : (row : TypeRow) → row_of code ≡ some row → (b : Bool) → too_wide row.most raw ≡ b
-        → classified code mandatory raw ≡ of_class classes.unimplemented → ⊥
-    by_width row e true w q = let c = too_wide_lem code mandatory raw row e w in impossible (cc)
-    by_width row e false w q =
-        let c = of_class_lem code mandatory raw row e w in
-        let class : class_of row mandatory raw ≡ classes.unimplemented = cc in
-        let none : unimplemented_for row mandatory ≡ never = simp (unimplemented_for, (accumulator_codes code row e).1 a) in
-        let t = (class_is_its_tests row mandatory raw classes.unimplemented).0 class in
-        clash (sym t ∙ ap (λ (u : Unimplemented). is_unimplemented u raw) none)
-
-    by_found : (o : Option TypeRow) → row_of code ≡ o → classified code mandatory raw ≡ of_class classes.unimplemented → ⊥
-    by_found none e q =
-        let c : classified code mandatory raw ≡ classes.unknown_type = simp (classified, e) in
-        impossible (cc)
-    by_found (some row) e q = by_width row e (too_wide row.most raw) refl q
+unfolding classified class_of
+never_unimplemented code raw a q = grind (arith, classified, class_of, accumulator_codes code)
 
 -- For every code and any registers.
 pub presence_decodes : (code : ℕ) (registers : List ℕ) → PresenceDecodes code registers

@@ -1,14 +1,12 @@
 -- The code's tests of a range are those of the definition, for each row of the table.
 use mathlib.Core.Path.{◌≡◌, refl, sym, ap, ◌∙◌}
 use mathlib.Core.Bool.{Bool, true, false, not, ◌&&◌}
-use Prim.Native.Nat.{ℕ, ◌≤◌, ◌<◌, ◌^◌, ◌*◌}
+use Prim.Native.Nat.{ℕ, ◌<◌, ◌^◌, ◌*◌}
 use native.Mathlib.Omega.{arith}
-use native.Mathlib.Decide.{dec_le}
-use borrow.Author.Tests.{le-leb, lt-leb, eq-eqb, ne_eqb}
+use Rattle.std.proofs.lemmas.Bool.Decides.{nat_tests}
 use lib.Dec.{leb, eqb, leb-zero}
 use lib.IntN.{ℤ, pos, neg_ℤ}
-use lib.Ieee.{Format}
-use Rattle.lists.proofs.TestOutcomes.{impossible, clash}
+use Rattle.lists.proofs.TestOutcomes.{clash}
 use Rattle.point_types.specs.Rows.{TypeRow, Kind, signed, unsigned, accumulator, float, whole, between, not_nan}
 use Rattle.point_types.proofs.Table.{counts_from_zero, signed_range}
 use Rattle.values.specs.Classes.{width, twos_complement, integer, is_between, is_scale_factor, holds_nan, in_range, PatternOf}
@@ -51,9 +49,6 @@ module _ (row : TypeRow) (raw : ℕ) where
   pub unsigned_integer : is_unsigned row.kind ≡ true → integer row raw ≡ pos raw
   unsigned_integer u = plain_integer (λ k. clash (sym u ∙ ap is_unsigned k))
 
-  pub float_integer : (f : Format) → row.kind ≡ float f → integer row raw ≡ pos raw
-  float_integer f e = plain_integer (λ k. impossible (cc))
-
   module _ (p : PatternOf row raw) where
     pub in_up_to : (n : ℕ) → row.range ≡ between (pos 0) (pos n) → in_range row raw ≡ leb raw n
     in_up_to n e =
@@ -63,12 +58,10 @@ module _ (row : TypeRow) (raw : ℕ) where
     pub in_only : (n : ℕ) → row.range ≡ between (pos n) (pos n) → in_range row raw ≡ eqb raw n
     in_only n e =
         in_between (pos n) (pos n) e
-        ∙ rw (plain_integer (counts_from_zero row p.listed n (pos n) e)) (both (dec_le n raw) (dec_le raw n))
+        ∙ rw (plain_integer (counts_from_zero row p.listed n (pos n) e)) (both)
       where
-        both : Dec (n ≤ raw) → Dec (raw ≤ n) → (leb n raw && leb raw n) ≡ eqb raw n
-        both (yes a) (yes b) = rw (le-leb n raw a, le-leb raw n b, eq-eqb raw n (omega arith))
-        both (yes a) (no b) = rw (le-leb n raw a, lt-leb raw n (omega arith), ne_eqb raw n (λ q. b (omega arith)))
-        both (no a) d = rw (lt-leb n raw (omega arith), ne_eqb raw n (λ q. a (omega arith)))
+        both : (leb n raw && leb raw n) ≡ eqb raw n
+        both = grind (arith, nat_tests)
 
     module _ (e : row.range ≡ between (neg_ℤ (pos 10)) (pos 10)) where
       pub one_register : raw < 65536

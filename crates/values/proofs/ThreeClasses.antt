@@ -1,29 +1,24 @@
 -- Under the code of a row of the table, for a mandatory or an optional point, a pattern of the type's width has exactly one class; a
 -- wider number has none.
 -- This says how the tests of a row decide. What each row's tests are is the table itself, computed at its limits in ClassVectors.
-use mathlib.Core.Path.{◌≡◌, refl, sym}
+use mathlib.Core.Path.{◌≡◌, sym}
 use mathlib.Core.Logic.{◌↔◌}
-use mathlib.Core.Bool.{Bool, true, false}
+use mathlib.Core.Bool.{true}
 use mathlib.Core.Option.{some}
+use native.Mathlib.Omega.{arith}
 use Prim.Native.Nat.{ℕ, ◌^◌, ◌≤◌, ◌<◌}
 use borrow.Author.Tests.{le-leb, lt-leb}
 use Rattle.registers.specs.Registers as registers
 use Rattle.point_types.specs.Presence.{Presence}
-use Rattle.point_types.specs.Rows.{TypeRow, row_of, unimplemented_for}
-use Rattle.values.specs.Classes.{width, is_unimplemented, in_range, Class, value, unimplemented, out_of_range, class_of, classified, too_wide}
+use Rattle.point_types.specs.Rows.{TypeRow, row_of}
+use Rattle.values.specs.Classes.{width, in_range, Class, value, unimplemented, out_of_range, class_of, classified, too_wide}
 use Rattle.values.specs.ThreeClasses.{Tests, OneClass}
 use Rattle.values.proofs.ClassCases as cases
 
 module _ (row : TypeRow) (presence : Presence) (raw : ℕ) where
   tested : Tests row presence raw (class_of row presence raw)
   unfolding class_of
-  tested = go (is_unimplemented (unimplemented_for row presence) raw) refl (in_range row raw) refl
-    where
-      go : (m : Bool) → is_unimplemented (unimplemented_for row presence) raw ≡ m → (r : Bool) → in_range row raw ≡ r
-          → Tests row presence raw (elim m [ true ↦ unimplemented | false ↦ elim r [ true ↦ value | false ↦ out_of_range ] ])
-      go true e r q = e
-      go false e true q = (e, q)
-      go false e false q = (e, q)
+  tested = grind (arith, class_of)
 
   of_tests : (c : Class) → Tests row presence raw c → class_of row presence raw ≡ c
   unfolding class_of

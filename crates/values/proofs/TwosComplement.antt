@@ -1,26 +1,25 @@
 -- Two's complement by halves: a pattern of the lower half is its own number; one of the upper half is the pattern less 2 ^ bits.
 use mathlib.Core.Path.{◌≡◌, refl}
-use Prim.Native.Nat.{ℕ, zero, suc, ◌-◌, ◌^◌, ◌≤◌, ◌<◌}
+use Prim.Native.Nat.{ℕ, suc, ◌-◌, ◌^◌, ◌≤◌, ◌<◌}
 use native.Mathlib.Omega.{arith}
 use native.Mathlib.Decide.{dec_le}
-use borrow.Author.Tests.{lt-ltb, le-ltb}
+use Rattle.std.proofs.lemmas.Int.{ints}
 use lib.IntN.{ℤ, pos, negsuc, ◌-ℤ◌}
 use Rattle.values.specs.Classes.{twos_complement}
 use Rattle.values.specs.Encoding.{twos_pattern}
 
 -- x - m, if it is below 0.
 pub less : (x m : ℕ) → x < m → pos x -ℤ pos m ≡ negsuc (m - suc x)
-less x zero h = absurd (omega arith)
-less x (suc n) h = simp (lt-ltb _ _ h)
+less x m h = omega (arith, ints)
 
 module _ (bits raw : ℕ) where
   pub lower_half : raw < 2 ^ (bits - 1) → twos_complement bits raw ≡ pos raw
   unfolding twos_complement
-  lower_half h = simp (twos_complement, lt-ltb _ _ h)
+  lower_half h = grind (arith, ints, twos_complement)
 
   pub upper_half : 2 ^ (bits - 1) ≤ raw → raw < 2 ^ bits → twos_complement bits raw ≡ negsuc (2 ^ bits - suc raw)
   unfolding twos_complement
-  upper_half h k = simp (twos_complement, le-ltb _ _ h) (less raw (2 ^ bits) k)
+  upper_half h k = grind (arith, ints, twos_complement)
 
   -- P holds of the number if it does so in each half.
   pub by_half : (P : ℤ → Type 0) → raw < 2 ^ bits → (raw < 2 ^ (bits - 1) → P (pos raw))

@@ -1,13 +1,13 @@
 -- The cases of `unscaled`: the integer that a scale factor multiplies, or why there is none.
 use mathlib.Core.Path.{◌≡◌, refl, sym, ap}
-use mathlib.Core.Bool.{Bool, true, false, not}
+use mathlib.Core.Bool.{Bool, true, not}
 use mathlib.Core.Option.{some}
 use Prim.Native.Nat.{ℕ, ◌^◌, ◌<◌}
-use borrow.Author.Tests.{leb-false}
+use native.Mathlib.Omega.{arith}
+use Rattle.std.proofs.lemmas.Bool.Decides.{nat_tests}
 use lib.IntN.{ℤ, nat_abs}
 use lib.Signed.{non_neg}
-use Rattle.std.specs.Prelude.{Ok, Err}
-use Rattle.refusals.specs.declared.Refusal.{Refusal}
+use Rattle.std.specs.Prelude.{Ok}
 use Rattle.lists.proofs.TestOutcomes.{impossible}
 use Rattle.registers.specs.Registers.{too_wide}
 use Rattle.point_types.specs.Presence.{Presence}
@@ -22,24 +22,7 @@ use Rattle.values.proofs.ClassCases.{too_wide_lem}
 pub value_fits : (code : ℕ) (presence : Presence) (raw : ℕ) (row : TypeRow) → row_of code ≡ some row
     → is_value (classified code presence raw) ≡ true → raw < 2 ^ width row
 unfolding too_wide
-value_fits code presence raw row e v = go (too_wide row.most raw) refl
-  where
-    go : (b : Bool) → too_wide row.most raw ≡ b → raw < 2 ^ width row
-    go true w =
-        let f : is_value (classified code presence raw) ≡ false = ap is_value (too_wide_lem code presence raw row e w) in
-        impossible (cc)
-    go false w = leb-false _ _ w
-
--- From the result of `unscaled_value` back to the definition.
-pub was_not_scalable : (u : Unscaled) → to_code_unscaled u ≡ Err Refusal.NotScalable → u ≡ not_scalable
-was_not_scalable (number z) e = cc
-was_not_scalable no_value e = cc
-was_not_scalable not_scalable e = refl
-
-pub was_no_value : (u : Unscaled) → to_code_unscaled u ≡ Err Refusal.NoValue → u ≡ no_value
-was_no_value (number z) e = cc
-was_no_value no_value e = refl
-was_no_value not_scalable e = cc
+value_fits code presence raw row e v = grind (arith, nat_tests, too_wide, too_wide_lem code presence raw row e)
 
 -- `u` is an integer with this sign and magnitude.
 pub record NumberOf (u : Unscaled) (negative : Bool) (magnitude : ℕ) : Type 0 where

@@ -4,10 +4,10 @@ use mathlib.Core.Bool.{Bool, true, false}
 use mathlib.Core.Option.{Option, none, some}
 use Prim.Native.Nat.{ℕ, ◌-◌, ◌^◌, ◌≤◌, ◌<◌}
 use native.Mathlib.Omega.{arith}
-use lib.IntN.{ℤ, pos}
+use lib.IntN.{ℤ}
 use lib.Pow.{pow_mono}
 use Rattle.point_types.specs.Presence.{Presence}
-use Rattle.point_types.specs.Rows.{TypeRow, Kind, signed, unsigned, accumulator, float, row_of, Listed}
+use Rattle.point_types.specs.Rows.{TypeRow, signed, row_of, Listed}
 use Rattle.point_types.proofs.Table.{scalable_width, signed_width, listed}
 use Rattle.values.specs.Classes.{width, twos_complement, integer, is_value, classified}
 use Rattle.values.specs.Unscaled.{Unscaled, number, no_value, not_scalable, unscaled, Within64}
@@ -28,14 +28,7 @@ module _ (row : TypeRow) (l : Listed row) (four : row.most ≤ 4) (raw : ℕ) (f
 
   integer_within : Within64 (integer row raw)
   unfolding integer
-  integer_within = go row.kind refl
-    where
-      go : (k : Kind) → row.kind ≡ k
-          → Within64 (elim k [ signed ↦ twos_complement (width row) raw | unsigned ↦ pos raw | accumulator ↦ pos raw | float f ↦ pos raw ])
-      go signed e = signed_within e
-      go unsigned e = within
-      go accumulator e = within
-      go (float f) e = within
+  integer_within = grind (arith, integer, within, signed_within)
 
 -- P holds of the unscaled integer, if there is one.
 abbrev Holds : (ℤ → Type 0) → Unscaled → Type 0

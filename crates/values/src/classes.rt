@@ -87,8 +87,8 @@ pub fn scale_factor_in_range(scale: u16) -> bool
     (-10..=10).contains(&scale.cast_signed())
 }
 
-// Is it the pattern of a NaN of its type's kind: without its sign bit, above infinity's? Integers have none. (`from_bits` takes
-// no such pattern.)
+// Is it the pattern of a NaN of its type's kind: without its sign bit, above infinity's? Integers have none. The
+// bits are compared as numbers, since the library's `from_bits` takes no NaN.
 fn holds_nan(kind: Kind, raw: u64) -> bool
     ensures { result ≡ holds_nan (to_spec_kind kind) raw }
 {

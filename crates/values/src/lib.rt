@@ -55,8 +55,8 @@ pub struct Integer {
     pub magnitude: u64,
 }
 
-// The value in the first registers, for a point of this presence; the type decides how many are read. Refused unless the
-// code is 1–18, 21 or 22. (string and ipv6addr are types, but may take more than four registers.)
+// The value in the first registers, for a point of this presence; the type decides how many are read. Refused
+// unless the code is 1–18, 21 or 22. (string and ipv6addr are types, but may take more than four registers.)
 #[tactic(auto, using(crate::proofs::ClassCases::too_long, crate::proofs::ClassCases::no_row_lem, crate::proofs::FoundRow::result_of))]
 pub fn decode(type_code: u16, presence: Presence, registers: [u16; 4]) -> Result<Value, Refusal>
     ensures { to_spec_decoded result ≡ decoded type_code (to_spec_presence presence) registers }
