@@ -3,29 +3,32 @@ use mathlib.Core.Path.{◌≡◌, refl, sym, ap, ◌∙◌}
 use mathlib.Core.Bool.{Bool, true, false}
 use mathlib.Core.List.{List, ◌∷◌}
 use mathlib.Core.Option.{none, some}
-use Prim.Native.Nat.{ℕ, ◌+◌, ◌-◌, ◌/◌, ◌≤◌, ◌<◌}
+use Prim.Native.Nat.{ℕ, ◌+◌, ◌/◌, ◌≤◌, ◌<◌}
 use native.Mathlib.Omega.{arith}
 use borrow.Author.Tests.{eq-eqb, ne_eqb}
 use lib.Dec.{eqb}
-use lib.ListN.{length, get_or}
+use lib.ListN.{length}
 use Rattle.lists.specs.Tests.{first_broken}
 use Rattle.lists.proofs.TestLaws.{none_broken}
-use Rattle.number_sets.specs.NumberSets.{Marks}
 use Rattle.catalog_frames.specs.Frames.{frame_at, word}
 use Rattle.catalog.specs.State as check
+use Rattle.catalog.specs.State.{start}
 use Rattle.catalog.specs.Rules.{run, no_model, rules, fault}
 use Rattle.catalog.specs.Checking.{accepted, refused, check_from, frames_checked}
 use Rattle.catalog.specs.InternalTracking.{IdFits}
-use Rattle.catalog.specs.InternalScans.{frames_onward, has_number}
-use Rattle.catalog.specs.InternalTracking.{Tracks, DepthAllows, code_rules, state_of}
-use Rattle.catalog.specs.InternalMarks.{AfterModelFrame, BlankAtModel, Indexed, ScalesAfter}
+use Rattle.catalog.specs.InternalScans.{frames_onward}
+use Rattle.catalog.specs.InternalTracking.{Tracks, DepthAllows, code_rules}
+use Rattle.catalog.specs.InternalMarks.{BlankAtModel, Indexed, NoneTaken, Taken}
 use Rattle.catalog.specs.declared.state.State.{State}
+use Rattle.catalog.specs.declared.tracking.Tracking.{Tracking}
 use Rattle.catalog.proofs.WordScans.{frames_more, frames_none}
 use Rattle.catalog.proofs.CheckSteps as steps
-use Rattle.catalog.proofs.FreshNumbers.{Fresh, fresh_next}
+use Rattle.catalog.proofs.CheckSteps.{from_first}
+use Rattle.catalog.proofs.FreshNumbers.{Fresh, fresh_start, fresh_next}
 use Rattle.catalog.proofs.MarkedFrames as marked
+use Rattle.catalog.proofs.MarkedFrames.{indexed_start}
 use Rattle.catalog.proofs.TrackedRules.{same_fault, none_open}
-use Rattle.catalog.proofs.TrackedState.{tracks_next, depth_allows, state_here}
+use Rattle.catalog.proofs.TrackedState.{tracks_start, tracks_next, depth_allows, state_here}
 
 -- Before frame i, the code's state and set of ids agree with a state of the definition, and checking the remaining frames from
 -- that state gives the result for the whole catalog.
@@ -35,61 +38,69 @@ pub record Decides (ws used : List ℕ) (i : ℕ) (c : State) : Type 0 where
   pub rest : check_from state i (frames_onward ws i) ≡ frames_checked ws
 
 -- The same, with everything else that the code records of the frames so far.
-pub record Holds (ws used numbers scales : List ℕ) (u i : ℕ) (c : State) : Type 0 where
-  pub decides : Decides ws used i c
+pub record Holds (ws : List ℕ) (i : ℕ) (t : Tracking) : Type 0 where
+  pub decides : Decides ws t.ids i t.state
   pub fresh : Fresh decides.state
-  pub indexed : Indexed ws numbers scales u i c
+  pub indexed : Indexed ws t.numbers t.scales t.uncounted i t.state
 
-module _ (ws used numbers scales : List ℕ) (u i : ℕ) (c : State) (d : Holds ws used numbers scales u i c)
-    (fits : IdFits (frame_at ws i)) (h : i < length ws / 8) where
+-- Before the first frame.
+pub holds_start : (ws : List ℕ) (t : Tracking) → NoneTaken t → Holds ws 0 t
+holds_start ws t n =
+    record {
+      decides = record { state = start; tracks = rw n.state (tracks_start ws t.ids n.ids); rest = from_first ws };
+      fresh = fresh_start;
+      indexed = rw n.state (indexed_start ws t.numbers t.scales t.uncounted n.numbers n.scales);
+    }
+
+module _ (ws : List ℕ) (i : ℕ) (t : Tracking) (d : Holds ws i t) (fits : IdFits (frame_at ws i)) (h : i < length ws / 8) where
   frames_here : frames_onward ws i ≡ frame_at ws i ∷ frames_onward ws (i + 1)
   frames_here = frames_more ws i h
 
-  fault_here : first_broken (code_rules ws used i c (frame_at ws i))
+  fault_here : first_broken (code_rules ws t.ids i t.state (frame_at ws i))
       ≡ fault d.decides.state (frame_at ws i) (run (frames_onward ws i))
   fault_here =
-      same_fault ws used i c d.decides.state d.decides.tracks (frame_at ws i) (frames_onward ws (i + 1)) fits frames_here
+      same_fault ws t.ids i t.state d.decides.state d.decides.tracks (frame_at ws i) (frames_onward ws (i + 1)) fits frames_here
       ∙ ap (λ fs. fault d.decides.state (frame_at ws i) (run fs)) (sym frames_here)
 
-  pub refused_here : (r : ℕ) → some r ≡ first_broken (code_rules ws used i c (frame_at ws i)) → refused r i ≡ frames_checked ws
+  pub refused_here : (r : ℕ) → some r ≡ first_broken (code_rules ws t.ids i t.state (frame_at ws i))
+      → refused r i ≡ frames_checked ws
   refused_here r n =
       let broken = sym (n ∙ fault_here) in
       let s = d.decides.state in
       sym (steps.is_refused s i (frame_at ws i) (frames_onward ws (i + 1)) (frames_onward ws i) frames_here r broken)
       ∙ d.decides.rest
 
-  module _ (n : none ≡ first_broken (code_rules ws used i c (frame_at ws i))) where
+  module _ (n : none ≡ first_broken (code_rules ws t.ids i t.state (frame_at ws i))) where
     unbroken : fault d.decides.state (frame_at ws i) (run (frames_onward ws i)) ≡ none
     unbroken = sym (n ∙ fault_here)
 
-    pub depth_allows_here : DepthAllows (word ws i 0) c
+    pub depth_allows_here : DepthAllows (word ws i 0) t.state
     depth_allows_here =
-        depth_allows ws used i c d.decides.state d.decides.tracks (frame_at ws i) (run (frames_onward ws i)) refl unbroken
+        depth_allows ws t.ids i t.state d.decides.state d.decides.tracks (frame_at ws i) (run (frames_onward ws i)) refl unbroken
 
-    pub blank_here : BlankAtModel ws i scales
+    pub blank_here : BlankAtModel ws i t.scales
     blank_here =
         let e = d.decides in
-        marked.blank_here ws used numbers scales u i c e.state e.tracks d.indexed (frame_at ws i) refl (sym n)
+        marked.blank_here ws t.ids t.numbers t.scales t.uncounted i t.state e.state e.tracks d.indexed (frame_at ws i) refl (sym n)
 
-    pub holds_next : (used' numbers' numbers'' scales' scales'' : List ℕ) (u' inner : ℕ)
-        → inner ≡ get_or c.firsts (c.depth - 1) 0 → AfterModelFrame ws i inner u u' used used' numbers numbers' scales scales'
-        → Marks numbers' numbers'' (λ n. has_number ws n i) true → ScalesAfter ws i inner scales' scales''
-        → Holds ws used' numbers'' scales'' u' (i + 1) (state_of (word ws i 0) (word ws i 3) i c)
-    holds_next used' numbers' numbers'' scales' scales'' u' inner top b m r =
+    pub holds_next : (t' : Tracking) → Taken ws i t t' → Holds ws (i + 1) t'
+    holds_next t' k =
+        let c = t.state in
         let s = d.decides.state in
-        let t = d.decides.tracks in
+        let tracks = d.decides.tracks in
         let f = frame_at ws i in
         let formed = ((none_broken (rules s f (run (frames_onward ws i)))).0 unbroken).0 in
-        rw (state_here ws i c f refl formed) record {
+        let state = k.state ∙ state_here ws i c f refl formed in
+        record {
           decides = record {
             state = check.next s f;
-            tracks = tracks_next ws used i c s t used' b.used f refl frames_here unbroken;
+            tracks = rw state (tracks_next ws t.ids i c s tracks t'.ids k.begun.used f refl frames_here unbroken);
             rest =
                 sym (steps.continues s i f (frames_onward ws (i + 1)) (frames_onward ws i) frames_here unbroken) ∙ d.decides.rest;
           };
           fresh = fresh_next s f (run (frames_onward ws i)) unbroken d.fresh;
-          indexed = marked.indexed_next ws used numbers scales u i c s t d.indexed used' numbers' numbers'' scales' scales''
-              u' inner h top b m r d.fresh f fits refl frames_here (sym n);
+          indexed = rw state (marked.indexed_next ws t.ids t.numbers t.scales t.uncounted i c s tracks d.indexed t'.ids k.numbers
+              t'.numbers k.scales t'.scales t'.uncounted _ h refl k.begun k.used k.in_scope d.fresh f fits refl frames_here (sym n));
         }
 
 -- After the last frame.

@@ -6,10 +6,11 @@ use Rattle.lists.specs.Members.{among}
 use Rattle.number_sets.specs.NumberSets.{in_set, Marks, Blank}
 use Rattle.catalog_frames.specs.Frames.{word, count_by_point}
 use Rattle.catalog.specs.Rules.{run, has_point}
-use Rattle.catalog.specs.InternalScans.{frames_onward, is_model, is_target, numbers_in, runs_of}
-use Rattle.catalog.specs.InternalTracking.{numbers_so_far}
+use Rattle.catalog.specs.InternalScans.{frames_onward, has_number, is_model, is_target, numbers_in, runs_of}
+use Rattle.catalog.specs.InternalTracking.{code_start, numbers_so_far, state_of}
 use Rattle.catalog.specs.declared.scans.Target.{Target}
 use Rattle.catalog.specs.declared.state.State.{State}
+use Rattle.catalog.specs.declared.tracking.Tracking.{Tracking}
 
 -- Is a point of the kind x with the number n in the run of points that begins at frame `from`?
 abbrev pub in_run : List ℕ → ℕ → Target → ℕ → Bool
@@ -72,3 +73,21 @@ pub record Indexed (ws numbers scales : List ℕ) (uncounted i : ℕ) (c : State
   pub in_scope : (n : ℕ) → n < 65536
       → in_set scales n ≡ has_point (is_target Target.ScaleFactor n) (runs_of ws c.firsts c.depth)
   pub counted : 1 ≤ c.depth → Counted ws uncounted (get_or c.firsts 0 0) i
+
+-- ---- All that is recorded
+
+-- Before the first frame.
+pub record NoneTaken (t : Tracking) : Type 0 where
+  pub state : t.state ≡ code_start
+  pub ids : Blank t.ids
+  pub numbers : Blank t.numbers
+  pub scales : Blank t.scales
+
+-- After frame i, which breaks no rule. A model frame first begins its model: then `numbers` and `scales` are in the sets.
+pub record Taken (ws : List ℕ) (i : ℕ) (t t' : Tracking) : Type 0 where
+  pub numbers : List ℕ
+  pub scales : List ℕ
+  pub begun : AfterModelFrame ws i (get_or t.state.firsts (t.state.depth - 1) 0) t.uncounted t'.uncounted t.ids t'.ids t.numbers numbers t.scales scales
+  pub used : Marks numbers t'.numbers (λ n. has_number ws n i) true
+  pub in_scope : ScalesAfter ws i (get_or t.state.firsts (t.state.depth - 1) 0) scales t'.scales
+  pub state : t'.state ≡ state_of (word ws i 0) (word ws i 3) i t.state

@@ -2,9 +2,9 @@
 #![tactic(auto)]
 
 mod frames;
-mod rules;
 mod scans;
 mod state;
+mod tracking;
 
 ghost use Rattle.std.specs.Prelude.{◌≡◌, ◌/◌, ◌≤◌, length};
 ghost use Rattle.catalog.specs.Checking.{checked, frames_checked};
@@ -15,11 +15,8 @@ pub use catalog_frames::{
     CONSTANT_COUNT, COUNT_BY_POINT, FILL, FIXED_SCALE, Frame, Head, PAD, Point, READ_ONLY,
     SCALE_BY_POINT, SUNSSF, read_frame,
 };
-use number_sets::NumberSet;
 use refusals::{Refusal, Refused};
-use rules::fault_at;
-use scans::{begin_model, mark_number, mark_scales};
-use state::State;
+use tracking::Tracking;
 
 // The largest number of frames in a catalog.
 const FRAMES: usize = 4096;
@@ -45,29 +42,14 @@ fn check_frames(catalog: &[u16]) -> Result<usize, Refused>
     ensures { to_spec_checked result ≡ frames_checked catalog.now }
 {
     let frames = catalog.len() / FRAME_WORDS;
-    let mut state = State::at_start();
-    let mut ids = NumberSet::new();
-    let mut numbers = NumberSet::new();
-    let mut scales = NumberSet::new();
-    let mut uncounted = 0;
+    let mut tracking = Tracking::new();
     for i in 0..frames {
-        if let Some(refusal) = fault_at(catalog, &ids, &numbers, &scales, i, uncounted, state) {
+        if let Some(refusal) = tracking.fault(catalog, i) {
             return Err(Refused { refusal, place: i });
         }
-        let inner = state.innermost();
-        uncounted = begin_model(
-            catalog,
-            &mut ids,
-            &mut numbers,
-            &mut scales,
-            i,
-            inner,
-            uncounted,
-        );
-        mark_number(catalog, &mut numbers, i, true);
-        mark_scales(catalog, &mut scales, i, inner);
-        state = state.after(catalog, i);
+        tracking.take_in(catalog, i);
     }
+    let state = tracking.state;
     if state.depth != 0 {
         return Err(Refused {
             refusal: Refusal::OpenModel,

@@ -32,7 +32,7 @@ pub(crate) fn mark_number(catalog: &[u16], numbers: &mut NumberSet, j: usize, pr
 }
 
 // Takes the numbers of the groups and points of the frames from `first` up to, not including, `end` out of the set.
-fn take_numbers_out(catalog: &[u16], numbers: &mut NumberSet, first: usize, end: usize)
+pub(crate) fn take_numbers_out(catalog: &[u16], numbers: &mut NumberSet, first: usize, end: usize)
     requires { (first ≤ end) × (end ≤ length catalog.now / 8) }
     ensures { Marks numbers.old numbers.new (λ n. among n (numbers_in catalog.now first (end - first))) false }
 {
@@ -119,7 +119,7 @@ fn first_stop(catalog: &[u16], counts: &NumberSet, from: usize) -> usize
 
 // The first group frame that names a count point that is not in the top group, in the model whose top group begins at
 // frame `from`. If there is none, a frame past the model. The set is empty before the call and after it.
-fn first_uncounted(catalog: &[u16], set: &mut NumberSet, from: usize) -> usize
+pub(crate) fn first_uncounted(catalog: &[u16], set: &mut NumberSet, from: usize) -> usize
     requires from_in_bounds { from ≤ length catalog.now / 8 }
     requires blank { Blank set.old }
     ensures counted { Counted catalog.now result from from }
@@ -129,27 +129,4 @@ fn first_uncounted(catalog: &[u16], set: &mut NumberSet, from: usize) -> usize
     let uncounted = first_stop(catalog, set, from);
     mark_run(catalog, set, from, Target::CountPoint, false);
     uncounted
-}
-
-// If frame i is a model frame: records its id, removes the numbers of the previous model, whose top group begins at
-// frame `first`, and returns the first uncounted group of the new model. Any other frame changes nothing.
-pub(crate) fn begin_model(
-    catalog: &[u16],
-    ids: &mut NumberSet,
-    numbers: &mut NumberSet,
-    scales: &mut NumberSet,
-    i: usize,
-    first: usize,
-    uncounted: usize,
-) -> usize
-    requires i_in_bounds { (i < length catalog.now / 8) × (first ≤ i) }
-    requires blank_at_model { BlankAtModel catalog.now i scales.old }
-    ensures { AfterModelFrame catalog.now i first uncounted result ids.old ids.new numbers.old numbers.new scales.old scales.new }
-{
-    if word_of(catalog, i, 0) != MODEL {
-        return uncounted;
-    }
-    ids.mark(word_of(catalog, i, 1), true);
-    take_numbers_out(catalog, numbers, first, i);
-    first_uncounted(catalog, scales, i + 1)
 }

@@ -3,4 +3,4 @@ use Rattle.catalog.proofs.CheckedFrame as frame
 use Rattle.catalog.proofs.check_frames.Given as goal
 
 abbrev pub invariant-loop-i : goal.invariant-loop-i
-invariant-loop-i l = frame.Holds l.catalog l.ids l.numbers l.scales l.uncounted l.i l.state
+invariant-loop-i l = frame.Holds l.catalog l.i l.tracking
