@@ -1,4 +1,4 @@
 -- Lemmas that the proofs of the functions cite
 pub mod FrameKinds
 pub mod FramesByIndex
-mod ZeroWords
+mod FrameChunks

@@ -1,19 +1,11 @@
--- Internal: what the private functions read of a frame, word by word; no public contract cites this file.
-use Rattle.std.specs.Prelude.{Bool, true, false, ◌&&◌, List, ℕ, zero, suc, eqb}
+-- Internal: what the check of a catalog reads of a frame, word by word; no public contract cites this file.
+use Rattle.std.specs.Prelude.{Bool, true, ◌&&◌, List, ℕ, zero, suc, eqb}
 use Rattle.catalog_frames.specs.Frames.{Point, Head, word}
 
 -- Are the n words of frame i from word k on all 0?
 unfoldable pub zero_words : List ℕ → ℕ → ℕ → ℕ → Bool
 zero_words ws i k zero = true
 zero_words ws i k (suc n) = eqb (word ws i k) 0 && zero_words ws i (suc k) n
-
--- The number of words that a kind of frame names, word 0 included.
-abbrev pub named_words : ℕ → ℕ
-named_words kind =
-    elim (eqb kind 1) [
-      | true ↦ 2
-      | false ↦ elim (eqb kind 2) [ true ↦ 5 | false ↦ elim (eqb kind 4) [ true ↦ 1 | false ↦ 8 ] ]
-    ]
 
 -- The head of group frame j, by its words.
 abbrev pub head_words : List ℕ → ℕ → Head

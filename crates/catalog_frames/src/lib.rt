@@ -1,10 +1,9 @@
 // The frames of a catalog: eight words each; word 0 is the kind. `read_frame` accepts any words.
 #![tactic(auto)]
 
-ghost use Rattle.std.specs.Prelude.{◌≡◌, ◌/◌, ◌-◌, ◌<◌, ◌≤◌, length};
-ghost use Rattle.catalog_frames.specs.Frames.{word, frame_at, frame_in};
+ghost use Rattle.std.specs.Prelude.{◌≡◌, get_or};
+ghost use Rattle.catalog_frames.specs.Frames.{frame_in, frame_of};
 ghost use Rattle.catalog_frames.specs.CodeTypes.{to_spec_frame, to_spec_head, to_spec_point};
-ghost use Rattle.catalog_frames.specs.InternalWords.{head_words, named_words, point_words, zero_words};
 
 use registers::all_zero;
 
@@ -73,90 +72,48 @@ pub enum Frame {
     End,
 }
 
-// Word k of frame i.
-fn word_of(catalog: &[u16], i: usize, k: usize) -> u16
-    requires { (i < length catalog.now / 8) × (k < 8) }
-    ensures { result ≡ word catalog.now i k }
-{
-    catalog[FRAME_WORDS * i + k]
-}
-
-// Frame i, or `None` if it is malformed: its kind is not 1 to 4, or a word that its kind does not name is not 0.
-fn frame_at(catalog: &[u16], i: usize) -> Option<Frame>
-    requires { i < length catalog.now / 8 }
-    ensures { to_spec_frame result ≡ frame_at catalog.now i }
-{
-    let kind = word_of(catalog, i, 0);
-    if !zero_from(catalog, i, named_words(kind)) {
-        return None;
-    }
-    match kind {
-        MODEL => Some(Frame::Model(word_of(catalog, i, 1))),
-        GROUP => Some(Frame::Group(head_at(catalog, i))),
-        POINT => Some(Frame::Point(point_at(catalog, i))),
-        END => Some(Frame::End),
-        _ => None,
-    }
-}
-
-// The number of words that a kind names, word 0 included.
-fn named_words(kind: u16) -> usize
-    ensures value { result ≡ named_words kind }
-    ensures upper_bound { result ≤ 8 }
-{
-    match kind {
-        MODEL => 2,
-        GROUP => 5,
-        END => 1,
-        _ => FRAME_WORDS,
-    }
-}
-
 // Frame i, or `None` if it is malformed or the catalog has no whole frame i.
 pub fn read_frame(catalog: &[u16], i: usize) -> Option<Frame>
     ensures { to_spec_frame result ≡ frame_in catalog.now i }
 {
-    if i < catalog.len() / FRAME_WORDS {
-        frame_at(catalog, i)
-    } else {
-        None
-    }
+    let (frames, _) = catalog.as_chunks();
+    frame_of(frames.get(i)?)
 }
 
-// The words of a group frame.
-fn head_at(catalog: &[u16], i: usize) -> Head
-    requires { i < length catalog.now / 8 }
-    ensures { to_spec_head result ≡ head_words catalog.now i }
+// The frame with these words, or `None` if it is malformed: its kind is not 1 to 4, or a word that its kind does not name is not 0.
+#[tactic(auto, unfolding(crate::specs::Frames::frame_of))]
+fn frame_of(words: &[u16; FRAME_WORDS]) -> Option<Frame>
+    ensures { to_spec_frame result ≡ frame_of (get_or words.now 0 0) (get_or words.now 1 0) (get_or words.now 2 0) (get_or words.now 3 0) (get_or words.now 4 0) (get_or words.now 5 0) (get_or words.now 6 0) (get_or words.now 7 0) }
 {
-    Head {
-        number: word_of(catalog, i, 1),
-        group_type: word_of(catalog, i, 2),
-        count_kind: word_of(catalog, i, 3),
-        count: word_of(catalog, i, 4),
+    match *words {
+        [MODEL, id, 0, 0, 0, 0, 0, 0] => Some(Frame::Model(id)),
+        [GROUP, number, group_type, count_kind, count, 0, 0, 0] => Some(Frame::Group(Head {
+            number,
+            group_type,
+            count_kind,
+            count,
+        })),
+        [
+            POINT,
+            number,
+            type_code,
+            size,
+            scale_kind,
+            scale,
+            mandatory,
+            access,
+        ] => {
+            Some(Frame::Point(Point {
+                number,
+                type_code,
+                size,
+                scale_kind,
+                scale,
+                mandatory,
+                access,
+            }))
+        }
+        [END, 0, 0, 0, 0, 0, 0, 0] => Some(Frame::End),
+        _ => None,
     }
-}
-
-// The words of a point frame.
-fn point_at(catalog: &[u16], i: usize) -> Point
-    requires { i < length catalog.now / 8 }
-    ensures { to_spec_point result ≡ point_words catalog.now i }
-{
-    Point {
-        number: word_of(catalog, i, 1),
-        type_code: word_of(catalog, i, 2),
-        size: word_of(catalog, i, 3),
-        scale_kind: word_of(catalog, i, 4),
-        scale: word_of(catalog, i, 5),
-        mandatory: word_of(catalog, i, 6),
-        access: word_of(catalog, i, 7),
-    }
-}
-
-// Are the words of frame i from word `from` on all 0?
-fn zero_from(catalog: &[u16], i: usize, from: usize) -> bool
-    requires { (i < length catalog.now / 8) × (from ≤ 8) }
-    ensures { result ≡ zero_words catalog.now i from (8 - from) }
-{
-    let start = FRAME_WORDS * i;
-    all_zero(&catalog[start + from..start + FRAME_WORDS])
 }
