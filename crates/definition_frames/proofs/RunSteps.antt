@@ -40,73 +40,71 @@ unfolding ends_with_pad
 pad_next before p [] = refl
 pad_next before p (q ∷ ps) = refl
 
--- The run with one more point.
-abbrev pub with_point : Run → Point → Run
-with_point r p =
-    record { size = r.size + p.size; points = r.points + 1; next = r.next + 1; ends_with_pad = eqb p.type_code pad }
+-- The registers and points counted, and the points that are left, are together those of all points. `before`: the last counted
+-- point is a pad.
+pub record RunFrom (all left : List Point) (size points : ℕ) (before : Bool) : Type 0 where
+  pub sizes : size + points_size left ≡ points_size all
+  pub counted : points + length left ≡ length all
+  pub padded : last_is_pad before left ≡ ends_with_pad all
+  pub bounded : size ≤ points * 65535
 
--- The points counted in `r` and the points that are left are together all points.
-pub record RunFrom (all left : List Point) (first : ℕ) (r : Run) : Type 0 where
-  pub sizes : r.size + points_size left ≡ points_size all
-  pub counted : r.points + length left ≡ length all
-  pub frame : r.next ≡ first + r.points
-  pub padded : last_is_pad r.ends_with_pad left ≡ ends_with_pad all
-  pub bounded : r.size ≤ r.points * 65535
+-- What is counted of the first 4,096 points of the run from frame `first` on.
+abbrev pub Counted : List ℕ → ℕ → ℕ → ℕ → Bool → Type 0
+Counted ws first size points before =
+    RunFrom (take 4096 (run (onward ws first))) (take (4096 - points) (run (onward ws (first + points)))) size points before
 
 -- At the start no point is counted.
-pub run_begins : (all : List Point) (first : ℕ)
-    → RunFrom all all first (record { size = 0; points = 0; next = first; ends_with_pad = false })
-run_begins all first =
-    record { sizes = omega arith; counted = omega arith; frame = omega arith; padded = pad_none all; bounded = omega arith }
+pub counts_none : (ws : List ℕ) (first : ℕ) → Counted ws first 0 0 false
+counts_none ws first =
+    let all : List Point = take 4096 (run (onward ws first)) in
+    let start : first + 0 ≡ first = omega arith in
+    rw start (record { sizes = omega arith; counted = omega arith; padded = pad_none all; bounded = omega arith })
 
-module _ (all left : List Point) (first : ℕ) (r : Run) (x : RunFrom all left first r) where
-  -- One more point is counted.
-  run_goes : (p : Point) (rest : List Point) → left ≡ p ∷ rest → p.size ≤ 65535 → RunFrom all rest first (with_point r p)
-  run_goes p rest e b =
-      let s : points_size left ≡ p.size + points_size rest = ap points_size e in
-      let l : length left ≡ length rest + 1 = ap length e ∙ omega arith in
-      record {
-        sizes = omega (arith, s, x.sizes);
-        counted = omega (arith, l, x.counted);
-        frame = omega (arith, x.frame);
-        padded = pad_next r.ends_with_pad p rest ∙ sym (ap (last_is_pad r.ends_with_pad) e) ∙ x.padded;
-        bounded = omega (arith, b, x.bounded);
-      }
+module _ (ws : List ℕ) (first size points : ℕ) (before : Bool) (x : Counted ws first size points before) where
+  -- The points that are left where the next frame is a point frame.
+  one_left : (p : Point) → points < 4096 → run (onward ws (first + points)) ≡ p ∷ run (onward ws (first + points + 1))
+      → take (4096 - points) (run (onward ws (first + points))) ≡ p ∷ take (4096 - (points + 1)) (run (onward ws (first + (points + 1))))
+  one_left p few e =
+      let one : 4096 - points ≡ suc (4096 - (points + 1)) = omega arith in
+      let next : first + points + 1 ≡ first + (points + 1) = omega arith in
+      rw (e, one, next)
+
+  -- The next frame is a point frame: it is in the catalog, and its point is counted.
+  pub counts_point : (p : Point) → some p ≡ point_of (frame_in ws (first + points)) → points < 4096 → p.size ≤ 65535
+      → (first + points < length ws / 8) × Counted ws first (size + p.size) (points + 1) (eqb p.type_code pad)
+  counts_point p e few b =
+      let more = run_more ws (first + points) p (sym e) in
+      let left = one_left p few more.1 in
+      let s = ap points_size left in
+      let l = ap length left in (
+        more.0,
+        record {
+          sizes = omega (arith, s, x.sizes);
+          counted = omega (arith, l, x.counted);
+          padded = pad_next before p _ ∙ sym (ap (last_is_pad before) left) ∙ x.padded;
+          bounded = omega (arith, b, x.bounded);
+        },
+      )
 
   -- No point is left.
-  run_stops : left ≡ [] → RunOf all first r
-  run_stops e =
-      let s : points_size left ≡ 0 = ap points_size e in
-      let l : length left ≡ 0 = ap length e in
-      record {
+  counts_ends : take (4096 - points) (run (onward ws (first + points))) ≡ []
+      → to_spec_run (record { size = size; points = points; next = first + points; ends_with_pad = before })
+      ≡ run_of (take 4096 (run (onward ws first))) first
+  counts_ends e =
+      let s = ap points_size e in
+      let l = ap length e in
+      to_spec_run_lem (record {
         size = omega (arith, s, x.sizes);
         points = omega (arith, l, x.counted);
-        next = omega (arith, l, x.counted, x.frame);
-        pad = sym (ap (last_is_pad r.ends_with_pad) e) ∙ x.padded;
-      }
+        next = omega (arith, l, x.counted);
+        pad = sym (ap (last_is_pad before) e) ∙ x.padded;
+      })
 
--- The points counted in `r`, and at most 4,096 points in all, are those of the run from frame `first` on.
-abbrev pub Counted : List ℕ → ℕ → Run → Type 0
-Counted ws first r =
-    RunFrom (take 4096 (run (onward ws first))) (take (4096 - r.points) (run (onward ws r.next))) first r
-
-module _ (ws : List ℕ) (first : ℕ) (r : Run) (x : Counted ws first r) where
-  -- The next frame is a point frame: it is in the catalog, and its point is counted.
-  pub counts_point : (p : Point) → some p ≡ point_of (frame_in ws r.next) → r.points < 4096 → p.size ≤ 65535
-      → (r.next < length ws / 8) × Counted ws first (with_point r p)
-  counts_point p e few b =
-      let more = run_more ws r.next p (sym e) in
-      let rest = run (onward ws (r.next + 1)) in
-      let one : 4096 - r.points ≡ suc (4096 - (r.points + 1)) = omega arith in
-      let left : take (4096 - r.points) (run (onward ws r.next)) ≡ p ∷ take (4096 - (r.points + 1)) rest =
-      ap (take (4096 - r.points)) more.1 ∙ ap (λ (k : ℕ). take k (p ∷ rest)) one in
-      (more.0, run_goes _ _ first r x p _ left b)
-
-  -- The next frame is none, so the run ends there.
-  pub counts_all : none ≡ point_of (frame_in ws r.next) → to_spec_run r ≡ run_of (take 4096 (run (onward ws first))) first
-  counts_all e =
-      let left = ap (take (4096 - r.points)) (run_ends ws r.next (sym e)) ∙ take-nil (4096 - r.points) in
-      to_spec_run_lem (run_stops _ _ first r x left)
+  -- The next frame is no point frame.
+  pub counts_all : none ≡ point_of (frame_in ws (first + points))
+      → to_spec_run (record { size = size; points = points; next = first + points; ends_with_pad = before })
+      ≡ run_of (take 4096 (run (onward ws first))) first
+  counts_all e = counts_ends (ap (take (4096 - points)) (run_ends ws (first + points) (sym e)) ∙ take-nil (4096 - points))
 
 -- In a catalog of at most 4,096 frames, where a group is open, the run is the rest of its points.
 run_whole : (ws : List ℕ) (i : ℕ) → ParsesAt ws i → length ws / 8 ≤ 4096

@@ -24,22 +24,27 @@ pub struct Run {
 pub fn run_extent(catalog: &[u16], first: usize) -> Run
     ensures { to_spec_run result ≡ run_of (take 4096 (run (onward catalog.now first))) first }
 {
-    let mut run = Run {
-        size: 0,
-        points: 0,
-        next: first,
-        ends_with_pad: false,
-    };
-    for _ in 0..FRAMES {
-        let Some(point) = point_at(catalog, run.next) else {
-            break;
+    let mut size = 0;
+    let mut ends_with_pad = false;
+    for points in 0..FRAMES {
+        let next = first + points;
+        let Some(point) = point_at(catalog, next) else {
+            return Run {
+                size,
+                points,
+                next,
+                ends_with_pad,
+            };
         };
-        run.size += point.size as usize;
-        run.points += 1;
-        run.next += 1;
-        run.ends_with_pad = point.type_code == PAD;
+        size += point.size as usize;
+        ends_with_pad = point.type_code == PAD;
     }
-    run
+    Run {
+        size,
+        points: FRAMES,
+        next: first + FRAMES,
+        ends_with_pad,
+    }
 }
 
 // Is the last pad of a model left out? `run` is its top points. Only in model 1 without groups, where `length` is one
