@@ -16,9 +16,6 @@ use streams::read_full;
 // The longest name of a file.
 const NAME: usize = 255;
 
-// The length of `refused `.
-const REFUSED: usize = 8;
-
 fn main(rt: HostRuntime) -> io::Result<()> {
     // `arg_count` counts the program's own name too.
     let pairs = arg_count(&rt) / 2;
@@ -30,12 +27,9 @@ fn main(rt: HostRuntime) -> io::Result<()> {
 
 // How many arguments there are, the program's own name among them.
 fn arg_count(rt: &impl Env) -> usize {
-    for i in 0..usize::MAX {
-        if let Err(FillError::NotPresent) = rt.arg(i, &mut []) {
-            return i;
-        }
-    }
-    usize::MAX
+    (0..usize::MAX)
+        .find(|i| matches!(rt.arg(*i, &mut []), Err(FillError::NotPresent)))
+        .unwrap_or(usize::MAX)
 }
 
 // Compares the pair of files that the arguments `first` and `second` name.
@@ -93,18 +87,7 @@ fn gives(input: &[u8], expected: &[u8]) -> bool {
     let mut text = [0u8; TEXT_BYTES];
     let report = read_plant(input, &mut catalog, &mut map, &mut list, &mut text);
     match report {
-        Report::Listing(length) => check::same(expected, &text[..length]),
-        Report::Refusal(length) => is_refusal(expected, &text[..length]),
+        Report::Listing(length) => expected == &text[..length],
+        Report::Refusal(length) => expected.strip_prefix(b"refused ") == Some(&text[..length]),
     }
-}
-
-// Is `expected` the word `refused ` followed by `text`?
-fn is_refusal(expected: &[u8], text: &[u8]) -> bool {
-    if expected.len() < REFUSED {
-        return false;
-    }
-    if !check::same(&expected[..REFUSED], b"refused ") {
-        return false;
-    }
-    check::same(&expected[REFUSED..], text)
 }

@@ -1,2 +1,1 @@
 pub mod WholeInputs
-pub mod Appending

@@ -59,21 +59,9 @@ fn join(out: &mut [u8], head: &[u8], text: &[u8]) -> usize
     ensures upper_bound { result ≤ length out.new }
     ensures out_after { take result out.new ≡ head.now ++ text.now }
 {
-    let start = append(out, 0, head);
-    append(out, start, text)
-}
-
-// Appends `bytes` to the first `count` bytes of `out`. Returns the new count.
-fn append(out: &mut [u8], count: usize, bytes: &[u8]) -> usize
-    requires { count + length bytes.now ≤ length out.old }
-    ensures value { result ≡ count + length bytes.now }
-    ensures out_len_unchanged { length out.new ≡ length out.old }
-    ensures out_after { take result out.new ≡ take count out.old ++ bytes.now }
-{
-    let mut i = 0;
-    while i < bytes.len() {
-        out[count + i] = bytes[i];
-        i += 1;
-    }
-    count + i
+    let start = head.len();
+    let end = start + text.len();
+    out[..start].copy_from_slice(head);
+    out[start..end].copy_from_slice(text);
+    end
 }

@@ -1,13 +1,16 @@
 -- The catalog and the map that `read_plant` takes from its lists, and what the program writes of the text.
-use mathlib.Core.Path.{◌≡◌, sym, ap, ◌∙◌}
+use mathlib.Core.Path.{◌≡◌, refl, sym, ap, ◌∙◌}
 use mathlib.Core.List.{List, ◌++◌}
-use Prim.Native.Nat.{ℕ, ◌*◌}
+use Prim.Native.Nat.{ℕ, ◌*◌, ◌≤◌}
 use native.Mathlib.Omega.{arith}
 use lib.ListN.{length, take, drop}
 use lib.Seq.{take_at, take-append_seam}
-use Rattle.listing.specs.Listing.{Answer, refused, listed, listing, stored}
+use Rattle.lists.proofs.TestOutcomes.{impossible}
+use Rattle.listing.specs.Listing.{Record, Answer, refused, listed, listing, record_width, stored}
+use Rattle.listing.proofs.ResultCases.{records_fit}
 use Rattle.input.specs.Parsing as Parsing
-use Rattle.input.proofs.ParsedResults.{Words, whole_frames}
+use Rattle.input.specs.CodeTypes.{parsed_result, refused_result, result}
+use Rattle.input.proofs.ParsedResults.{result_refused, result_words, whole_frames}
 use Rattle.report.specs.Text.{refused_word}
 use Rattle.report.specs.Program.{parsed_input, found, found_in, printed, text_of, stored_text, stored_list, list_capacity, frame_capacity, register_capacity}
 use Rattle.report.specs.CodeTypes.{to_code_report, written_by}
@@ -15,33 +18,44 @@ use Rattle.report.specs.declared.Report.{Report}
 
 -- ---- The catalog and the map
 
-module _ (input : List ℕ) (frames registers : ℕ) (w : Words (parsed_input input) frames registers) where
-  pub catalog_cut : (old list : List ℕ) → list ≡ Parsing.stored_catalog (parsed_input input) old
-      → take (frames * 8) (drop 0 list) ≡ w.catalog
-  catalog_cut old list e =
-      let c = w.catalog in
-      let n : length c ≡ frames * 8 = omega (arith, w.frame_count, whole_frames input frame_capacity register_capacity c w.map w.is) in
-      ap (take (frames * 8)) (e ∙ ap (λ (x : Parsing.Input). Parsing.stored_catalog x old) w.is)
-      ∙ take_at c (drop (length c) old) (frames * 8) n
+-- The words that `parse` stores are those that are listed.
+pub same_listing : (input : List ℕ) (frames registers : ℕ) (old_catalog old_map : List ℕ) {catalog map : List ℕ}
+    → parsed_result frames registers ≡ result (parsed_input input)
+    → catalog ≡ Parsing.stored_catalog (parsed_input input) old_catalog → map ≡ Parsing.stored_map (parsed_input input) old_map
+    → listing (take (frames * 8) catalog) (take registers map) list_capacity ≡ found input
+unfolding found
+same_listing input frames registers old_catalog old_map {catalog} {map} e f g =
+    let w = result_words (parsed_input input) frames registers e in
+    let c = w.catalog in
+    let m = w.map in
+    let n : length c ≡ frames * 8 = omega (arith, w.frame_count, whole_frames input frame_capacity register_capacity c m w.is) in
+    let all : catalog ≡ c ++ drop (length c) old_catalog = f ∙ ap (λ (x : Parsing.Input). Parsing.stored_catalog x old_catalog) w.is in
+    let every : map ≡ m ++ drop (length m) old_map = g ∙ ap (λ (x : Parsing.Input). Parsing.stored_map x old_map) w.is in
+    rw (all, take_at c (drop (length c) old_catalog) (frames * 8) n, every, take_at m (drop (length m) old_map) registers (sym w.register_count))
+    (sym (ap found_in w.is))
 
-  pub map_cut : (old list : List ℕ) → list ≡ Parsing.stored_map (parsed_input input) old → take registers (drop 0 list) ≡ w.map
-  map_cut old list e =
-      let m = w.map in
-      ap (take registers) (e ∙ ap (λ (x : Parsing.Input). Parsing.stored_map x old) w.is)
-      ∙ take_at m (drop (length m) old) registers (sym w.register_count)
-
-  pub found_words : found input ≡ listing w.catalog w.map list_capacity
-  unfolding found
-  found_words = ap found_in w.is
-
-  pub list_stored : (old : List ℕ) → stored (found input) old ≡ stored_list (parsed_input input) old
-  list_stored old =
-      ap (λ (a : Answer). stored a old) found_words ∙ sym (ap (λ (x : Parsing.Input). stored_list x old) w.is)
-
-pub found_refused : (input : List ℕ) (number place : ℕ) → parsed_input input ≡ Parsing.refused number place
+pub found_refused : (input : List ℕ) (number place : ℕ) → refused_result number place ≡ result (parsed_input input)
     → found input ≡ refused number place 0
 unfolding found
-found_refused input number place e = ap found_in e
+found_refused input number place e = ap found_in (result_refused (parsed_input input) number place e)
+
+-- What is stored in the output list.
+pub list_stored : (input old : List ℕ) → stored (found input) old ≡ stored_list (parsed_input input) old
+unfolding found stored
+list_stored input old = go (parsed_input input)
+  where
+    go : (x : Parsing.Input) → stored (found_in x) old ≡ stored_list x old
+    go (Parsing.refused number place) = refl
+    go (Parsing.words catalog map) = refl
+
+-- The records that are listed fit the output list.
+pub found_fits : (input : List ℕ) (rs : List Record) (headers : ℕ) → found input ≡ listed rs headers → record_width * length rs ≤ list_capacity
+unfolding found
+found_fits input rs headers = go (parsed_input input)
+  where
+    go : (x : Parsing.Input) → found_in x ≡ listed rs headers → record_width * length rs ≤ list_capacity
+    go (Parsing.refused number place) e = impossible (cc)
+    go (Parsing.words catalog map) e = records_fit catalog map list_capacity rs headers e
 
 -- ---- What is written
 

@@ -1,17 +1,14 @@
 -- The text of consecutive numbers: of two lists, one record later, and with one number more.
 use mathlib.Core.Path.{◌≡◌, refl}
 use mathlib.Core.List.{List, [], ◌∷◌, ◌++◌, append_assoc}
-use Prim.Native.Nat.{ℕ, suc, ◌+◌, ◌-◌, ◌%◌, ◌<◌}
-use Prim.Native.Char.{code}
+use Prim.Native.Nat.{ℕ, suc, ◌+◌, ◌%◌, ◌<◌}
 use native.Mathlib.Nat.{add-zero}
 use native.Mathlib.Numerals.{add-one}
 use native.Mathlib.Omega.{arith}
-use borrow.Author.Tests.{eq-eqb, ne_eqb}
 use lib.ListN.{length, take, get_or}
 use lib.Seq.{length-take-le, take-suc}
 use Rattle.display.specs.Decimals.{digits_of}
 use Rattle.listing.specs.Listing.{record_width}
-use Rattle.input.specs.Lines.{line_feed}
 use Rattle.report.specs.InternalContracts.{separator_after, numbers_text}
 
 -- The text of ms ++ ns is the text of ms, and the text of ns from the next index on.
@@ -37,15 +34,6 @@ texts_again index [] = refl
 texts_again index (n ∷ ns) =
     let next : index + record_width + 1 ≡ index + 1 + record_width = omega arith in
     rw (separator_again index, next, texts_again (index + 1) ns)
-
--- The separator after the last number of a record, and after any other number.
-pub separator_last : (index : ℕ) → index % record_width ≡ record_width - 1 → separator_after index ≡ line_feed
-unfolding separator_after
-separator_last index h = simp (separator_after, eq-eqb _ _ h)
-
-pub separator_other : (index : ℕ) → (index % record_width ≡ record_width - 1 → ⊥) → separator_after index ≡ code " "
-unfolding separator_after
-separator_other index h = simp (separator_after, ne_eqb _ _ h)
 
 -- One number more.
 pub one_more : (ns : List ℕ) (i : ℕ) → i < length ns

@@ -6,11 +6,14 @@ use native.Mathlib.Omega.{arith}
 use lib.ListN.{length, drop}
 use Rattle.display.specs.InternalParts.{Put}
 use Rattle.display.proofs.StoredTexts.{put_start, put_same, put_length}
-use Rattle.listing.specs.Listing.{Answer, refused, stored, entries, record_width}
-use Rattle.listing.proofs.ResultCases.{Records}
+use Rattle.std.specs.Prelude.{Ok, Err}
+use Rattle.refusals.specs.Refusals.{number}
+use Rattle.refusals.specs.declared.Refused.{Refused}
+use Rattle.listing.specs.Listing.{Answer, stored, entries, record_width}
+use Rattle.listing.specs.declared.Listed.{Listed}
 use Rattle.report.specs.Text.{listing_text, refusal_text}
 use Rattle.report.specs.Program.{stored_text}
-use Rattle.report.specs.InternalContracts.{list_text}
+use Rattle.report.specs.InternalContracts.{Answered, list_text}
 use Rattle.report.specs.CodeTypes.{to_code_report, length_of}
 use Rattle.report.specs.declared.Report.{Report}
 use Rattle.report.proofs.RecordTexts.{listing_text_lem}
@@ -22,20 +25,19 @@ pub record Made (a : Answer) (before after : List ℕ) (report : Report) : Type 
   pub fits : length_of report ≤ length after
   pub keeps : length after ≡ length before
 
-pub refusal_made : {before after : List ℕ} {end : ℕ} (a : Answer) (number place headers : ℕ) → a ≡ refused number place headers
-    → Put before after 0 (refusal_text number place) end → end ≤ length after → Made a before after (Report.Refusal end)
-refusal_made {before} {after} {end} a number place headers e p h =
-    let n : end ≡ length (refusal_text number place) = omega (arith, p.ends) in
-    rw e (record { reports = ap Report.Refusal n; holds = put_start p (omega (arith, put_length p)); fits = h; keeps = put_length p })
+pub refusal_made : {before after : List ℕ} {end : ℕ} (a : Answer) (r : Refused) → Answered a (Err r)
+    → Put before after 0 (refusal_text (number r.refusal) r.place) end → end ≤ length after → Made a before after (Report.Refusal end)
+refusal_made {before} {after} {end} a r e p h =
+    let n : end ≡ length (refusal_text (number r.refusal) r.place) = omega (arith, p.ends) in
+    rw e.1 (record { reports = ap Report.Refusal n; holds = put_start p (omega (arith, put_length p)); fits = h; keeps = put_length p })
 
-pub listing_made : {before after list : List ℕ} {end : ℕ} (a : Answer) (points headers : ℕ) (r : Records a points headers) (old : List ℕ)
-    → list ≡ stored a old
-    → Put before after 0 (list_text points headers list) end → end ≤ length after → Made a before after (Report.Listing end)
+pub listing_made : {before after list : List ℕ} {end : ℕ} (a : Answer) (l : Listed) → Answered a (Ok l) → (old : List ℕ) → list ≡ stored a old
+    → Put before after 0 (list_text l.points l.headers list) end → end ≤ length after → Made a before after (Report.Listing end)
 unfolding stored
-listing_made {before} {after} {list} {end} a points headers r old s p h =
-    let rs = r.records in
+listing_made {before} {after} {list} {end} a l e old s p h =
+    let rs = e.0 in
     let rest = drop (record_width * length rs) old in
-    let l : list ≡ entries rs ++ rest = s ∙ ap (λ (x : Answer). stored x old) r.is in
-    let q : Put before after 0 (listing_text rs headers) end = put_same (rw (l, r.count) (listing_text_lem rs rest headers)) p in
-    let n : end ≡ length (listing_text rs headers) = omega (arith, q.ends) in
-    rw r.is (record { reports = ap Report.Listing n; holds = put_start q (omega (arith, put_length q)); fits = h; keeps = put_length p })
+    let holds : list ≡ entries rs ++ rest = s ∙ ap (λ (x : Answer). stored x old) e.1 in
+    let q : Put before after 0 (listing_text rs l.headers) end = put_same (rw (holds, e.2) (listing_text_lem rs rest l.headers)) p in
+    let n : end ≡ length (listing_text rs l.headers) = omega (arith, q.ends) in
+    rw e.1 (record { reports = ap Report.Listing n; holds = put_start q (omega (arith, put_length q)); fits = h; keeps = put_length p })

@@ -5,14 +5,15 @@
 mod text;
 
 ghost use Rattle.std.specs.Prelude.{◌≡◌, ◌≤◌, length};
-ghost use Rattle.listing.specs.Listing as Listings;
+ghost use Rattle.listing.specs.Listing.{stored};
 ghost use Rattle.input.specs.Parsing.{stored_catalog, stored_map};
-ghost use Rattle.report.specs.Program.{parsed_input, found, output, list_capacity, stored_text, stored_list};
+ghost use Rattle.report.specs.Program.{parsed_input, found, output, stored_text, stored_list};
+ghost use Rattle.report.specs.InternalContracts.{Answered};
 ghost use Rattle.report.specs.CodeTypes.{to_code_report, written_by, length_of};
 
-use input::{FRAME_WORDS, Parsed, parse};
-use listing::{Listing, WIDTH};
-use registers::part;
+use input::{FRAME_WORDS, parse};
+use listing::{Listed, WIDTH};
+use refusals::Refused;
 use text::{put_listing, put_refusal};
 
 // Only the first 74,818 bytes of an input decide the output (proofs/EnoughInput.antt): 33 for each of 1,024 frames, 5 for
@@ -39,7 +40,7 @@ pub const TEXT_BYTES: usize = 64 + ENTRIES * 21;
 pub const OUTPUT_BYTES: usize = 8 + TEXT_BYTES;
 
 // The length of the text that `read_plant` made: of a listing, or of what follows `refused ` in the line of a refusal.
-#[derive(Clone, Copy)]
+#[derive(Clone, Copy, Debug, PartialEq, Eq)]
 pub enum Report {
     Listing(usize),
     Refusal(usize),
@@ -63,38 +64,26 @@ pub fn read_plant(
     ensures list_after { list.new ≡ stored_list (parsed_input input.now) list.old }
     ensures out_len_unchanged { length out.new ≡ length out.old }
 {
-    let parsed = parse(input, catalog, map);
-    match parsed {
-        Parsed::Refused { number, place } => Report::Refusal(put_refusal(out, number, place)),
-        Parsed::Of { frames, registers } => {
-            let words = part(catalog, 0, frames * FRAME_WORDS);
-            report_listing(words, part(map, 0, registers), list, out)
-        }
+    match list_input(input, catalog, map, list) {
+        Ok(listed) => Report::Listing(put_listing(out, listed, list)),
+        Err(refused) => Report::Refusal(put_refusal(out, refused)),
     }
 }
 
-// Lists a map by a catalog, and puts the text of the listing or of the refusal into `out`.
-fn report_listing(
-    catalog: &[u16],
-    map: &[u16],
+// Reads a catalog and a map from `input`, and lists the map.
+fn list_input(
+    input: &[u8],
+    catalog: &mut [u16; CATALOG_WORDS],
+    map: &mut [u16; MAP_REGISTERS],
     list: &mut [u64; ENTRIES],
-    out: &mut [u8; TEXT_BYTES],
-) -> Report
-    ensures value { result ≡ to_code_report (Listings.listing catalog.now map.now list_capacity) }
-    ensures result_in_bounds { length_of result ≤ length out.new }
-    ensures out_after { out.new ≡ stored_text (Listings.listing catalog.now map.now list_capacity) out.old }
-    ensures list_after { list.new ≡ Listings.stored (Listings.listing catalog.now map.now list_capacity) list.old }
-    ensures out_len_unchanged { length out.new ≡ length out.old }
+) -> Result<Listed, Refused>
+    ensures value { Answered (found input.now) result }
+    ensures catalog_after { catalog.new ≡ stored_catalog (parsed_input input.now) catalog.old }
+    ensures map_after { map.new ≡ stored_map (parsed_input input.now) map.old }
+    ensures list_after { list.new ≡ stored (found input.now) list.old }
 {
-    let listing = listing::list(catalog, map, list);
-    match listing {
-        Listing::Refused {
-            number,
-            place,
-            headers: _,
-        } => Report::Refusal(put_refusal(out, number, place)),
-        Listing::Listed { points, headers } => {
-            Report::Listing(put_listing(out, points, headers, list))
-        }
-    }
+    let parsed = parse(input, catalog, map)?;
+    let frames = &catalog[..parsed.frames * FRAME_WORDS];
+    let registers = &map[..parsed.registers];
+    Ok(listing::list(frames, registers, list)?)
 }

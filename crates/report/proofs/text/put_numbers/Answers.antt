@@ -8,10 +8,9 @@ use Rattle.report.proofs.text.put_numbers.Goals as goal
 
 pub loop-i-init : goal.loop-i-init
 unfolding numbers_text
-loop-i-init c = (record { stored = refl; ends = omega arith }, omega arith, omega arith)
+loop-i-init c = (record { stored = refl; ends = omega arith }, omega arith)
 
 pub loop-i-preserved : goal.loop-i-preserved
 loop-i-preserved c =
-    let list = c.args.list.now in
     let more = put_both c.loop-i.invariant.0 c.put_entry-at.ensures.put in
-    (put_same (one_more list c.loop-i.i (omega arith)) more, omega arith, omega arith)
+    (put_same (one_more c.args.numbers.now c.loop-i.i c.loop-i-test.true) more, omega arith)

@@ -7,4 +7,4 @@ pub returns-clause-put : goal.returns-clause-put
 unfolding refusal_text
 returns-clause-put c =
     let first = put_both c.put_number-after_number.ensures.put c.put_bytes-after_at.ensures in
-    put_both (put_both first c.put_number-after_place.ensures.put) c.put_bytes.ensures
+    rw (← c.number.ensures) (put_both (put_both first c.put_number-after_place.ensures.put) c.put_bytes.ensures)
