@@ -15,7 +15,7 @@ use Rattle.layout.specs.Points.{Scope}
 use Rattle.layout.specs.Layout.{count_of, measured, fill_measured, groups_size, fill_size, count_unimplemented}
 use Rattle.layout.specs.Counts.{groups_points, fill_points, or0}
 use Rattle.layout.proofs.Capping.{capped_factor}
-use Rattle.listing.specs.InternalContracts.{ExtentOf, SameExtent, WithGroup}
+use Rattle.listing.specs.InternalContracts.{ExtentOf, WithGroup}
 use Rattle.definition_frames.specs.declared.runs.Run.{Run}
 use Rattle.listing.specs.declared.extents.Extent.{Extent}
 
@@ -105,15 +105,15 @@ module _ (top : Scope) (all : Groups) where
       not_yet (group h ps inside following) = (fs, fp)
 
   -- All groups are visited.
-  pub all_visited : (sum r : Extent) → SummedUp top all no_group sum → SameExtent sum r → ExtentOf top all r
+  pub all_visited : (sum : Extent) (next : ℕ) → SummedUp top all no_group sum → ExtentOf top all (record sum { next = next })
   unfolding measured fill_measured count_unimplemented
-  all_visited sum r s c =
+  all_visited sum next s =
       record {
-        size = let e = s.sizes in omega (arith, e, c.size, s.capped.0);
-        points = let e = s.points in omega (arith, e, c.points, s.capped.1);
-        fill_size = let e = s.fill_sizes in omega (arith, e, c.fill_size);
-        fill_points = let e = s.fill_points in omega (arith, e, c.fill_points);
-        unimplemented = c.unimplemented ∙ or-false sum.unimplemented ∙ s.unimplemented;
+        size = let e = s.sizes in omega (arith, e, s.capped.0);
+        points = let e = s.points in omega (arith, e, s.capped.1);
+        fill_size = let e = s.fill_sizes in omega (arith, e);
+        fill_points = let e = s.fill_points in omega (arith, e);
+        unimplemented = or-false sum.unimplemented ∙ s.unimplemented;
       }
     where
       or-false : (b : Bool) → b ≡ (b || false)

@@ -16,7 +16,7 @@ use Rattle.layout.proofs.GroupDescent as groups
 use Rattle.layout.proofs.Sizes.{points_small}
 use Rattle.definition_frames.specs.CodeTypes.{to_spec_run, run_of}
 use Rattle.definition_frames.proofs.RunSteps.{content_run}
-use Rattle.listing.specs.InternalContracts.{RunOf, ExtentOf, SameExtent, WithGroup}
+use Rattle.listing.specs.InternalContracts.{RunOf, ExtentOf, WithGroup}
 use Rattle.definition_frames.specs.declared.runs.Run.{Run}
 use Rattle.listing.specs.declared.extents.Extent.{Extent}
 use Rattle.listing.proofs.ExtentSteps.{SummedUp, all_visited, one_more}
@@ -116,10 +116,10 @@ module _ (ws : List ℕ) (top : Scope) (levels first : ℕ) (sum : Extent) (walk
       (there, omega (arith, next))
 
   -- No group is left: `sum` is the extent of all.
-  pub walk_ends : head_of (frame_in ws sum.next) ≡ none → (r : Extent) → SameExtent sum r → r.next ≡ sum.next + 1
-      → ExtentOf top (content_from ws first).groups r × (r.next ≡ past_end ws first)
-  walk_ends e r c n =
+  pub walk_ends : head_of (frame_in ws sum.next) ≡ none
+      → ExtentOf top (content_from ws first).groups (record sum { next = sum.next + 1 }) × (sum.next + 1 ≡ past_end ws first)
+  walk_ends e =
       let g = position.no_group_lem ws sum.next walked.position.parses walked.position.no_point e in
       let s = subst (λ x. SummedUp top (content_from ws first).groups x sum) g walked.summed in
       let here = end_here ws sum.next no_group walked.position.no_point g in
-      (all_visited top (content_from ws first).groups sum r s c, omega (arith, n, here, walked.end))
+      (all_visited top (content_from ws first).groups sum (sum.next + 1) s, omega (arith, here, walked.end))

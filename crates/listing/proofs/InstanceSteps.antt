@@ -86,7 +86,7 @@ module _ {ws body : List ℕ} {visit : Visit} {fill levels : ℕ} {path table₀
           (sym (position.group_next ws frame s n h e).0) v
 
       -- The table gives the group's count, as at the start.
-      count_there : count_of (scope_in table) fill h ≡ counting h
+      pub count_there : count_of (scope_in table) fill h ≡ counting h
       count_there =
           counts.count_agrees (scope_in table) (scope_in table₀) there.top (λ p i. there.agree p (there.sound.top_in_scope p i))
           fill (level_of levels) h following there.sound.sound.0

@@ -22,6 +22,7 @@ pub mod ReadyModels
 pub mod LocatedModels
 pub mod ModelWriting
 -- Whole maps
+pub mod CheckedPlants
 pub mod MapSteps
 pub mod MapSurvey
 pub mod Searches

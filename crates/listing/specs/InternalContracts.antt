@@ -43,14 +43,6 @@ pub record ExtentOf (top : Scope) (gs : Groups) (r : Extent) : Type 0 where
   pub fill_points : r.fill_points ≡ min (fill_points (count_of top 0) gs) 65536
   pub unimplemented : r.unimplemented ≡ count_unimplemented top gs
 
--- Two extents with the same sizes, points, fill group and count points; `next` may differ.
-pub record SameExtent (sum r : Extent) : Type 0 where
-  pub size : r.size ≡ sum.size
-  pub points : r.points ≡ sum.points
-  pub fill_size : r.fill_size ≡ sum.fill_size
-  pub fill_points : r.fill_points ≡ sum.fill_points
-  pub unimplemented : r.unimplemented ≡ sum.unimplemented
-
 -- The extent r is `sum` and one more group: its head h, its points `run` and the groups in it, `inside`.
 pub record WithGroup (sum : Extent) (top : Scope) (h : Frames.Head) (run : Run) (inside r : Extent) : Type 0 where
   pub size : r.size ≡ min (sum.size + count_of top 0 h * min (run.size + inside.size) 65536) 65536

@@ -2,5 +2,6 @@ pub mod Listing
 pub mod Finding
 pub mod CodeTypes
 pub mod Calls
+pub mod InternalAccepted
 pub mod InternalCodeTypes
 pub mod InternalContracts

@@ -78,5 +78,5 @@ fn grown(sum: usize, count: usize, size: usize) -> usize
     requires { (sum ≤ 268435456) × (count ≤ 65535) × (size ≤ 65536) }
     ensures { result ≡ min (sum + count * size) 65536 }
 {
-    CAP.min(sum + count * size)
+    (sum + count * size).min(CAP)
 }

@@ -3,21 +3,21 @@ ghost use Rattle.std.specs.Prelude.{◌≡◌};
 ghost use Rattle.catalog_frames.specs.Frames.{frame_in};
 ghost use Rattle.model_definitions.specs.Definitions.{definitions};
 ghost use Rattle.layout.specs.Reading.{top_of};
-ghost use Rattle.layout.specs.InternalWalks.{Accepted, is_model_of};
+ghost use Rattle.layout.specs.InternalWalks.{is_model_of};
 ghost use Rattle.listing.specs.InternalCodeTypes.{to_spec_found};
 ghost use Rattle.listing.specs.InternalContracts.{FoundParses};
 
+use crate::checked::CheckedCatalog;
 use catalog::{Frame, read_frame};
 use catalog_frames::FRAME_WORDS;
 
 // The frame where the definition of `id` begins, right after its model frame, if the catalog has it. Searches the frames in order.
-pub(crate) fn find_model(catalog: &[u16], id: u16) -> Option<usize>
-    requires { Accepted catalog.now }
-    ensures result_value { to_spec_found catalog.now result ≡ top_of id (definitions catalog.now) }
-    ensures found_parses { FoundParses catalog.now result }
+pub(crate) fn find_model(catalog: &CheckedCatalog, id: u16) -> Option<usize>
+    ensures result_value { to_spec_found catalog.now.words.now result ≡ top_of id (definitions catalog.now.words.now) }
+    ensures found_parses { FoundParses catalog.now.words.now result }
 {
-    for i in 0..catalog.len() / FRAME_WORDS {
-        if is_model(catalog, i, id) {
+    for i in 0..catalog.words.len() / FRAME_WORDS {
+        if is_model(catalog.words, i, id) {
             return Some(i + 1);
         }
     }

@@ -2,6 +2,7 @@
 // one of them.
 #![tactic(auto)]
 
+mod checked;
 mod extents;
 mod frames;
 mod locating;
@@ -9,12 +10,10 @@ mod records;
 mod search;
 mod surveys;
 
-ghost use Rattle.std.specs.Prelude.{◌≡◌, ◌+◌, ◌*◌, ◌≤◌, length};
-ghost use Rattle.std.proofs.Math.Option.{none};
+ghost use Rattle.std.specs.Prelude.{MatchResult, ◌≡◌, ◌+◌, ◌*◌, ◌≤◌, length};
 ghost use Rattle.std.proofs.Math.ListN as Lists;
 ghost use Rattle.refusals.specs.Refusals.{number};
 ghost use Rattle.model_definitions.specs.Definitions.{definitions};
-ghost use Rattle.register_map.specs.Headers.{opening};
 ghost use Rattle.layout.specs.Reading.{reading};
 ghost use Rattle.layout.specs.InternalWalks.{Accepted, points_of, read_in};
 ghost use Rattle.listing.specs.Listing as Listings;
@@ -23,6 +22,7 @@ ghost use Rattle.listing.specs.Calls.{ListCall};
 ghost use Rattle.listing.specs.InternalContracts.{written, body_at, WalkFits};
 
 use catalog::check;
+use checked::{CheckedCatalog, CheckedPlant};
 pub use group_instances::InstancePath;
 use group_instances::NUMBERS;
 pub use records::WIDTH;
@@ -110,39 +110,40 @@ pub fn list(catalog: &[u16], map: &[u16], out: &mut [u64]) -> Result<Listed, Not
     ensures headers_counted { HeadersCounted map.now result }
     ensures list_call { ListCall catalog.now map.now out.old result out.new }
 {
+    let plant = checked_plant(catalog, map)?;
     let mut table = [0u16; NUMBERS];
-    let listed = survey_plant(catalog, map, &mut table)?;
+    let listed = survey_map(&plant, &mut table)?;
     if out.len() / WIDTH < listed.points {
         return refused(Refusal::ShortList, listed.points, listed.headers);
     }
-    put_map(catalog, map, &mut table, out);
+    put_map(&plant, &mut table, out);
     Ok(listed)
 }
 
-// 1 to 11, 20, 21, then 22 to 29 at the headers; or the count of points of all known models and the number of headers. Writes
-// nothing.
-fn survey_plant(catalog: &[u16], map: &[u16], table: &mut Table) -> Result<Listed, NotListed>
-    ensures { to_spec_listing result ≡ Listings.result (Listings.all_records catalog.now map.now) }
+// The plant, if none of 1 to 11, 20 and 21 arises.
+fn checked_plant<'a>(catalog: &'a [u16], map: &'a [u16]) -> Result<CheckedPlant<'a>, NotListed>
+    ensures { MatchResult result (λ plant. (plant.catalog.words.now ≡ catalog.now) × (plant.map.now ≡ map.now)) (λ refused. to_spec_listing (Err refused) ≡ Listings.result (Listings.all_records catalog.now map.now)) }
 {
     check(catalog)?;
     opened(map)?;
-    survey_map(catalog, map, table)
+    Ok(CheckedPlant {
+        catalog: CheckedCatalog { words: catalog },
+        map,
+    })
 }
 
 // 22 to 29 at the headers, or the count of points of all known models and the number of headers.
-fn survey_map(catalog: &[u16], map: &[u16], table: &mut Table) -> Result<Listed, NotListed>
-    requires accepted { Accepted catalog.now }
-    requires map_value { opening map.now ≡ none }
-    ensures { to_spec_listing result ≡ Listings.result (Listings.walked (reading (definitions catalog.now)) map.now) }
+fn survey_map(plant: &CheckedPlant, table: &mut Table) -> Result<Listed, NotListed>
+    ensures { to_spec_listing result ≡ Listings.result (Listings.walked (reading (definitions plant.now.catalog.words.now)) plant.now.map.now) }
 {
     let mut at = FIRST_HEADER;
     let mut headers = 0;
     let mut points = 0;
     loop {
-        match header_at(map, at) {
+        match header_at(plant.map, at) {
             Ok(Header::Model { id, length }) => {
-                let body = part(map, at + 2, length as usize);
-                match survey_model(catalog, table, id, body) {
+                let body = part(plant.map, at + 2, length as usize);
+                match survey_model(&plant.catalog, table, id, body) {
                     Ok(survey) => points += survey.map_or(0, |survey| survey.points),
                     Err(refusal) => return refused(refusal, at, headers),
                 }
@@ -180,22 +181,20 @@ fn refused(refusal: Refusal, place: usize, headers: usize) -> Result<Listed, Not
 }
 
 // Writes the records of the known models of a map that was surveyed.
-fn put_map(catalog: &[u16], map: &[u16], table: &mut Table, out: &mut [u64])
-    requires accepted { Accepted catalog.now }
-    requires map_value { opening map.now ≡ none }
-    requires walk_fits { WalkFits (Listings.walked (reading (definitions catalog.now)) map.now) out.old }
-    ensures { out.new ≡ Listings.stored (Listings.walked (reading (definitions catalog.now)) map.now) out.old }
+fn put_map(plant: &CheckedPlant, table: &mut Table, out: &mut [u64])
+    requires { WalkFits (Listings.walked (reading (definitions plant.now.catalog.words.now)) plant.now.map.now) out.old }
+    ensures { out.new ≡ Listings.stored (Listings.walked (reading (definitions plant.now.catalog.words.now)) plant.now.map.now) out.old }
 {
     let mut at = FIRST_HEADER;
     let mut index = 0usize;
     let mut records = 0usize;
-    while let Ok(Header::Model { id, length }) = header_at(map, at) {
+    while let Ok(Header::Model { id, length }) = header_at(plant.map, at) {
         let visit = Visit {
             index,
             id,
             address: at,
         };
-        records = put_known(catalog, map, table, out, visit, length as usize, records);
+        records = put_known(plant, table, out, visit, length as usize, records);
         at = after_model(at, length);
         index += 1;
     }
@@ -203,32 +202,21 @@ fn put_map(catalog: &[u16], map: &[u16], table: &mut Table, out: &mut [u64])
 
 // Writes the records of a model that the catalog knows; skips an unknown one. Returns the number of records written so far.
 fn put_known(
-    catalog: &[u16],
-    map: &[u16],
+    plant: &CheckedPlant,
     table: &mut Table,
     out: &mut [u64],
     visit: Visit,
     length: usize,
     records: usize,
 ) -> usize
-    requires accepted { Accepted catalog.now }
-    requires length_bound { (visit.address + 2 + length ≤ Lists.length map.now) × (length ≤ 65535) × (Lists.length map.now ≤ 65536) }
-    requires length_bound_2 { Listings.record_width * (records + Lists.length (points_of (read_in catalog.now visit.id (body_at map.now visit length)))) ≤ Lists.length out.old }
-    ensures value { result ≡ records + Lists.length (points_of (read_in catalog.now visit.id (body_at map.now visit length))) }
-    ensures out_after { out.new ≡ written visit records (points_of (read_in catalog.now visit.id (body_at map.now visit length))) out.old }
+    requires length_bound { (visit.address + 2 + length ≤ Lists.length plant.now.map.now) × (length ≤ 65535) × (Lists.length plant.now.map.now ≤ 65536) }
+    requires length_bound_2 { Listings.record_width * (records + Lists.length (points_of (read_in plant.now.catalog.words.now visit.id (body_at plant.now.map.now visit length)))) ≤ Lists.length out.old }
+    ensures value { result ≡ records + Lists.length (points_of (read_in plant.now.catalog.words.now visit.id (body_at plant.now.map.now visit length))) }
+    ensures out_after { out.new ≡ written visit records (points_of (read_in plant.now.catalog.words.now visit.id (body_at plant.now.map.now visit length))) out.old }
 {
-    let body = part(map, visit.address + 2, length);
-    match survey_model(catalog, table, visit.id, body) {
-        Ok(Some(survey)) => put_model(
-            catalog,
-            table,
-            out,
-            visit,
-            body,
-            survey.first,
-            survey.fill,
-            records,
-        ),
+    let body = part(plant.map, visit.address + 2, length);
+    match survey_model(&plant.catalog, table, visit.id, body) {
+        Ok(Some(survey)) => put_model(&plant.catalog, table, out, visit, body, survey, records),
         Ok(None) => records,
         Err(_) => records,
     }

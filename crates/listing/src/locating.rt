@@ -25,6 +25,15 @@ pub(crate) struct Key {
     pub(crate) path: InstancePath,
 }
 
+// A search in one model: the catalog that has its definition, the points in scope, the count of its fill group, and the key.
+#[derive(Clone, Copy)]
+pub(crate) struct Search<'a> {
+    pub(crate) catalog: &'a [u16],
+    pub(crate) table: &'a Table,
+    pub(crate) fill: usize,
+    pub(crate) key: Key,
+}
+
 // A point that was located: its offset in the body, and its definition in the catalog.
 #[derive(Clone, Copy)]
 pub(crate) struct Location {
@@ -39,34 +48,6 @@ pub(crate) struct Position {
     pub(crate) offset: usize,
 }
 
-// Looks for the point in a model with a body of `length` registers, whose definition begins at frame `first` and whose top
-// points are in the table. A pad that is left out begins at the end of the body, so it is not found.
-pub(crate) fn locate_model(
-    catalog: &[u16],
-    table: &Table,
-    length: usize,
-    first: usize,
-    fill: usize,
-    key: Key,
-) -> Option<Location>
-    requires { ModelAsks catalog.now table.now length first fill }
-    ensures { to_spec_located result ≡ located_within (count_of (scope_in table.now) fill) key.number key.path.instances length (content_from catalog.now first) }
-{
-    let top = Position {
-        frame: first,
-        offset: 0,
-    };
-    if let Some(location) = locate_own(catalog, top, length, LOWER_LEVELS, key) {
-        return Some(location);
-    }
-    let run = run_extent(catalog, first);
-    let groups = Position {
-        frame: run.next,
-        offset: run.size,
-    };
-    locate_groups(catalog, table, fill, LOWER_LEVELS, groups, key)
-}
-
 // A group: the number of its instances, the registers of one instance's own points and of one whole instance, the frame of the
 // groups in it, and the frame after its end frame.
 #[derive(Clone, Copy)]
@@ -78,112 +59,116 @@ struct Shape {
     next: usize,
 }
 
-// Looks for the point in sibling groups from `start` on, in a group that may hold `levels` further levels. Of each group only
-// the instance with the path's number can have it: among its own points, or in the groups in it.
-fn locate_groups(
-    catalog: &[u16],
-    table: &Table,
-    fill: usize,
-    levels: usize,
-    start: Position,
-    key: Key,
-) -> Option<Location>
-    requires { LocateAsks catalog.now table.now fill levels start.frame start.offset }
-    ensures { to_spec_located result ≡ located_in (count_of (scope_in table.now) fill) key.number key.path.instances (level_of levels) start.offset (content_from catalog.now start.frame).groups }
-{
-    let mut at = start;
-    while let Some(head) = group_at(catalog, at.frame) {
-        let shape = shape_of(catalog, table, fill, levels, at.frame, head);
-        let j = number_at(key.path, LOWER_LEVELS - levels);
-        if j < shape.count {
-            let own = Position {
+impl Search<'_> {
+    // Looks for the point in a model with a body of `length` registers, whose definition begins at frame `first` and whose top
+    // points are in the table. A pad that is left out begins at the end of the body, so it is not found.
+    pub(crate) fn locate_model(&self, length: usize, first: usize) -> Option<Location>
+        requires { ModelAsks self.now.catalog.now self.now.table.now length first self.now.fill }
+        ensures { to_spec_located result ≡ located_within (count_of (scope_in self.now.table.now) self.now.fill) self.now.key.number self.now.key.path.instances length (content_from self.now.catalog.now first) }
+    {
+        let top = Position {
+            frame: first,
+            offset: 0,
+        };
+        if let Some(location) = self.locate_own(top, length, LOWER_LEVELS) {
+            return Some(location);
+        }
+        let run = run_extent(self.catalog, first);
+        let groups = Position {
+            frame: run.next,
+            offset: run.size,
+        };
+        self.locate_groups(LOWER_LEVELS, groups)
+    }
+
+    // Looks for the point in sibling groups from `start` on, in a group that may hold `levels` further levels. Of each group only
+    // the instance with the path's number can have it: among its own points, or in the groups in it.
+    fn locate_groups(&self, levels: usize, start: Position) -> Option<Location>
+        requires { LocateAsks self.now.catalog.now self.now.table.now self.now.fill levels start.frame start.offset }
+        ensures { to_spec_located result ≡ located_in (count_of (scope_in self.now.table.now) self.now.fill) self.now.key.number self.now.key.path.instances (level_of levels) start.offset (content_from self.now.catalog.now start.frame).groups }
+    {
+        let mut at = start;
+        while let Some(head) = group_at(self.catalog, at.frame) {
+            let shape = self.shape_of(levels, at.frame, head);
+            let j = number_at(self.key.path, LOWER_LEVELS - levels);
+            if j < shape.count {
+                let own = Position {
+                    frame: at.frame + 1,
+                    offset: at.offset + j * shape.size,
+                };
+                let lower = Position {
+                    frame: shape.inside,
+                    offset: own.offset + shape.own_size,
+                };
+                let limit = lower.offset;
+                if let Some(location) = self.locate_own(own, limit, levels - 1) {
+                    return Some(location);
+                }
+                if let Some(location) = self.locate_groups(levels - 1, lower) {
+                    return Some(location);
+                }
+            }
+            at = Position {
+                frame: shape.next,
+                offset: at.offset + shape.count * shape.size,
+            };
+        }
+        None
+    }
+
+    // The shape of the group at frame `frame`, by its head, its points and the groups in it.
+    fn shape_of(&self, levels: usize, frame: usize, head: Head) -> Shape
+        requires at_groups { AtGroups self.now.catalog.now frame levels }
+        requires levels_bound { (levels ≤ 3) × (self.now.fill ≤ 65535) }
+        requires frame_value { head_of (frame_in self.now.catalog.now frame) ≡ some (to_spec_head head) }
+        ensures { ShapeOf self.now.catalog.now (count_of (scope_in self.now.table.now) self.now.fill) (to_spec_head head) frame result }
+    {
+        let table = self.table;
+        let run = run_extent(self.catalog, frame + 1);
+        let inside = groups_extent(self.catalog, table, levels - 1, run.next);
+        Shape {
+            count: count_of(table, head, self.fill),
+            own_size: run.size,
+            size: run.size + inside.size,
+            inside: run.next,
+            next: inside.next,
+        }
+    }
+
+    // Looks for the point among the own points of an instance that may hold `levels` further levels. Their path has number 0 at
+    // every deeper level.
+    fn locate_own(&self, start: Position, limit: usize, levels: usize) -> Option<Location>
+        requires parses_at { ParsesAt self.now.catalog.now start.frame × (length self.now.catalog.now / 8 ≤ 4096) }
+        requires limit_bound { (limit ≤ 65536) × (levels ≤ 3) }
+        ensures { to_spec_located result ≡ located_own self.now.key.number self.now.key.path.instances (4 - levels) start.offset (present_within limit start.offset (content_from self.now.catalog.now start.frame).points) }
+    {
+        if !is_zero_from(self.key.path, LOWER_LEVELS - levels) {
+            return None;
+        }
+        self.locate_run(start, limit)
+    }
+
+    // Looks for the point with number `number` among the points from `start` on. Ends at offset `limit`, so that a pad that is
+    // left out is not found.
+    fn locate_run(&self, start: Position, limit: usize) -> Option<Location>
+        requires parses_at { ParsesAt self.now.catalog.now start.frame × (length self.now.catalog.now / 8 ≤ 4096) }
+        requires limit_bound { limit ≤ 65536 }
+        ensures { to_spec_located result ≡ located_among self.now.key.number start.offset (present_within limit start.offset (content_from self.now.catalog.now start.frame).points) }
+    {
+        let mut at = start;
+        while at.offset < limit {
+            let point = point_at(self.catalog, at.frame)?;
+            if point.number == self.key.number {
+                return Some(Location {
+                    offset: at.offset,
+                    point,
+                });
+            }
+            at = Position {
                 frame: at.frame + 1,
-                offset: at.offset + j * shape.size,
+                offset: at.offset + point.size as usize,
             };
-            let lower = Position {
-                frame: shape.inside,
-                offset: own.offset + shape.own_size,
-            };
-            let limit = lower.offset;
-            if let Some(location) = locate_own(catalog, own, limit, levels - 1, key) {
-                return Some(location);
-            }
-            if let Some(location) = locate_groups(catalog, table, fill, levels - 1, lower, key) {
-                return Some(location);
-            }
         }
-        at = Position {
-            frame: shape.next,
-            offset: at.offset + shape.count * shape.size,
-        };
+        None
     }
-    None
-}
-
-// The shape of the group at frame `frame`, by its head, its points and the groups in it.
-fn shape_of(
-    catalog: &[u16],
-    table: &Table,
-    fill: usize,
-    levels: usize,
-    frame: usize,
-    head: Head,
-) -> Shape
-    requires at_groups { AtGroups catalog.now frame levels }
-    requires levels_bound { (levels ≤ 3) × (fill ≤ 65535) }
-    requires frame_value { head_of (frame_in catalog.now frame) ≡ some (to_spec_head head) }
-    ensures { ShapeOf catalog.now (count_of (scope_in table.now) fill) (to_spec_head head) frame result }
-{
-    let run = run_extent(catalog, frame + 1);
-    let inside = groups_extent(catalog, table, levels - 1, run.next);
-    Shape {
-        count: count_of(table, head, fill),
-        own_size: run.size,
-        size: run.size + inside.size,
-        inside: run.next,
-        next: inside.next,
-    }
-}
-
-// Looks for the point among the own points of an instance that may hold `levels` further levels. Their path has number 0 at
-// every deeper level.
-fn locate_own(
-    catalog: &[u16],
-    start: Position,
-    limit: usize,
-    levels: usize,
-    key: Key,
-) -> Option<Location>
-    requires parses_at { ParsesAt catalog.now start.frame × (length catalog.now / 8 ≤ 4096) }
-    requires limit_bound { (limit ≤ 65536) × (levels ≤ 3) }
-    ensures { to_spec_located result ≡ located_own key.number key.path.instances (4 - levels) start.offset (present_within limit start.offset (content_from catalog.now start.frame).points) }
-{
-    if !is_zero_from(key.path, LOWER_LEVELS - levels) {
-        return None;
-    }
-    locate_run(catalog, start, limit, key.number)
-}
-
-// Looks for the point with number `number` among the points from `start` on. Ends at offset `limit`, so that a pad that is
-// left out is not found.
-fn locate_run(catalog: &[u16], start: Position, limit: usize, number: u16) -> Option<Location>
-    requires parses_at { ParsesAt catalog.now start.frame × (length catalog.now / 8 ≤ 4096) }
-    requires limit_bound { limit ≤ 65536 }
-    ensures { to_spec_located result ≡ located_among number start.offset (present_within limit start.offset (content_from catalog.now start.frame).points) }
-{
-    let mut at = start;
-    while at.offset < limit {
-        let point = point_at(catalog, at.frame)?;
-        if point.number == number {
-            return Some(Location {
-                offset: at.offset,
-                point,
-            });
-        }
-        at = Position {
-            frame: at.frame + 1,
-            offset: at.offset + point.size as usize,
-        };
-    }
-    None
 }

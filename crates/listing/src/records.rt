@@ -7,11 +7,14 @@ ghost use Rattle.catalog_frames.specs.CodeTypes.{to_spec_point};
 ghost use Rattle.layout.specs.Points.{point_at};
 ghost use Rattle.layout.specs.Layout.{within, count_of, points_at, groups_at};
 ghost use Rattle.layout.specs.PointTables.{scope_in, table_with};
-ghost use Rattle.layout.specs.InternalWalks.{content_from, Accepted, level_of, instance_in, AgreeExcept, points_of, HasPoints, Ready, read_in, present_points};
+ghost use Rattle.layout.specs.InternalWalks.{content_from, level_of, instance_in, AgreeExcept, points_of, HasPoints, Ready, read_in, present_points};
 ghost use Rattle.listing.specs.Listing.{record_width};
+ghost use Rattle.listing.specs.InternalAccepted.{SixteenBits};
 ghost use Rattle.listing.specs.InternalContracts.{written, PointFits, RunAsks, AfterRun, GroupsAsk, AfterGroups};
 
 use crate::Table;
+use crate::checked::CheckedCatalog;
+use crate::surveys::Survey;
 use catalog::Point;
 use definition_frames::{after_group, group_at, point_at};
 use group_instances::{InstancePath, LOWER_LEVELS, count_of, record_run, with_number};
@@ -30,11 +33,15 @@ pub(crate) struct Visit {
     pub(crate) address: usize,
 }
 
-// The visited model and the count of its fill group.
+// The visited model as its records are written: the catalog that has its definition, its body, and the count of its fill group.
 #[derive(Clone, Copy)]
-struct Model {
+struct Model<'a> {
+    catalog: &'a [u16],
     visit: Visit,
+    body: &'a [u16],
     fill: usize,
+    ghost words: { SixteenBits catalog.now },
+    ghost registers: { SixteenBits body.now },
 }
 
 // The progress of the walk: the number of records written, the offset in the body, and the frame.
@@ -45,25 +52,23 @@ pub(crate) struct Progress {
     pub(crate) frame: usize,
 }
 
-// Writes the records of a model whose definition begins at frame `first` and whose top points are in the table. Returns
-// the number of records written so far.
+// Writes the records of a model that was surveyed and whose top points are in the table. Returns the number of records
+// written so far.
 pub(crate) fn put_model(
-    catalog: &[u16],
+    catalog: &CheckedCatalog,
     table: &mut Table,
     out: &mut [u64],
     visit: Visit,
     body: &[u16],
-    first: usize,
-    fill: usize,
+    survey: Survey,
     records: usize,
 ) -> usize
-    requires accepted { Accepted catalog.now }
-    requires ready { Ready catalog.now visit.id body.now table.old first fill }
-    requires has_points { HasPoints (read_in catalog.now visit.id body.now) }
+    requires ready { Ready catalog.now.words.now visit.id body.now table.old survey.first survey.fill }
+    requires has_points { HasPoints (read_in catalog.now.words.now visit.id body.now) }
     requires body_len_bound { (length body.now ≤ 65535) × (visit.address ≤ 65536) }
-    requires body_in_bounds { record_width * (records + length (points_of (read_in catalog.now visit.id body.now))) ≤ length out.old }
-    ensures value { result ≡ records + length (points_of (read_in catalog.now visit.id body.now)) }
-    ensures out_after { out.new ≡ written visit records (points_of (read_in catalog.now visit.id body.now)) out.old }
+    requires body_in_bounds { record_width * (records + length (points_of (read_in catalog.now.words.now visit.id body.now))) ≤ length out.old }
+    ensures value { result ≡ records + length (points_of (read_in catalog.now.words.now visit.id body.now)) }
+    ensures out_after { out.new ≡ written visit records (points_of (read_in catalog.now.words.now visit.id body.now)) out.old }
 {
     let top = InstancePath {
         instances: [0, 0, 0],
@@ -71,148 +76,132 @@ pub(crate) fn put_model(
     let start = Progress {
         records,
         offset: 0,
-        frame: first,
+        frame: survey.first,
     };
-    let after_points = put_run(catalog, table, out, visit, body, top, start);
+    let model = Model {
+        catalog: catalog.words,
+        visit,
+        body,
+        fill: survey.fill,
+    };
+    let after_points = model.put_run(table, out, top, start);
     if after_points.offset == body.len() {
         return after_points.records;
     }
-    let model = Model { visit, fill };
-    let end = put_groups(
-        catalog,
-        table,
-        out,
-        model,
-        body,
-        LOWER_LEVELS,
-        top,
-        after_points,
-    );
+    let end = model.put_groups(table, out, LOWER_LEVELS, top, after_points);
     end.records
 }
 
-// Writes the points of an instance. Ends at the end of the body, so that a pad that is left out has no record.
-fn put_run(
-    catalog: &[u16],
-    table: &Table,
-    out: &mut [u64],
-    visit: Visit,
-    body: &[u16],
-    path: InstancePath,
-    start: Progress,
-) -> Progress
-    requires { RunAsks catalog.now body.now out.old visit start (present_points catalog.now body.now start.offset start.frame) }
-    ensures after_run { AfterRun start (present_points catalog.now body.now start.offset start.frame) result }
-    ensures out_after { out.new ≡ written visit start.records (points_at body.now (instance_in table.now path.instances) start.offset (present_points catalog.now body.now start.offset start.frame)) out.old }
-{
-    let mut at = start;
-    while at.offset < body.len() {
-        let Some(point) = point_at(catalog, at.frame) else {
-            return at;
-        };
-        put_record(table, out, visit, body, path, at, point);
-        at = Progress {
-            records: at.records + 1,
-            offset: at.offset + point.size as usize,
-            frame: at.frame + 1,
-        };
-    }
-    at
-}
-
-// Writes sibling groups from `start` on, in a group that may hold `levels` further levels: for each instance its own
-// points first, then the groups in it. Each instance reads the frames of its group again.
-fn put_groups(
-    catalog: &[u16],
-    table: &mut Table,
-    out: &mut [u64],
-    model: Model,
-    body: &[u16],
-    levels: usize,
-    path: InstancePath,
-    start: Progress,
-) -> Progress
-    requires { GroupsAsk catalog.now body.now table.old out.old model.visit model.fill levels path.instances start }
-    ensures after_groups { AfterGroups (content_from catalog.now start.frame).groups (count_of (scope_in table.old) model.fill) start result }
-    ensures out_after { out.new ≡ written model.visit start.records (groups_at body.now (count_of (scope_in table.old) model.fill) (level_of levels) (instance_in table.old path.instances) start.offset (content_from catalog.now start.frame).groups) out.old }
-    ensures agree_except { AgreeExcept (Soundness.numbers_of (group_frames (content_from catalog.now start.frame).groups)) table.old table.new }
-{
-    let mut at = start;
-    let mut j = 0;
-    while let Some(head) = group_at(catalog, at.frame) {
-        if j < count_of(table, head, model.fill) {
-            let within = with_number(path, LOWER_LEVELS - levels, j as u16);
-            let own = put_own(catalog, table, out, model.visit, body, within, at);
-            let end = put_groups(catalog, table, out, model, body, levels - 1, within, own);
-            at = Progress {
-                frame: at.frame,
-                ..end
+impl Model<'_> {
+    // Writes the points of an instance. Ends at the end of the body, so that a pad that is left out has no record.
+    fn put_run(
+        &self,
+        table: &Table,
+        out: &mut [u64],
+        path: InstancePath,
+        start: Progress,
+    ) -> Progress
+        requires { RunAsks self.now.catalog.now self.now.body.now out.old self.now.visit start (present_points self.now.catalog.now self.now.body.now start.offset start.frame) }
+        ensures after_run { AfterRun start (present_points self.now.catalog.now self.now.body.now start.offset start.frame) result }
+        ensures out_after { out.new ≡ written self.now.visit start.records (points_at self.now.body.now (instance_in table.now path.instances) start.offset (present_points self.now.catalog.now self.now.body.now start.offset start.frame)) out.old }
+    {
+        let mut at = start;
+        while at.offset < self.body.len() {
+            let Some(point) = point_at(self.catalog, at.frame) else {
+                return at;
             };
-            j += 1;
-        } else {
+            self.put_record(table, out, path, at, point);
             at = Progress {
-                frame: after_group(catalog, at.frame),
+                records: at.records + 1,
+                offset: at.offset + point.size as usize,
+                frame: at.frame + 1,
+            };
+        }
+        at
+    }
+
+    // Writes sibling groups from `start` on, in a group that may hold `levels` further levels: for each instance its own
+    // points first, then the groups in it. Each instance reads the frames of its group again.
+    fn put_groups(
+        &self,
+        table: &mut Table,
+        out: &mut [u64],
+        levels: usize,
+        path: InstancePath,
+        start: Progress,
+    ) -> Progress
+        requires { GroupsAsk self.now.catalog.now self.now.body.now table.old out.old self.now.visit self.now.fill levels path.instances start }
+        ensures after_groups { AfterGroups (content_from self.now.catalog.now start.frame).groups (count_of (scope_in table.old) self.now.fill) start result }
+        ensures out_after { out.new ≡ written self.now.visit start.records (groups_at self.now.body.now (count_of (scope_in table.old) self.now.fill) (level_of levels) (instance_in table.old path.instances) start.offset (content_from self.now.catalog.now start.frame).groups) out.old }
+        ensures agree_except { AgreeExcept (Soundness.numbers_of (group_frames (content_from self.now.catalog.now start.frame).groups)) table.old table.new }
+    {
+        let mut at = start;
+        while let Some(head) = group_at(self.catalog, at.frame) {
+            let frame = at.frame;
+            for j in 0..count_of(table, head, self.fill) {
+                let within = with_number(path, LOWER_LEVELS - levels, j as u16);
+                let own = self.put_own(table, out, within, Progress { frame, ..at });
+                at = self.put_groups(table, out, levels - 1, within, own);
+            }
+            at = Progress {
+                frame: after_group(self.catalog, frame),
                 ..at
             };
-            j = 0;
         }
+        at
     }
-    at
-}
 
-// Records the own points of an instance, which begin after the group frame, in the table, and then writes them.
-fn put_own(
-    catalog: &[u16],
-    table: &mut Table,
-    out: &mut [u64],
-    visit: Visit,
-    body: &[u16],
-    path: InstancePath,
-    at: Progress,
-) -> Progress
-    requires { RunAsks catalog.now body.now out.old visit (record { records = at.records; offset = at.offset; frame = at.frame + 1 }) (content_from catalog.now (at.frame + 1)).points }
-    ensures after_run { AfterRun (record { records = at.records; offset = at.offset; frame = at.frame + 1 }) (content_from catalog.now (at.frame + 1)).points result }
-    ensures out_after { out.new ≡ written visit at.records (points_at body.now (record { scope = within body.now at.offset (content_from catalog.now (at.frame + 1)).points (scope_in table.old); path = path.instances }) at.offset (content_from catalog.now (at.frame + 1)).points) out.old }
-    ensures table_after { table.new ≡ table_with body.now at.offset (content_from catalog.now (at.frame + 1)).points table.old }
-{
-    let first = Progress {
-        frame: at.frame + 1,
-        ..at
-    };
-    record_run(catalog, first.frame, body, first.offset, table);
-    put_run(catalog, table, out, visit, body, path, first)
-}
+    // Records the own points of an instance, which begin after the group frame, in the table, and then writes them.
+    fn put_own(
+        &self,
+        table: &mut Table,
+        out: &mut [u64],
+        path: InstancePath,
+        at: Progress,
+    ) -> Progress
+        requires { RunAsks self.now.catalog.now self.now.body.now out.old self.now.visit (record { records = at.records; offset = at.offset; frame = at.frame + 1 }) (content_from self.now.catalog.now (at.frame + 1)).points }
+        ensures after_run { AfterRun (record { records = at.records; offset = at.offset; frame = at.frame + 1 }) (content_from self.now.catalog.now (at.frame + 1)).points result }
+        ensures out_after { out.new ≡ written self.now.visit at.records (points_at self.now.body.now (record { scope = within self.now.body.now at.offset (content_from self.now.catalog.now (at.frame + 1)).points (scope_in table.old); path = path.instances }) at.offset (content_from self.now.catalog.now (at.frame + 1)).points) out.old }
+        ensures table_after { table.new ≡ table_with self.now.body.now at.offset (content_from self.now.catalog.now (at.frame + 1)).points table.old }
+    {
+        let first = Progress {
+            frame: at.frame + 1,
+            ..at
+        };
+        record_run(self.catalog, first.frame, self.body, first.offset, table);
+        self.put_run(table, out, path, first)
+    }
 
-// Writes the record of a point.
-fn put_record(
-    table: &Table,
-    out: &mut [u64],
-    visit: Visit,
-    body: &[u16],
-    path: InstancePath,
-    at: Progress,
-    point: Point,
-)
-    requires point_fits { PointFits body.now at.offset visit (to_spec_point point) }
-    requires records_in_bounds { record_width * (at.records + 1) ≤ length out.old }
-    ensures { out.new ≡ written visit at.records (point_at body.now (instance_in table.now path.instances) at.offset (to_spec_point point) ∷ []) out.old }
-{
-    let registers = part(body, at.offset, point.size as usize);
-    let shown = show(point, registers, table[point.scale as usize]);
-    let [level2, level3, level4] = path.instances;
-    let numbers = [
-        visit.index as u64,
-        visit.id as u64,
-        point.number as u64,
-        level2 as u64,
-        level3 as u64,
-        level4 as u64,
-        body_address(visit.address as u32, at.offset as u32) as u64,
-        shown.status.number(),
-        shown.raw,
-        shown.scale,
-    ];
-    put(out, WIDTH * at.records, &numbers);
+    // Writes the record of a point.
+    fn put_record(
+        &self,
+        table: &Table,
+        out: &mut [u64],
+        path: InstancePath,
+        at: Progress,
+        point: Point,
+    )
+        requires point_fits { PointFits self.now.body.now at.offset self.now.visit (to_spec_point point) }
+        requires records_in_bounds { record_width * (at.records + 1) ≤ length out.old }
+        ensures { out.new ≡ written self.now.visit at.records (point_at self.now.body.now (instance_in table.now path.instances) at.offset (to_spec_point point) ∷ []) out.old }
+    {
+        let registers = part(self.body, at.offset, point.size as usize);
+        let shown = show(point, registers, table[point.scale as usize]);
+        let [level2, level3, level4] = path.instances;
+        let numbers = [
+            self.visit.index as u64,
+            self.visit.id as u64,
+            point.number as u64,
+            level2 as u64,
+            level3 as u64,
+            level4 as u64,
+            body_address(self.visit.address as u32, at.offset as u32) as u64,
+            shown.status.number(),
+            shown.raw,
+            shown.scale,
+        ];
+        put(out, WIDTH * at.records, &numbers);
+    }
 }
 
 // Writes `numbers` into consecutive entries of `out`, from entry `at` on.

@@ -1,21 +1,20 @@
 // Finds one point of a register map by its model's index, its number and its instance path.
 ghost use Rattle.std.specs.Prelude.{◌≡◌, ◌≤◌, length};
-ghost use Rattle.std.proofs.Math.Option.{none};
 ghost use Rattle.lists.specs.Tests.{first_with};
 ghost use Rattle.model_definitions.specs.Definitions.{definitions};
 ghost use Rattle.catalog_frames.specs.CodeTypes.{to_spec_point};
-ghost use Rattle.register_map.specs.Headers.{opening};
 ghost use Rattle.layout.specs.Paths.{is_point};
 ghost use Rattle.layout.specs.Reading.{reading};
-ghost use Rattle.layout.specs.InternalWalks.{Accepted, points_of, read_in};
+ghost use Rattle.layout.specs.InternalWalks.{points_of, read_in};
 ghost use Rattle.listing.specs.Listing as Listings;
 ghost use Rattle.listing.specs.Finding as Findings;
 ghost use Rattle.listing.specs.CodeTypes.{to_spec_target, to_spec_finding};
 ghost use Rattle.listing.specs.InternalContracts.{target_at, result_at, IsListed};
 
-use crate::locating::{Key, Location, locate_model};
+use crate::checked::{CheckedCatalog, CheckedPlant};
+use crate::locating::{Key, Location, Search};
 use crate::surveys::survey_model;
-use crate::{Table, after_model, survey_plant};
+use crate::{Table, after_model, checked_plant, survey_map};
 use catalog::Point;
 use group_instances::{InstancePath, NUMBERS};
 use refusals::Refused;
@@ -41,34 +40,27 @@ pub fn find(
 ) -> Result<Option<Target>, Refused>
     ensures { to_spec_finding result ≡ Findings.result (Findings.finding catalog.now map.now model point path.instances) }
 {
+    let plant = checked_plant(catalog, map)?;
     let mut table = [0u16; NUMBERS];
-    survey_plant(catalog, map, &mut table)?;
+    survey_map(&plant, &mut table)?;
     let key = Key {
         number: point,
         path,
     };
-    Ok(search_map(catalog, map, &mut table, model, key))
+    Ok(search_map(&plant, &mut table, model, key))
 }
 
 // Looks for the point in model `model` of a map that was surveyed without a refusal.
-fn search_map(
-    catalog: &[u16],
-    map: &[u16],
-    table: &mut Table,
-    model: usize,
-    key: Key,
-) -> Option<Target>
-    requires accepted { Accepted catalog.now }
-    requires map_value { opening map.now ≡ none }
-    requires listed { IsListed (Listings.walked (reading (definitions catalog.now)) map.now) }
-    ensures { to_spec_finding (Ok result) ≡ Findings.result (Findings.finding_in model key.number key.path.instances (Listings.walked (reading (definitions catalog.now)) map.now)) }
+fn search_map(plant: &CheckedPlant, table: &mut Table, model: usize, key: Key) -> Option<Target>
+    requires { IsListed (Listings.walked (reading (definitions plant.now.catalog.words.now)) plant.now.map.now) }
+    ensures { to_spec_finding (Ok result) ≡ Findings.result (Findings.finding_in model key.number key.path.instances (Listings.walked (reading (definitions plant.now.catalog.words.now)) plant.now.map.now)) }
 {
     let mut at = FIRST_HEADER;
     let mut index = 0usize;
-    while let Ok(Header::Model { id, length }) = header_at(map, at) {
+    while let Ok(Header::Model { id, length }) = header_at(plant.map, at) {
         if index == model {
-            let body = part(map, at + 2, length as usize);
-            return search_model(catalog, table, id, body, key, at);
+            let body = part(plant.map, at + 2, length as usize);
+            return search_model(&plant.catalog, table, id, body, key, at);
         }
         at = after_model(at, length);
         index += 1;
@@ -78,27 +70,25 @@ fn search_map(
 
 // Looks for the point in one model: its id, its body and the address `at` of its header.
 fn search_model(
-    catalog: &[u16],
+    catalog: &CheckedCatalog,
     table: &mut Table,
     id: u16,
     body: &[u16],
     key: Key,
     at: usize,
 ) -> Option<Target>
-    requires accepted { Accepted catalog.now }
-    requires body_len_bound { (length body.now ≤ 65535) × (at ≤ 65536) }
-    ensures { to_spec_finding (Ok result) ≡ result_at at (first_with (is_point key.number key.path.instances) (points_of (read_in catalog.now id body.now))) }
+    requires { (length body.now ≤ 65535) × (at ≤ 65536) }
+    ensures { to_spec_finding (Ok result) ≡ result_at at (first_with (is_point key.number key.path.instances) (points_of (read_in catalog.now.words.now id body.now))) }
 {
     match survey_model(catalog, table, id, body) {
         Ok(Some(survey)) => {
-            let location = locate_model(
-                catalog,
+            let search = Search {
+                catalog: catalog.words,
                 table,
-                body.len(),
-                survey.first,
-                survey.fill,
+                fill: survey.fill,
                 key,
-            )?;
+            };
+            let location = search.locate_model(body.len(), survey.first)?;
             Some(target_at(at, body, location))
         }
         Ok(None) => None,

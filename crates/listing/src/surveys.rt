@@ -3,11 +3,12 @@ ghost use Rattle.std.specs.Prelude.{◌≡◌, ◌+◌, ◌≤◌, length};
 ghost use Rattle.std.proofs.Math.Option.{some};
 ghost use Rattle.model_definitions.specs.Definitions.{definitions};
 ghost use Rattle.layout.specs.Reading.{read_by, top_of};
-ghost use Rattle.layout.specs.InternalWalks.{content_from, ParsesAt, Accepted, surveyed, read_in};
+ghost use Rattle.layout.specs.InternalWalks.{content_from, ParsesAt, surveyed, read_in};
 ghost use Rattle.listing.specs.InternalCodeTypes.{to_spec_survey};
 ghost use Rattle.listing.specs.InternalContracts.{ReadyBy, fitted_by};
 
 use crate::Table;
+use crate::checked::CheckedCatalog;
 use crate::extents::{Extent, groups_extent};
 use crate::frames::find_model;
 use definition_frames::{Run, is_pad_left_out, run_extent};
@@ -24,15 +25,14 @@ pub(crate) struct Survey {
 
 // Surveys a model, if the catalog has its id; refuses it by 27 to 29. After a survey the table holds the points of its top group.
 pub(crate) fn survey_model(
-    catalog: &[u16],
+    catalog: &CheckedCatalog,
     table: &mut Table,
     id: u16,
     body: &[u16],
 ) -> Result<Option<Survey>, Refusal>
-    requires accepted { Accepted catalog.now }
-    requires body_len_bound { length body.now ≤ 65535 }
-    ensures result_value { to_spec_survey result ≡ surveyed (read_in catalog.now id body.now) }
-    ensures ready_by { ReadyBy catalog.now id body.now table.new result }
+    requires { length body.now ≤ 65535 }
+    ensures result_value { to_spec_survey result ≡ surveyed (read_in catalog.now.words.now id body.now) }
+    ensures ready_by { ReadyBy catalog.now.words.now id body.now table.new result }
 {
     let Some(first) = find_model(catalog, id) else {
         return Ok(None);
@@ -42,21 +42,20 @@ pub(crate) fn survey_model(
 
 // Surveys a model by the definition that begins at frame `first`.
 fn survey_known(
-    catalog: &[u16],
+    catalog: &CheckedCatalog,
     table: &mut Table,
     id: u16,
     body: &[u16],
     first: usize,
 ) -> Result<Option<Survey>, Refusal>
-    requires accepted { Accepted catalog.now }
     requires body_len_bound { length body.now ≤ 65535 }
-    requires parses_at { ParsesAt catalog.now first × (top_of id (definitions catalog.now) ≡ some (content_from catalog.now first)) }
-    ensures result_value { to_spec_survey result ≡ surveyed (read_by id (content_from catalog.now first) body.now) }
-    ensures ready_by { ReadyBy catalog.now id body.now table.new result }
+    requires parses_at { ParsesAt catalog.now.words.now first × (top_of id (definitions catalog.now.words.now) ≡ some (content_from catalog.now.words.now first)) }
+    ensures result_value { to_spec_survey result ≡ surveyed (read_by id (content_from catalog.now.words.now first) body.now) }
+    ensures ready_by { ReadyBy catalog.now.words.now id body.now table.new result }
 {
-    let run = run_extent(catalog, first);
-    if is_pad_left_out(catalog, id, run, body.len()) {
-        record_run(catalog, first, body, 0, table);
+    let run = run_extent(catalog.words, first);
+    if is_pad_left_out(catalog.words, id, run, body.len()) {
+        record_run(catalog.words, first, body, 0, table);
         return Ok(Some(Survey {
             first,
             points: run.points - 1,
@@ -66,8 +65,8 @@ fn survey_known(
     if body.len() < run.size {
         return Err(Refusal::ShortModel);
     }
-    record_run(catalog, first, body, 0, table);
-    let groups = groups_extent(catalog, table, LOWER_LEVELS, run.next);
+    record_run(catalog.words, first, body, 0, table);
+    let groups = groups_extent(catalog.words, table, LOWER_LEVELS, run.next);
     if groups.unimplemented {
         return Err(Refusal::UnimplementedCount);
     }

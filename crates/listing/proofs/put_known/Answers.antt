@@ -8,13 +8,13 @@ use Rattle.listing.proofs.put_known.Goals as goal
 pub returns-in-Ok-None-clause-out_after : goal.returns-in-Ok-None-clause-out_after
 returns-in-Ok-None-clause-out_after c =
     let v = c.args in
-    let none = no_points_unknown (read_in v.catalog.now v.visit.id c.part-body.result.now) (rw c.in-Ok-None.field-0-is at c.in-Ok-None.ensures).result_value in
+    let none = no_points_unknown (read_in v.plant.now.catalog.words.now v.visit.id c.part-body.result.now) (rw c.in-Ok-None.field-0-is at c.in-Ok-None.ensures).result_value in
     (nothing_written v.visit v.records _ v.out.now
-    (ap (λ b. points_of (read_in v.catalog.now v.visit.id b)) (sym c.part-body.ensures) ∙ none)).1
+    (ap (λ b. points_of (read_in v.plant.now.catalog.words.now v.visit.id b)) (sym c.part-body.ensures) ∙ none)).1
 
 pub returns-in-Err-clause-out_after : goal.returns-in-Err-clause-out_after
 returns-in-Err-clause-out_after c =
     let v = c.args in
-    let none = no_points_refused (read_in v.catalog.now v.visit.id c.part-body.result.now) c.in-Err.ensures.result_value in
+    let none = no_points_refused (read_in v.plant.now.catalog.words.now v.visit.id c.part-body.result.now) c.in-Err.ensures.result_value in
     (nothing_written v.visit v.records _ v.out.now
-    (ap (λ b. points_of (read_in v.catalog.now v.visit.id b)) (sym c.part-body.ensures) ∙ none)).1
+    (ap (λ b. points_of (read_in v.plant.now.catalog.words.now v.visit.id b)) (sym c.part-body.ensures) ∙ none)).1

@@ -12,28 +12,28 @@ use Rattle.listing.proofs.put_map.Goals as goal
 pub loop-id-init : goal.loop-id-init
 loop-id-init c =
     let v = c.args in
-    walking_starts (reading (definitions v.catalog.now)) v.map.now v.out.now c.requires.walk_fits
+    walking_starts (reading (definitions v.plant.now.catalog.words.now)) v.plant.now.map.now v.out.now c.requires
 
 pub put_known-records-requires-clause-length_bound : goal.put_known-records-requires-clause-length_bound
 put_known-records-requires-clause-length_bound c =
     let l = c.loop-id in
-    let short = (opening_none c.args.map.now c.requires.map_value).0 in
-    let ends = model_ends (nat_eq l.at 2) c.args.map.now l.at (sym (rw c.in-Ok-Model.field-0-is at c.in-Ok-Model.ensures)) in
+    let short = (opening_none c.args.plant.now.map.now c.args.plant.now.opens).0 in
+    let ends = model_ends (nat_eq l.at 2) c.args.plant.now.map.now l.at (sym (rw c.in-Ok-Model.field-0-is at c.in-Ok-Model.ensures)) in
     (omega arith, omega arith, short)
 
 pub put_known-records-requires-clause-length_bound_2 : goal.put_known-records-requires-clause-length_bound_2
 put_known-records-requires-clause-length_bound_2 c =
-    let short = (opening_none c.args.map.now c.requires.map_value).0 in
+    let short = (opening_none c.args.plant.now.map.now c.args.plant.now.opens).0 in
     (walking_goes_on c.loop-id.invariant short (sym (rw c.in-Ok-Model.field-0-is at c.in-Ok-Model.ensures))).0
 
 pub loop-id-preserved : goal.loop-id-preserved
 loop-id-preserved c =
-    let short = (opening_none c.args.map.now c.requires.map_value).0 in
+    let short = (opening_none c.args.plant.now.map.now c.args.plant.now.opens).0 in
     let next = (walking_goes_on c.loop-id.invariant short (sym (rw c.in-Ok-Model.field-0-is at c.in-Ok-Model.ensures))).1 in
     let p = c.put_known-records in
-    let read = reading (definitions c.args.catalog.now) in
+    let read = reading (definitions c.args.plant.now.catalog.words.now) in
     let Goes : List ℕ → ℕ → Type 0 =
-    λ out n. WalkingMap read c.args.map.now c.args.out.now out c.after_model-at.result (c.loop-id.index + 1) n in
+    λ out n. WalkingMap read c.args.plant.now.map.now c.args.out.now out c.after_model-at.result (c.loop-id.index + 1) n in
     let on = subst (Goes _) (sym p.ensures.value) (walking_at c.after_model-at.ensures next) in
     subst (λ out. Goes out p.result) (sym p.ensures.out_after) on
 

@@ -7,7 +7,7 @@ use Rattle.listing.proofs.MapRecords.{WalkingMap}
 use Rattle.listing.proofs.put_map.Given as goal
 
 abbrev pub invariant-loop-id : goal.invariant-loop-id
-invariant-loop-id l = WalkingMap (reading (definitions l.catalog)) l.map l.initial.out l.out l.at l.index l.records
+invariant-loop-id l = WalkingMap (reading (definitions l.plant.catalog.words.now)) l.plant.map.now l.initial.out l.out l.at l.index l.records
 
 abbrev pub decreases-loop-id : goal.decreases-loop-id
-decreases-loop-id l = length l.map - l.at
+decreases-loop-id l = length l.plant.map.now - l.at

@@ -16,6 +16,7 @@ use Rattle.listing.proofs.MapSteps.{body_length}
 use Rattle.listing.proofs.MapSurvey.{Surveying, survey_starts, survey_ends, survey_refused}
 use Rattle.listing.proofs.MapSurvey.{survey_count, survey_faulty, survey_on}
 use Rattle.std.proofs.Common.{rules}
+use Rattle.listing.proofs.CheckedPlants.{accepted_of}
 use Rattle.listing.proofs.survey_map.Goals as goal
 
 -- A survey of the part of the map that is the body is one of the model.
@@ -25,34 +26,34 @@ of_part read id is e = e ∙ ap (λ b. surveyed (read (record { id = id; body = 
 
 pub loop-id-init : goal.loop-id-init
 loop-id-init c =
-    survey_starts (reading (definitions c.args.catalog.now)) c.args.map.now
+    survey_starts (reading (definitions c.args.plant.now.catalog.words.now)) c.args.plant.now.map.now
 
 pub survey_model-requires : goal.survey_model-requires
 survey_model-requires c =
     let l = c.loop-id in
     let h = sym (rw c.in-Ok-Model.field-0-is at c.in-Ok-Model.ensures) in
-    let short = (opening_none c.args.map.now c.requires.map_value).0 in
-    let ends = model_ends (eqb l.at 2) c.args.map.now l.at h in
-    let all = ap length c.part-body.ensures ∙ body_length c.args.map.now l.at c.in-Ok-Model.id c.in-Ok-Model.length h in
-    record { accepted = c.requires.accepted; body_len_bound = omega (arith, all, short, ends) }
+    let short = (opening_none c.args.plant.now.map.now c.args.plant.now.opens).0 in
+    let ends = model_ends (eqb l.at 2) c.args.plant.now.map.now l.at h in
+    let all = ap length c.part-body.ensures ∙ body_length c.args.plant.now.map.now l.at c.in-Ok-Model.id c.in-Ok-Model.length h in
+    omega (arith, all, short, ends)
 
 pub returns-in-Err-survey_model : goal.returns-in-Err-survey_model
 returns-in-Err-survey_model c =
     let l = c.loop-id in
     let h = sym (rw c.in-Ok-Model.field-0-is at c.in-Ok-Model.ensures) in
-    let short = (opening_none c.args.map.now c.requires.map_value).0 in
+    let short = (opening_none c.args.plant.now.map.now c.args.plant.now.opens).0 in
     let survey = c.in-Err-survey_model.ensures.result_value in
-    let e = of_part (reading (definitions c.args.catalog.now)) c.in-Ok-Model.id c.part-body.ensures survey in
+    let e = of_part (reading (definitions c.args.plant.now.catalog.words.now)) c.in-Ok-Model.id c.part-body.ensures survey in
     c.refused.ensures ∙ survey_faulty l.invariant short h e
 
 pub overflow_add-points : goal.overflow_add-points
 overflow_add-points c =
     let l = c.loop-id in
     let h = sym (rw c.in-Ok-Model.field-0-is at c.in-Ok-Model.ensures) in
-    let short = (opening_none c.args.map.now c.requires.map_value).0 in
+    let short = (opening_none c.args.plant.now.map.now c.args.plant.now.opens).0 in
     let survey = c.in-Ok.ensures.result_value in
-    let e = of_part (reading (definitions c.args.catalog.now)) c.in-Ok-Model.id c.part-body.ensures survey in
-    let on = survey_on l.invariant short h (points_few c.args.catalog.now c.requires.accepted) c.in-Ok.survey e in
+    let e = of_part (reading (definitions c.args.plant.now.catalog.words.now)) c.in-Ok-Model.id c.part-body.ensures survey in
+    let on = survey_on l.invariant short h (points_few c.args.plant.now.catalog.words.now (accepted_of _ c.args.plant.now.catalog.accepted)) c.in-Ok.survey e in
     let more : c.map_or-points.result ≡ survey_count c.in-Ok.survey = search rules in
     record { fits = omega (arith, on.0) }
 
@@ -60,13 +61,13 @@ pub loop-id-preserved : goal.loop-id-preserved
 loop-id-preserved c =
     let l = c.loop-id in
     let h = sym (rw c.in-Ok-Model.field-0-is at c.in-Ok-Model.ensures) in
-    let short = (opening_none c.args.map.now c.requires.map_value).0 in
-    let read = reading (definitions c.args.catalog.now) in
+    let short = (opening_none c.args.plant.now.map.now c.args.plant.now.opens).0 in
+    let read = reading (definitions c.args.plant.now.catalog.words.now) in
     let survey = c.in-Ok.ensures.result_value in
     let e = of_part read c.in-Ok-Model.id c.part-body.ensures survey in
-    let on = survey_on l.invariant short h (points_few c.args.catalog.now c.requires.accepted) c.in-Ok.survey e in
+    let on = survey_on l.invariant short h (points_few c.args.plant.now.catalog.words.now (accepted_of _ c.args.plant.now.catalog.accepted)) c.in-Ok.survey e in
     let more : c.map_or-points.result ≡ survey_count c.in-Ok.survey = search rules in
-    let Reached : ℕ → ℕ → Type 0 = λ at n. Surveying read c.args.map.now at (l.headers + 1) (l.points + n) in
+    let Reached : ℕ → ℕ → Type 0 = λ at n. Surveying read c.args.plant.now.map.now at (l.headers + 1) (l.points + n) in
     let at_next = subst (λ at. Reached at (survey_count c.in-Ok.survey)) (sym c.after_model-at.ensures) on.1 in
     subst (Reached c.after_model-at.result) (sym more) at_next
 

@@ -7,7 +7,7 @@ use Rattle.listing.proofs.MapSurvey.{Surveying}
 use Rattle.listing.proofs.survey_map.Given as goal
 
 abbrev pub invariant-loop-id : goal.invariant-loop-id
-invariant-loop-id l = Surveying (reading (definitions l.catalog)) l.map l.at l.headers l.points
+invariant-loop-id l = Surveying (reading (definitions l.plant.catalog.words.now)) l.plant.map.now l.at l.headers l.points
 
 abbrev pub decreases-loop-id : goal.decreases-loop-id
-decreases-loop-id l = length l.map - l.at
+decreases-loop-id l = length l.plant.map.now - l.at

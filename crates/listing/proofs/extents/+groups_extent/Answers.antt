@@ -77,5 +77,5 @@ overflow_add-result t c =
 pub returns : goal.returns
 returns t c =
     let end = walks.walk_ends c.args.catalog.now (scope_in c.args.table.now) c.args.levels c.args.first c.loop-head.sum
-    c.loop-head.invariant (sym c.in_default.ensures) _ (record { size = refl; points = refl; fill_size = refl; fill_points = refl; unimplemented = refl }) refl in
+    c.loop-head.invariant (sym c.in_default.ensures) in
     record { extent_of = end.0; next_value = end.1 }

@@ -22,14 +22,14 @@ use Rattle.listing.proofs.search.search_map.Goals as goal
 pub loop-id-init : goal.loop-id-init
 loop-id-init c =
     let v = c.args in
-    search_starts (reading (definitions v.catalog.now)) v.map.now v.model v.key.number v.key.path.instances c.requires.listed
+    search_starts (reading (definitions v.plant.now.catalog.words.now)) v.plant.now.map.now v.model v.key.number v.key.path.instances c.requires
 
-pub search_model-requires-clause-body_len_bound : goal.search_model-requires-clause-body_len_bound
-search_model-requires-clause-body_len_bound c =
-    let map = c.args.map.now in
+pub search_model-requires : goal.search_model-requires
+search_model-requires c =
+    let map = c.args.plant.now.map.now in
     let at = c.loop-id.at in
     let h = sym (rw c.in-Ok-Model.field-0-is at c.in-Ok-Model.ensures) in
-    let short = (opening_none map c.requires.map_value).0 in
+    let short = (opening_none map c.args.plant.now.opens).0 in
     let ends = model_ends (eqb at 2) map at h in
     let all = ap length c.part-body.ensures ∙ body_length map at c.in-Ok-Model.id c.in-Ok-Model.length h in
     (omega (arith, all, short, ends), omega (arith, short, ends))
@@ -40,7 +40,7 @@ returns-then-index-model c =
     let l = c.loop-id in
     let h = sym (rw c.in-Ok-Model.field-0-is at c.in-Ok-Model.ensures) in
     let found : List ℕ → Result = λ body.
-    result_at l.at (first_with (is_point v.key.number v.key.path.instances) (points_of (read_in v.catalog.now c.in-Ok-Model.id body))) in
+    result_at l.at (first_with (is_point v.key.number v.key.path.instances) (points_of (read_in v.plant.now.catalog.words.now c.in-Ok-Model.id body))) in
     c.search_model.ensures
     ∙ ap found c.part-body.ensures
     ∙ search_own l.invariant h (omega (arith, c.if-index-model))
@@ -49,7 +49,7 @@ pub loop-id-preserved : goal.loop-id-preserved
 loop-id-preserved c =
     let l = c.loop-id in
     let h = sym (rw c.in-Ok-Model.field-0-is at c.in-Ok-Model.ensures) in
-    let short = (opening_none c.args.map.now c.requires.map_value).0 in
+    let short = (opening_none c.args.plant.now.map.now c.args.plant.now.opens).0 in
     search_at c.after_model-at.ensures (search_other l.invariant h short c.if-index-model.false)
 
 pub returns-in_default : goal.returns-in_default

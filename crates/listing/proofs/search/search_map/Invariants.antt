@@ -8,7 +8,7 @@ use Rattle.listing.proofs.search.search_map.Given as goal
 
 abbrev pub invariant-loop-id : goal.invariant-loop-id
 invariant-loop-id l =
-    Searching (reading (definitions l.catalog)) l.map l.model l.key.number l.key.path.instances l.at l.index
+    Searching (reading (definitions l.plant.catalog.words.now)) l.plant.map.now l.model l.key.number l.key.path.instances l.at l.index
 
 abbrev pub decreases-loop-id : goal.decreases-loop-id
-decreases-loop-id l = length l.map - l.at
+decreases-loop-id l = length l.plant.map.now - l.at

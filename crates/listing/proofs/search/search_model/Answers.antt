@@ -1,9 +1,9 @@
 -- `listing::search::search_model` meets its contract: the point that is located is the first with the number and the path.
 use mathlib.Core.Path.{◌≡◌, sym, ap, ◌∙◌}
 use mathlib.Core.List.{List, []}
-use Prim.Native.Nat.{ℕ, ◌<◌}
+use Prim.Native.Nat.{ℕ}
 use native.Mathlib.Omega.{arith}
-use lib.ListN.{length, get_or}
+use lib.ListN.{length}
 use Rattle.std.proofs.Common.{rules}
 use Rattle.std.specs.Prelude.{Ok}
 use Rattle.lists.specs.Tests.{first_with}
@@ -15,6 +15,7 @@ use Rattle.listing.specs.Finding.{nothing_result, found_result}
 use Rattle.listing.specs.InternalContracts.{result_at}
 use Rattle.listing.proofs.MapSurvey.{no_points_unknown, no_points_refused, has_points}
 use Rattle.listing.proofs.LocatedModels as model
+use Rattle.listing.proofs.CheckedPlants.{accepted_of}
 use Rattle.listing.proofs.search.search_model.Goals as goal
 
 -- In a model without points nothing is found.
@@ -25,49 +26,49 @@ nothing_found number path at e = sym (ap (λ qs. result_at at (first_with (is_po
 
 pub returns-in-Ok-None : goal.returns-in-Ok-None
 returns-in-Ok-None c =
-    let read = read_in c.args.catalog.now c.args.id c.args.body.now in
+    let read = read_in c.args.catalog.now.words.now c.args.id c.args.body.now in
     nothing_found c.args.key.number c.args.key.path.instances c.args.at (no_points_unknown read (rw c.in-Ok-None.field-0-is at c.in-Ok-None.ensures).result_value)
 
 pub returns-in-Err : goal.returns-in-Err
 returns-in-Err c =
-    let read = read_in c.args.catalog.now c.args.id c.args.body.now in
+    let read = read_in c.args.catalog.now.words.now c.args.id c.args.body.now in
     nothing_found c.args.key.number c.args.key.path.instances c.args.at (no_points_refused read c.in-Err.ensures.result_value)
 
 pub locate_model-requires : goal.locate_model-requires
 locate_model-requires c =
-    let words : (k : ℕ) → get_or c.args.catalog.now k 0 < 65536 = λ k. omega (arith, c.type_inv.catalog k) in
+    let words = c.args.catalog.now.sixteen_bits in
     let three : length c.args.key.path.instances ≡ 3 = search rules in
     let survey = rw c.in-Ok-Some.field-0-is at c.in-Ok-Some.ensures in
-    let has = has_points (read_in c.args.catalog.now c.args.id c.args.body.now) survey.result_value in
-    model.model_asks c.requires.accepted survey.ready_by words has c.requires.body_len_bound.0
+    let has = has_points (read_in c.args.catalog.now.words.now c.args.id c.args.body.now) survey.result_value in
+    model.model_asks (accepted_of _ c.args.catalog.now.accepted) survey.ready_by words has c.requires.0
 
 pub target_at-requires : goal.target_at-requires
 target_at-requires c =
-    let words : (k : ℕ) → get_or c.args.catalog.now k 0 < 65536 = λ k. omega (arith, c.type_inv.catalog k) in
+    let words = c.args.catalog.now.sixteen_bits in
     let three : length c.args.key.path.instances ≡ 3 = search rules in
     let survey = rw c.in-Ok-Some.field-0-is at c.in-Ok-Some.ensures in
-    let has = has_points (read_in c.args.catalog.now c.args.id c.args.body.now) survey.result_value in
-    let short = c.requires.body_len_bound.0 in
-    let found = model.one_found c.requires.accepted survey.ready_by words has short c.args.key.number c.args.key.path.instances
+    let has = has_points (read_in c.args.catalog.now.words.now c.args.id c.args.body.now) survey.result_value in
+    let short = c.requires.0 in
+    let found = model.one_found (accepted_of _ c.args.catalog.now.accepted) survey.ready_by words has short c.args.key.number c.args.key.path.instances
     three c.args.at (sym c.in_ok-location-in-Ok-Some.ensures) in
-    (c.requires.body_len_bound.1, omega (arith, found.0, short))
+    (c.requires.1, omega (arith, found.0, short))
 
 pub returns-in_ok-location-in-Ok-Some : goal.returns-in_ok-location-in-Ok-Some
 returns-in_ok-location-in-Ok-Some c =
-    let words : (k : ℕ) → get_or c.args.catalog.now k 0 < 65536 = λ k. omega (arith, c.type_inv.catalog k) in
+    let words = c.args.catalog.now.sixteen_bits in
     let three : length c.args.key.path.instances ≡ 3 = search rules in
     let survey = rw c.in-Ok-Some.field-0-is at c.in-Ok-Some.ensures in
-    let has = has_points (read_in c.args.catalog.now c.args.id c.args.body.now) survey.result_value in
-    let found = model.one_found c.requires.accepted survey.ready_by words has c.requires.body_len_bound.0 c.args.key.number
+    let has = has_points (read_in c.args.catalog.now.words.now c.args.id c.args.body.now) survey.result_value in
+    let found = model.one_found (accepted_of _ c.args.catalog.now.accepted) survey.ready_by words has c.requires.0 c.args.key.number
     c.args.key.path.instances three c.args.at (sym c.in_ok-location-in-Ok-Some.ensures) in
     ap found_result c.target_at.ensures ∙ found.1
 
 pub returns-in_err-location-in-Ok-Some : goal.returns-in_err-location-in-Ok-Some
 returns-in_err-location-in-Ok-Some c =
-    let words : (k : ℕ) → get_or c.args.catalog.now k 0 < 65536 = λ k. omega (arith, c.type_inv.catalog k) in
+    let words = c.args.catalog.now.sixteen_bits in
     let three : length c.args.key.path.instances ≡ 3 = search rules in
     let survey = rw c.in-Ok-Some.field-0-is at c.in-Ok-Some.ensures in
-    let has = has_points (read_in c.args.catalog.now c.args.id c.args.body.now) survey.result_value in
+    let has = has_points (read_in c.args.catalog.now.words.now c.args.id c.args.body.now) survey.result_value in
     ap (λ o. to_spec_finding (Ok o)) c.from_residual.ensures
-    ∙ model.none_found c.requires.accepted survey.ready_by words has c.requires.body_len_bound.0 c.args.key.number
+    ∙ model.none_found (accepted_of _ c.args.catalog.now.accepted) survey.ready_by words has c.requires.0 c.args.key.number
     c.args.key.path.instances three c.args.at (sym c.in_err-location-in-Ok-Some.ensures)

@@ -5,7 +5,7 @@ use mathlib.Core.List.{List}
 use Prim.Native.Nat.{ℕ, ◌≤◌, ◌<◌}
 use native.Mathlib.Omega.{arith}
 use Rattle.std.proofs.Common.{rules}
-use lib.ListN.{length, get_or, take}
+use lib.ListN.{length, take}
 use Rattle.catalog.specs.Rules.{run}
 use Rattle.catalog_frames.specs.Frames.{frame_in}
 use Rattle.model_definitions.specs.Definitions.{points_size}
@@ -21,6 +21,7 @@ use Rattle.definition_frames.proofs.PadTests.{content_pad}
 use Rattle.listing.specs.InternalContracts.{RunOf}
 use Rattle.listing.proofs.SurveyedModels as models
 use Rattle.listing.proofs.SurveyedByFrames as laws
+use Rattle.listing.proofs.CheckedPlants.{accepted_of}
 use Rattle.listing.proofs.surveys.survey_known.Goals as goal
 
 -- The run is that of the definition's points.
@@ -38,21 +39,21 @@ pub returns-then-is_pad_left_out : goal.returns-then-is_pad_left_out
 returns-then-is_pad_left_out c =
     let a = c.args in
     let is_table : length a.table.now ≡ 65536 = search rules in
-    let ws = a.catalog.now in
+    let ws = a.catalog.now.words.now in
     let known = c.requires.parses_at in
-    let r = top_run ws a.first c.requires.accepted known.0 _ c.run_extent-run.ensures in
+    let r = top_run ws a.first (accepted_of _ c.args.catalog.now.accepted) known.0 _ c.run_extent-run.ensures in
     let e = pad_test ws a.first known.0 r a.id (length a.body.now) c.is_pad_left_out.ensures c.if-is_pad_left_out.true in
     let recorded = c.record_run.ensures ∙ content_recorded ws a.first known.0 a.body.now 0 a.table.now in
-    let surveyed = laws.pad_left_out_lem a.id c.requires.accepted known.0 known.1 a.body.now a.table.now is_table
+    let surveyed = laws.pad_left_out_lem a.id (accepted_of _ c.args.catalog.now.accepted) known.0 known.1 a.body.now a.table.now is_table
     recorded r e in
     record { result_value = surveyed.0; ready_by = surveyed.1.0 }
 
 pub returns-then-body-run : goal.returns-then-body-run
 returns-then-body-run c =
     let a = c.args in
-    let ws = a.catalog.now in
+    let ws = a.catalog.now.words.now in
     let known = c.requires.parses_at in
-    let r = top_run ws a.first c.requires.accepted known.0 _ c.run_extent-run.ensures in
+    let r = top_run ws a.first (accepted_of _ c.args.catalog.now.accepted) known.0 _ c.run_extent-run.ensures in
     let e = pad_test ws a.first known.0 r a.id (length a.body.now) c.is_pad_left_out.ensures c.if-is_pad_left_out.false in
     let short : length a.body.now < points_size (content_from ws a.first).points = omega (arith, c.if-body-run.true, r.size) in
     record {
@@ -63,12 +64,12 @@ returns-then-body-run c =
 pub groups_extent-groups-requires : goal.groups_extent-groups-requires
 groups_extent-groups-requires c =
     let a = c.args in
-    let ws = a.catalog.now in
+    let ws = a.catalog.now.words.now in
     let known = c.requires.parses_at in
-    let r = top_run ws a.first c.requires.accepted known.0 _ c.run_extent-run.ensures in
+    let r = top_run ws a.first (accepted_of _ c.args.catalog.now.accepted) known.0 _ c.run_extent-run.ensures in
     let recorded = c.record_run-2.ensures ∙ content_recorded ws a.first known.0 a.body.now 0 a.table.now in
     record {
-      at_groups = laws.at_groups a.id c.requires.accepted known.0 known.1 r;
+      at_groups = laws.at_groups a.id (accepted_of _ c.args.catalog.now.accepted) known.0 known.1 r;
       levels_bound = omega arith;
     }
 
@@ -76,15 +77,15 @@ pub returns-then-groups : goal.returns-then-groups
 returns-then-groups c =
     let a = c.args in
     let is_table : length a.table.now ≡ 65536 = search rules in
-    let ws = a.catalog.now in
+    let ws = a.catalog.now.words.now in
     let known = c.requires.parses_at in
-    let r = top_run ws a.first c.requires.accepted known.0 _ c.run_extent-run.ensures in
+    let r = top_run ws a.first (accepted_of _ c.args.catalog.now.accepted) known.0 _ c.run_extent-run.ensures in
     let e = pad_test ws a.first known.0 r a.id (length a.body.now) c.is_pad_left_out.ensures c.if-is_pad_left_out.false in
     let recorded = c.record_run-2.ensures ∙ content_recorded ws a.first known.0 a.body.now 0 a.table.now in
-    let words : (k : ℕ) → get_or ws k 0 < 65536 = λ k. omega (arith, c.type_inv.catalog k) in
+    let words = c.args.catalog.now.sixteen_bits in
     let long : points_size (content_from ws a.first).points ≤ length a.body.now = omega (arith, c.if-body-run.false, r.size) in
     record {
-      result_value = laws.unimplemented a.id c.requires.accepted known.0 known.1 a.body.now a.table.now is_table
+      result_value = laws.unimplemented a.id (accepted_of _ c.args.catalog.now.accepted) known.0 known.1 a.body.now a.table.now is_table
           recorded words c.requires.body_len_bound e long r c.groups_extent-groups.ensures.extent_of c.if-groups.true;
       ready_by = tt;
     }
@@ -93,8 +94,8 @@ pub fitted-requires : goal.fitted-requires
 fitted-requires c =
     let a = c.args in
     let known = c.requires.parses_at in
-    let r = top_run a.catalog.now a.first c.requires.accepted known.0 _ c.run_extent-run.ensures in
-    let few = laws.few_points_lem a.id c.requires.accepted known.0 known.1 r in
+    let r = top_run a.catalog.now.words.now a.first (accepted_of _ c.args.catalog.now.accepted) known.0 _ c.run_extent-run.ensures in
+    let few = laws.few_points_lem a.id (accepted_of _ c.args.catalog.now.accepted) known.0 known.1 r in
     let groups = c.groups_extent-groups.ensures.extent_of in
     record {
       size_in_bounds = (omega (arith, c.if-body-run.false), c.requires.body_len_bound, few);
@@ -105,13 +106,13 @@ pub returns : goal.returns
 returns c =
     let a = c.args in
     let is_table : length a.table.now ≡ 65536 = search rules in
-    let ws = a.catalog.now in
+    let ws = a.catalog.now.words.now in
     let known = c.requires.parses_at in
-    let r = top_run ws a.first c.requires.accepted known.0 _ c.run_extent-run.ensures in
+    let r = top_run ws a.first (accepted_of _ c.args.catalog.now.accepted) known.0 _ c.run_extent-run.ensures in
     let e = pad_test ws a.first known.0 r a.id (length a.body.now) c.is_pad_left_out.ensures c.if-is_pad_left_out.false in
     let recorded = c.record_run-2.ensures ∙ content_recorded ws a.first known.0 a.body.now 0 a.table.now in
-    let words : (k : ℕ) → get_or ws k 0 < 65536 = λ k. omega (arith, c.type_inv.catalog k) in
+    let words = c.args.catalog.now.sixteen_bits in
     let long : points_size (content_from ws a.first).points ≤ length a.body.now = omega (arith, c.if-body-run.false, r.size) in
-    let surveyed = laws.surveyed_here a.id c.requires.accepted known.0 known.1 a.body.now a.table.now is_table
+    let surveyed = laws.surveyed_here a.id (accepted_of _ c.args.catalog.now.accepted) known.0 known.1 a.body.now a.table.now is_table
     recorded words c.requires.body_len_bound e long r c.groups_extent-groups.ensures.extent_of c.if-groups.false c.fitted.ensures in
     record { result_value = surveyed.0; ready_by = surveyed.1.0 }

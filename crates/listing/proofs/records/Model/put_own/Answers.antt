@@ -1,10 +1,10 @@
--- `listing::records::put_own` meets its contract: the points are recorded in the table, and then written by it.
+-- `listing::records::Model::put_own` meets its contract: the points are recorded in the table, and then written by it.
 use mathlib.Core.Path.{◌≡◌, ap, ◌∙◌}
 use mathlib.Core.List.{List}
-use Prim.Native.Nat.{ℕ, ◌+◌, ◌<◌}
+use Prim.Native.Nat.{ℕ, ◌+◌}
 use native.Mathlib.Omega.{arith}
 use Rattle.std.proofs.Common.{rules}
-use lib.ListN.{length, get_or}
+use lib.ListN.{length}
 use Rattle.catalog_frames.specs.Frames.{Point}
 use Rattle.layout.specs.Points.{ModelPoint}
 use Rattle.layout.specs.PointTables.{table_with, present_within}
@@ -15,7 +15,7 @@ use Rattle.layout.proofs.RecordedPoints.{numbers_in_table, present_all, own_poin
 use Rattle.listing.specs.InternalContracts.{written, RunAsks}
 use Rattle.listing.specs.declared.records.Progress.{Progress}
 use Rattle.listing.specs.declared.records.Visit.{Visit}
-use Rattle.listing.proofs.records.put_own.Goals as goal
+use Rattle.listing.proofs.records.Model.put_own.Goals as goal
 
 -- The points that begin before the end of the body are all of them.
 all_are_present : (ws body out : List ℕ) (visit : Visit) (at : Progress)
@@ -26,7 +26,7 @@ all_are_present ws body out visit at asks =
 
 pub overflow_add-first : goal.overflow_add-first
 overflow_add-first c =
-    omega (arith, parses_within c.args.catalog.now (c.args.at.frame + 1) c.requires.parses, c.requires.few)
+    omega (arith, parses_within c.args.self.now.catalog.now (c.args.at.frame + 1) c.requires.parses, c.requires.few)
 
 pub put_run-requires : goal.put_run-requires
 put_run-requires c =
@@ -35,17 +35,17 @@ put_run-requires c =
 pub returns : goal.returns
 returns c =
     let a = c.args in
-    let body = a.body.now in
-    let own = (content_from a.catalog.now (a.at.frame + 1)).points in
+    let body = a.self.now.body.now in
+    let own = (content_from a.self.now.catalog.now (a.at.frame + 1)).points in
     let all = all_are_present _ _ _ _ _ c.requires in
     let filled = c.record_run.ensures
-    ∙ content_recorded a.catalog.now (a.at.frame + 1) c.requires.parses body a.at.offset a.table.now in
-    let words : (k : ℕ) → get_or a.catalog.now k 0 < 65536 = λ k. omega (arith, c.type_inv.catalog k) in
-    let numbers = numbers_in_table a.catalog.now words (a.at.frame + 1) c.requires.parses in
+    ∙ content_recorded a.self.now.catalog.now (a.at.frame + 1) c.requires.parses body a.at.offset a.table.now in
+    let words = c.args.self.now.words in
+    let numbers = numbers_in_table a.self.now.catalog.now words (a.at.frame + 1) c.requires.parses in
     let points = own_points_lem body a.at.offset own a.table.now a.path.instances
     c.record_run.new.table (search rules) numbers all filled in
     record {
       after_run = rw all at c.put_run.ensures.after_run;
-      out_after = c.put_run.ensures.out_after ∙ ap (λ (ps : List ModelPoint). written a.visit a.at.records ps a.out.now) points;
+      out_after = c.put_run.ensures.out_after ∙ ap (λ (ps : List ModelPoint). written a.self.now.visit a.at.records ps a.out.now) points;
       table_after = filled ∙ ap (λ (ps : List Point). table_with body a.at.offset ps a.table.now) all;
     }

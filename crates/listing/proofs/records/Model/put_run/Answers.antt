@@ -1,9 +1,9 @@
--- `listing::records::put_run` meets its contract: writing the remaining points gives what writing all gives.
+-- `listing::records::Model::put_run` meets its contract: writing the remaining points gives what writing all gives.
 use mathlib.Core.Path.{sym}
 use native.Mathlib.Omega.{arith}
 use Rattle.catalog_frames.specs.CodeTypes.{to_spec_point}
 use Rattle.listing.proofs.PointRuns.{still_within, still_past, still_other, first_fits, still_first}
-use Rattle.listing.proofs.records.put_run.Goals as goal
+use Rattle.listing.proofs.records.Model.put_run.Goals as goal
 
 pub put_record-requires-clause-point_fits : goal.put_record-requires-clause-point_fits
 put_record-requires-clause-point_fits c =
