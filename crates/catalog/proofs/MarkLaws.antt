@@ -8,9 +8,6 @@ use native.Mathlib.Omega.{arith}
 use borrow.Author.Tests.{eqb-true, eqb-false, eq-eqb, ne_eqb}
 use lib.Dec.{eqb}
 use lib.ListN.{length}
-use Rattle.std.specs.Prelude.{Option, Some, None, cond}
-use Rattle.std.specs.List.{find, range_with_len}
-use Rattle.std.specs.Option.{unwrap_or, option_map}
 use Rattle.number_sets.specs.NumberSets.{in_set, Marks, Blank}
 use Rattle.catalog_frames.specs.Frames.{Point, uint16, read_only}
 use Rattle.catalog.specs.Rules.{run}
@@ -63,27 +60,11 @@ module _ (ws : List ℕ) (j : ℕ) (x : Target) (n : ℕ) where
 
 -- ---- Counts
 
--- The search is `find` over the frames from j on, up to frame m.
-pub stop_found : (ws counts : List ℕ) (n j m : ℕ) (r : Option ℕ) → j + n ≡ m
-    → option_map (λ k. k) r ≡ find (stops ws counts) (range_with_len j n) → unwrap_or r m ≡ first_stop ws counts j n
-unfolding first_stop
-stop_found ws counts n j m r e f = same r ∙ ap (λ x. unwrap_or x m) f ∙ go n j e
-  where
-    same : (r : Option ℕ) → unwrap_or r m ≡ unwrap_or (option_map (λ k. k) r) m
-    same None = refl
-    same (Some k) = refl
-
-    go : (n j : ℕ) → j + n ≡ m → unwrap_or (find (stops ws counts) (range_with_len j n)) m ≡ first_stop ws counts j n
-    go zero j e = omega arith
-    go (suc n) j e = step (stops ws counts j) (go n (suc j) (omega arith))
-      where
-        step : (b : Bool) → unwrap_or (find (stops ws counts) (range_with_len (suc j) n)) m ≡ first_stop ws counts (suc j) n
-            → unwrap_or (cond b (Some j) (find (stops ws counts) (range_with_len (j + 1) n))) m
-            ≡ elim b [ true ↦ j | false ↦ first_stop ws counts (suc j) n ]
-        step true h = refl
-        step false h = rw (add-one j) h
-
 module _ (ws counts : List ℕ) (j : ℕ) where
+  pub stop_none : length ws / 8 ≤ j → first_stop ws counts j (length ws / 8 - j) ≡ j
+  unfolding first_stop
+  stop_none h = let e : length ws / 8 - j ≡ 0 = omega arith in rw e
+
   pub stop_here : j < length ws / 8 → stops ws counts j ≡ true → first_stop ws counts j (length ws / 8 - j) ≡ j
   unfolding first_stop
   stop_here h s =

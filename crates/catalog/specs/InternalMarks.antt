@@ -7,7 +7,7 @@ use Rattle.number_sets.specs.NumberSets.{in_set, Marks, Blank}
 use Rattle.catalog_frames.specs.Frames.{word, count_by_point}
 use Rattle.catalog.specs.Rules.{run, has_point}
 use Rattle.catalog.specs.InternalScans.{frames_onward, has_number, is_model, is_target, numbers_in, runs_of}
-use Rattle.catalog.specs.InternalTracking.{code_start, numbers_so_far, state_of}
+use Rattle.catalog.specs.InternalTracking.{Within, code_start, numbers_so_far, state_of}
 use Rattle.catalog.specs.declared.scans.Target.{Target}
 use Rattle.catalog.specs.declared.state.State.{State}
 use Rattle.catalog.specs.declared.tracking.Tracking.{Tracking}
@@ -75,6 +75,11 @@ pub record Indexed (ws numbers scales : List ℕ) (uncounted i : ℕ) (c : State
   pub counted : 1 ≤ c.depth → Counted ws uncounted (get_or c.firsts 0 0) i
 
 -- ---- All that is recorded
+
+-- Before frame i: the bounds of the state, and what a search of the frames would find.
+pub record Recorded (ws : List ℕ) (i : ℕ) (t : Tracking) : Type 0 where
+  pub within : Within i t.state
+  pub indexed : Indexed ws t.numbers t.scales t.uncounted i t.state
 
 -- Before the first frame.
 pub record NoneTaken (t : Tracking) : Type 0 where

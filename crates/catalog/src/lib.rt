@@ -1,7 +1,7 @@
 // Checks a catalog of model definitions (refusals 1 to 11). `check` accepts any words and writes nothing.
 #![tactic(auto)]
 
-mod frames;
+mod frame_at;
 mod scans;
 mod state;
 mod tracking;
@@ -15,6 +15,7 @@ pub use catalog_frames::{
     CONSTANT_COUNT, COUNT_BY_POINT, FILL, FIXED_SCALE, Frame, Head, PAD, Point, READ_ONLY,
     SCALE_BY_POINT, SUNSSF, read_frame,
 };
+use frame_at::FrameAt;
 use refusals::{Refusal, Refused};
 use tracking::Tracking;
 
@@ -43,11 +44,15 @@ fn check_frames(catalog: &[u16]) -> Result<usize, Refused>
 {
     let frames = catalog.len() / FRAME_WORDS;
     let mut tracking = Tracking::new();
-    for i in 0..frames {
-        if let Some(refusal) = tracking.fault(catalog, i) {
-            return Err(Refused { refusal, place: i });
+    for index in 0..frames {
+        let frame = FrameAt { catalog, index };
+        if let Some(refusal) = tracking.fault(frame) {
+            return Err(Refused {
+                refusal,
+                place: index,
+            });
         }
-        tracking.take_in(catalog, i);
+        tracking.take_in(frame);
     }
     let state = tracking.state;
     if state.depth != 0 {

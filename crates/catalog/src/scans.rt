@@ -6,13 +6,14 @@ ghost use Rattle.catalog_frames.specs.InternalWords.{point_words};
 ghost use Rattle.catalog.specs.InternalScans.{has_number, is_of_kind, is_target, numbers_in};
 ghost use Rattle.catalog.specs.InternalMarks.{AfterModelFrame, BlankAtModel, Counted, ScalesAfter, first_stop, in_run, stops, unchanged};
 
-use crate::frames::word_of;
+use crate::frame_at::FrameAt;
 use catalog_frames::{
     COUNT_BY_POINT, END, FRAME_WORDS, GROUP, MODEL, POINT, READ_ONLY, SUNSSF, UINT16,
 };
 use number_sets::NumberSet;
 
-// The kind of point that a reference names.
+// The kind of point that a reference names. A predicate as a parameter would not be plainer: a contract would have to
+// say, for each call, which points it holds for.
 #[derive(Clone, Copy)]
 pub(crate) enum Target {
     ScaleFactor,
@@ -21,13 +22,12 @@ pub(crate) enum Target {
 
 // ---- The numbers used in a model
 
-// If frame j is a group or point frame: puts its number into the set, or takes it out if not `present`.
-pub(crate) fn mark_number(catalog: &[u16], numbers: &mut NumberSet, j: usize, present: bool)
-    requires { j < length catalog.now / 8 }
-    ensures { Marks numbers.old numbers.new (λ n. has_number catalog.now n j) present }
+// If the frame is a group or point frame: puts its number into the set, or takes it out if not `present`.
+pub(crate) fn mark_number(frame: FrameAt, numbers: &mut NumberSet, present: bool)
+    ensures { Marks numbers.old numbers.new (λ n. has_number frame.entry.catalog.now n frame.entry.index) present }
 {
-    if matches!(word_of(catalog, j, 0), GROUP | POINT) {
-        numbers.mark(word_of(catalog, j, 1), present);
+    if matches!(frame.kind(), GROUP | POINT) {
+        numbers.mark(frame.number(), present);
     }
 }
 
@@ -36,32 +36,29 @@ pub(crate) fn take_numbers_out(catalog: &[u16], numbers: &mut NumberSet, first: 
     requires { (first ≤ end) × (end ≤ length catalog.now / 8) }
     ensures { Marks numbers.old numbers.new (λ n. among n (numbers_in catalog.now first (end - first))) false }
 {
-    for j in first..end {
-        mark_number(catalog, numbers, j, false);
+    for index in first..end {
+        mark_number(FrameAt { catalog, index }, numbers, false);
     }
 }
 
 // ---- Points that a reference may name
 
-// Is the point of frame j of the kind that the reference names?
-fn is_of_kind(catalog: &[u16], j: usize, target: Target) -> bool
-    requires { j < length catalog.now / 8 }
-    ensures { result ≡ is_of_kind target (point_words catalog.now j) }
+// Is the frame's point of the kind that the reference names?
+fn is_of_kind(frame: FrameAt, target: Target) -> bool
+    ensures { result ≡ is_of_kind target (point_words frame.entry.catalog.now frame.entry.index) }
 {
-    let type_code = word_of(catalog, j, 2);
     match target {
-        Target::ScaleFactor => type_code == SUNSSF,
-        Target::CountPoint => type_code == UINT16 && word_of(catalog, j, 7) == READ_ONLY,
+        Target::ScaleFactor => frame.type_code() == SUNSSF,
+        Target::CountPoint => frame.type_code() == UINT16 && frame.access() == READ_ONLY,
     }
 }
 
-// If the point of frame j is of the kind `target`: puts its number into the set, or takes it out if not `present`.
-fn mark_point(catalog: &[u16], set: &mut NumberSet, j: usize, target: Target, present: bool)
-    requires { j < length catalog.now / 8 }
-    ensures { Marks set.old set.new (λ n. is_target target n (point_words catalog.now j)) present }
+// If the frame's point is of the kind `target`: puts its number into the set, or takes it out if not `present`.
+fn mark_point(frame: FrameAt, set: &mut NumberSet, target: Target, present: bool)
+    ensures { Marks set.old set.new (λ n. is_target target n (point_words frame.entry.catalog.now frame.entry.index)) present }
 {
-    if is_of_kind(catalog, j, target) {
-        set.mark(word_of(catalog, j, 1), present);
+    if is_of_kind(frame, target) {
+        set.mark(frame.number(), present);
     }
 }
 
@@ -69,39 +66,37 @@ fn mark_point(catalog: &[u16], set: &mut NumberSet, j: usize, target: Target, pr
 fn mark_run(catalog: &[u16], set: &mut NumberSet, from: usize, target: Target, present: bool)
     ensures { Marks set.old set.new (in_run catalog.now from target) present }
 {
-    for j in from..catalog.len() / FRAME_WORDS {
-        if word_of(catalog, j, 0) != POINT {
+    for index in from..catalog.len() / FRAME_WORDS {
+        let frame = FrameAt { catalog, index };
+        if frame.kind() != POINT {
             return;
         }
-        mark_point(catalog, set, j, target, present);
+        mark_point(frame, set, target, present);
     }
 }
 
-// The scale factors in scope after frame i. A model or group frame adds those of the run of points after it; an end
+// The scale factors in scope after the frame. A model or group frame adds those of the run of points after it; an end
 // frame removes those of the group that ends. `inner` is the first frame inside the innermost open group.
-pub(crate) fn mark_scales(catalog: &[u16], scales: &mut NumberSet, i: usize, inner: usize)
-    requires { i < length catalog.now / 8 }
-    ensures { ScalesAfter catalog.now i inner scales.old scales.new }
+pub(crate) fn mark_scales(frame: FrameAt, scales: &mut NumberSet, inner: usize)
+    ensures { ScalesAfter frame.entry.catalog.now frame.entry.index inner scales.old scales.new }
 {
-    match word_of(catalog, i, 0) {
+    let catalog = frame.catalog;
+    match frame.kind() {
         POINT => {}
         END => mark_run(catalog, scales, inner, Target::ScaleFactor, false),
-        _ => mark_run(catalog, scales, i + 1, Target::ScaleFactor, true),
+        _ => mark_run(catalog, scales, frame.index + 1, Target::ScaleFactor, true),
     }
 }
 
 // ---- Groups whose count a point gives
 
-// Is frame j a model frame, or a group frame that names a count point that is not in the set `counts`?
-fn is_stop(catalog: &[u16], counts: &NumberSet, j: usize) -> bool
-    requires { j < length catalog.now / 8 }
-    ensures { result ≡ stops catalog.now counts.now j }
+// Is the frame a model frame, or a group frame that names a count point that is not in the set `counts`?
+fn is_stop(frame: FrameAt, counts: &NumberSet) -> bool
+    ensures { result ≡ stops frame.entry.catalog.now counts.now frame.entry.index }
 {
-    match word_of(catalog, j, 0) {
+    match frame.kind() {
         MODEL => true,
-        GROUP => {
-            word_of(catalog, j, 3) == COUNT_BY_POINT && !counts.contains(word_of(catalog, j, 4))
-        }
+        GROUP => frame.count_kind() == COUNT_BY_POINT && !counts.contains(frame.count()),
         _ => false,
     }
 }
@@ -112,9 +107,12 @@ fn first_stop(catalog: &[u16], counts: &NumberSet, from: usize) -> usize
     ensures { result ≡ first_stop catalog.now counts.now from (length catalog.now / 8 - from) }
 {
     let frames = catalog.len() / FRAME_WORDS;
-    (from..frames)
-        .find(|j| is_stop(catalog, counts, *j))
-        .unwrap_or(frames)
+    for index in from..frames {
+        if is_stop(FrameAt { catalog, index }, counts) {
+            return index;
+        }
+    }
+    frames
 }
 
 // The first group frame that names a count point that is not in the top group, in the model whose top group begins at

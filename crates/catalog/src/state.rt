@@ -3,7 +3,7 @@ ghost use Rattle.std.specs.Prelude.{◌≡◌, ◌||◌, ◌-◌, ◌/◌, ◌<�
 ghost use Rattle.catalog_frames.specs.Frames.{word};
 ghost use Rattle.catalog.specs.InternalTracking.{DepthAllows, code_start, with_opened, with_ended, state_of};
 
-use crate::frames::word_of;
+use crate::frame_at::FrameAt;
 use catalog_frames::{END, FILL, GROUP, MODEL};
 use frame_rules::LEVELS;
 
@@ -41,16 +41,17 @@ impl State {
         self.firsts[self.depth.saturating_sub(1)]
     }
 
-    // The state after frame i, which breaks no rule.
-    pub(crate) fn after(self, catalog: &[u16], i: usize) -> State
-        requires i_in_bounds { (i < length catalog.now / 8) × (i < 4096) × (self.models ≤ i) }
-        requires depth_allows { DepthAllows (word catalog.now i 0) self }
-        ensures { result ≡ state_of (word catalog.now i 0) (word catalog.now i 3) i self }
+    // The state after the frame, which breaks no rule.
+    pub(crate) fn after(self, frame: FrameAt) -> State
+        requires small { (frame.index < 4096) × (self.models ≤ frame.index) }
+        requires depth_allows { DepthAllows (word frame.catalog.now frame.index 0) self }
+        ensures { result ≡ state_of (word frame.entry.catalog.now frame.entry.index 0) (word frame.entry.catalog.now frame.entry.index 3) frame.entry.index self }
     {
-        match word_of(catalog, i, 0) {
+        let i = frame.index;
+        match frame.kind() {
             MODEL => self.opened(i, self.models + 1, false),
             GROUP => {
-                let has_fill = self.has_fill || word_of(catalog, i, 3) == FILL;
+                let has_fill = self.has_fill || frame.count_kind() == FILL;
                 self.opened(i, self.models, has_fill)
             }
             END => self.ended(),

@@ -5,9 +5,9 @@ ghost use Rattle.lists.specs.Tests.{first_broken};
 ghost use Rattle.catalog_frames.specs.Frames.{frame_at, word};
 ghost use Rattle.frame_rules.specs.CodeTypes.{to_spec_fault};
 ghost use Rattle.catalog.specs.InternalTracking.{DepthAllows, IdFits, Within, code_rules};
-ghost use Rattle.catalog.specs.InternalMarks.{AfterModelFrame, BlankAtModel, Indexed, NoneTaken, Taken};
+ghost use Rattle.catalog.specs.InternalMarks.{AfterModelFrame, BlankAtModel, NoneTaken, Recorded, Taken};
 
-use crate::frames::word_of;
+use crate::frame_at::FrameAt;
 use crate::scans::{first_uncounted, mark_number, mark_scales, take_numbers_out};
 use crate::state::State;
 use catalog_frames::{Frame, MODEL, POINT, read_frame};
@@ -15,8 +15,9 @@ use frame_rules::{end_fault, group_fault, model_fault, point_fault};
 use number_sets::NumberSet;
 use refusals::Refusal;
 
-// `ids` are the model ids so far, `numbers` the numbers used in the open model, `scales` the scale factors in scope,
-// `uncounted` the first group frame of the model that names a count point that is not in the top group.
+// What is recorded of the frames so far: `ids` are the model ids, `numbers` the numbers used in the open model, `scales`
+// the scale factors in scope, `uncounted` is the first group frame of the model that names a count point that is not in
+// the top group.
 #[derive(Drop)]
 pub(crate) struct Tracking {
     pub(crate) state: State,
@@ -40,19 +41,17 @@ impl Tracking {
         }
     }
 
-    // The first rule that frame i breaks, or `None`. The frames before it are recorded.
-    pub(crate) fn fault(&self, catalog: &[u16], i: usize) -> Option<Refusal>
-        requires i_in_bounds { i < length catalog.now / 8 }
-        requires within { Within i self.now.state }
-        requires indexed { Indexed catalog.now self.now.numbers self.now.scales self.now.uncounted i self.now.state }
-        ensures result_value { to_spec_fault result ≡ first_broken (code_rules catalog.now self.now.ids i self.now.state (frame_at catalog.now i)) }
-        ensures id_fits { IdFits (frame_at catalog.now i) }
+    // The first rule that the frame breaks, or `None`. The frames before it are recorded.
+    pub(crate) fn fault(&self, frame: FrameAt) -> Option<Refusal>
+        requires { Recorded frame.catalog.now frame.index self.now }
+        ensures result_value { to_spec_fault result ≡ first_broken (code_rules frame.entry.catalog.now self.now.ids frame.entry.index self.now.state (frame_at frame.entry.catalog.now frame.entry.index)) }
+        ensures id_fits { IdFits (frame_at frame.entry.catalog.now frame.entry.index) }
     {
         let state = self.state;
-        match read_frame(catalog, i) {
+        match read_frame(frame.catalog, frame.index) {
             Some(Frame::Model(id)) => model_fault(&self.ids, state.depth, id),
             Some(Frame::Group(head)) => {
-                let counted = i != self.uncounted;
+                let counted = frame.index != self.uncounted;
                 group_fault(&self.numbers, state.depth, state.has_fill, head, counted)
             }
             Some(Frame::Point(point)) => {
@@ -65,40 +64,43 @@ impl Tracking {
                 )
             }
             Some(Frame::End) => {
-                let empty = word_of(catalog, state.innermost(), 0) != POINT;
-                end_fault(state.depth, state.has_group, empty)
+                let first = FrameAt {
+                    catalog: frame.catalog,
+                    index: state.innermost(),
+                };
+                end_fault(state.depth, state.has_group, first.kind() != POINT)
             }
             None => Some(Refusal::MalformedFrame),
         }
     }
 
-    // Records frame i, which breaks no rule.
-    pub(crate) fn take_in(&mut self, catalog: &[u16], i: usize)
-        requires i_in_bounds { (i < length catalog.now / 8) × (i < 4096) }
-        requires within { Within i self.old.state }
-        requires blank_at_model { BlankAtModel catalog.now i self.old.scales }
-        requires depth_allows { DepthAllows (word catalog.now i 0) self.old.state }
-        ensures { Taken catalog.now i self.old self.new }
+    // Records the frame, which breaks no rule.
+    pub(crate) fn take_in(&mut self, frame: FrameAt)
+        requires small { frame.index < 4096 }
+        requires within { Within frame.index self.old.state }
+        requires blank_at_model { BlankAtModel frame.catalog.now frame.index self.old.scales }
+        requires depth_allows { DepthAllows (word frame.catalog.now frame.index 0) self.old.state }
+        ensures { Taken frame.entry.catalog.now frame.entry.index self.old self.new }
     {
         let inner = self.state.innermost();
-        self.begin_model(catalog, i, inner);
-        mark_number(catalog, &mut self.numbers, i, true);
-        mark_scales(catalog, &mut self.scales, i, inner);
-        self.state = self.state.after(catalog, i);
+        self.begin_model(frame, inner);
+        mark_number(frame, &mut self.numbers, true);
+        mark_scales(frame, &mut self.scales, inner);
+        self.state = self.state.after(frame);
     }
 
-    // If frame i is a model frame: records its id, removes the numbers of the previous model, whose top group begins at
-    // frame `first`, and finds the first uncounted group of the new model. Any other frame changes nothing.
-    fn begin_model(&mut self, catalog: &[u16], i: usize, first: usize)
-        requires i_in_bounds { (i < length catalog.now / 8) × (first ≤ i) }
-        requires blank_at_model { BlankAtModel catalog.now i self.old.scales }
-        ensures begun { AfterModelFrame catalog.now i first self.old.uncounted self.new.uncounted self.old.ids self.new.ids self.old.numbers self.new.numbers self.old.scales self.new.scales }
+    // If the frame is a model frame: records its id, removes the numbers of the previous model, whose top group begins
+    // at frame `first`, and finds the first uncounted group of the new model. Any other frame changes nothing.
+    fn begin_model(&mut self, frame: FrameAt, first: usize)
+        requires before { first ≤ frame.index }
+        requires blank_at_model { BlankAtModel frame.catalog.now frame.index self.old.scales }
+        ensures begun { AfterModelFrame frame.entry.catalog.now frame.entry.index first self.old.uncounted self.new.uncounted self.old.ids self.new.ids self.old.numbers self.new.numbers self.old.scales self.new.scales }
         ensures state { self.new.state ≡ self.old.state }
     {
-        if word_of(catalog, i, 0) == MODEL {
-            self.ids.mark(word_of(catalog, i, 1), true);
-            take_numbers_out(catalog, &mut self.numbers, first, i);
-            self.uncounted = first_uncounted(catalog, &mut self.scales, i + 1);
+        if frame.kind() == MODEL {
+            self.ids.mark(frame.number(), true);
+            take_numbers_out(frame.catalog, &mut self.numbers, first, frame.index);
+            self.uncounted = first_uncounted(frame.catalog, &mut self.scales, frame.index + 1);
         }
     }
 }

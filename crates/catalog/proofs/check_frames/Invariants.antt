@@ -2,5 +2,5 @@
 use Rattle.catalog.proofs.CheckedFrame as frame
 use Rattle.catalog.proofs.check_frames.Given as goal
 
-abbrev pub invariant-loop-i : goal.invariant-loop-i
-invariant-loop-i l = frame.Holds l.catalog l.i l.tracking
+abbrev pub invariant-loop-index : goal.invariant-loop-index
+invariant-loop-index l = frame.Holds l.catalog l.index l.tracking

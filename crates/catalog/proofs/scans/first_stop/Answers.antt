@@ -1,18 +1,28 @@
--- `first_stop` meets its contract: the search goes over the frames from `from` on.
-use Rattle.std.proofs.Common.{◌∙◌, ◌-◌, ◌/◌, arith, refl, length, rules, tests}
-use Rattle.std.proofs.lemmas.Iterator.{YieldsList-from_range}
-use Rattle.std.proofs.lemmas.Iterator.Search.{find_from_yields_List}
-use Rattle.catalog.specs.InternalMarks.{stops}
-use Rattle.catalog.proofs.MarkLaws.{stop_found}
+-- `catalog::scans::first_stop` meets its contract: as long as no frame stops the search, the frames left decide.
+use mathlib.Core.Path.{◌≡◌, sym, ◌∙◌}
+use Prim.Native.Nat.{◌/◌}
+use lib.ListN.{length}
+use native.Mathlib.Omega.{arith}
+use Rattle.catalog.proofs.MarkLaws as laws
 use Rattle.catalog.proofs.scans.first_stop.Goals as goal
+
+pub returns-then-is_stop : goal.returns-then-is_stop
+returns-then-is_stop c =
+    let l = c.loop-index in
+    let a = c.args in
+    let stop = sym c.is_stop.ensures ∙ c.if-is_stop.true in
+    sym (laws.stop_here a.catalog.now a.counts.now l.index (omega arith) stop) ∙ l.invariant
+
+pub loop-index-preserved : goal.loop-index-preserved
+loop-index-preserved c =
+    let l = c.loop-index in
+    let a = c.args in
+    let go = sym c.is_stop.ensures ∙ c.if-is_stop.false in
+    sym (laws.stop_later a.catalog.now a.counts.now l.index (omega arith) go) ∙ l.invariant
 
 pub returns : goal.returns
 returns c =
-    let ws = c.args.catalog.now in
-    let counts = c.args.counts.now in
-    let from = c.args.from in
-    let n = length ws / 8 - from in
-    let found =
-    find_from_yields_List (stops ws counts) _ _ c.find.result c.find.ensures.ran
-    (YieldsList-from_range from (length ws / 8) n refl refl) (λ x b q k. search (rules, tests)) in
-    c.unwrap_or.ensures ∙ stop_found ws counts n from (length ws / 8) c.find.result (omega arith) found
+    let l = c.loop-index in
+    let a = c.args in
+    let end : length a.catalog.now / 8 ≡ l.index = omega arith in
+    end ∙ sym (laws.stop_none a.catalog.now a.counts.now l.index (omega arith)) ∙ l.invariant

@@ -7,26 +7,26 @@ use Rattle.catalog.proofs.WordScans.{run_continues, run_ends, frames_none}
 use Rattle.catalog.proofs.MarkLaws as laws
 use Rattle.catalog.proofs.scans.mark_run.Goals as goal
 
-pub returns-then-word_of-ne-POINT : goal.returns-then-word_of-ne-POINT
-returns-then-word_of-ne-POINT c =
-    let l = c.loop-j in
+pub returns-then-kind-ne-POINT : goal.returns-then-kind-ne-POINT
+returns-then-kind-ne-POINT c =
+    let l = c.loop-index in
     let a = c.args in
-    let ends = run_ends a.catalog.now l.j _ (omega arith) c.word_of.ensures c.if-word_of-ne-POINT.true in
-    l.invariant _ (marks.marks_none _ _ _ (λ n. laws.no_run a.catalog.now l.j a.target n ends))
+    let ends = run_ends a.catalog.now l.index _ (omega arith) c.kind.ensures c.if-kind-ne-POINT.true in
+    l.invariant _ (marks.marks_none _ _ _ (λ n. laws.no_run a.catalog.now l.index a.target n ends))
 
-pub loop-j-preserved : goal.loop-j-preserved
-loop-j-preserved c =
+pub loop-index-preserved : goal.loop-index-preserved
+loop-index-preserved c =
     λ after m.
-    let l = c.loop-j in
+    let l = c.loop-index in
     let a = c.args in
-    let kind = c.word_of.ensures in
-    let goes = run_continues a.catalog.now l.j _ (omega arith) kind c.if-word_of-ne-POINT.false in
+    let kind = c.kind.ensures in
+    let goes = run_continues a.catalog.now l.index _ (omega arith) kind c.if-kind-ne-POINT.false in
     l.invariant after
-    (marks.marks_then _ _ _ _ _ _ _ c.mark_point.ensures m (λ n. laws.run_more a.catalog.now l.j a.target n goes))
+    (marks.marks_then _ _ _ _ _ _ _ c.mark_point.ensures m (λ n. laws.run_more a.catalog.now l.index a.target n goes))
 
 pub returns : goal.returns
 returns c =
-    let l = c.loop-j in
+    let l = c.loop-index in
     let a = c.args in
-    let ends = ap run (frames_none a.catalog.now l.j (omega arith)) in
-    l.invariant _ (marks.marks_none _ _ _ (λ n. laws.no_run a.catalog.now l.j a.target n ends))
+    let ends = ap run (frames_none a.catalog.now l.index (omega arith)) in
+    l.invariant _ (marks.marks_none _ _ _ (λ n. laws.no_run a.catalog.now l.index a.target n ends))

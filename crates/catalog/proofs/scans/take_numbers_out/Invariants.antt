@@ -6,8 +6,8 @@ use Rattle.number_sets.specs.NumberSets.{Marks}
 use Rattle.catalog.specs.InternalScans.{numbers_in}
 use Rattle.catalog.proofs.scans.take_numbers_out.Given as goal
 
-abbrev pub invariant-loop-j : goal.invariant-loop-j
-invariant-loop-j l =
-    (l.first ≤ l.j)
-    × (l.j ≤ l.end)
-    × Marks l.initial.numbers l.numbers (λ n. among n (numbers_in l.catalog l.first (l.j - l.first))) false
+abbrev pub invariant-loop-index : goal.invariant-loop-index
+invariant-loop-index l =
+    (l.first ≤ l.index)
+    × (l.index ≤ l.end)
+    × Marks l.initial.numbers l.numbers (λ n. among n (numbers_in l.catalog l.first (l.index - l.first))) false
