@@ -1,102 +1,35 @@
 // The command `list ENTRIES CATALOG MAP`: the points of a register map by a catalog, stored in a list of ENTRIES
 // numbers.
-ghost use Rattle.std.specs.Prelude.{◌≤◌};
-
-use crate::fields::FIELD_WORDS;
+use crate::fields::{CATALOG_CAPACITY, Fields, MAP_CAPACITY};
 use crate::output::Results;
-use crate::plants::{CATALOG_CAPACITY, MAP_CAPACITY, Plant, plant_at};
-use crate::{fields, output};
-use listing::{Listing, WIDTH};
+use listing::{Listed, WIDTH};
 
 // The longest list that a line can ask for.
 const LIST_CAPACITY: usize = 20000;
 
-// Runs the command on the fields from `at` on. False, with nothing written, where they are bad.
-pub(crate) fn run(results: &mut Results, line: &[u8], at: usize) -> bool {
-    let mut catalog = [0u16; FIELD_WORDS];
-    let mut map = [0u16; FIELD_WORDS];
-    let entries = fields::decimal_field(line, at, LIST_CAPACITY as u64);
-    let plant = plant_at(
-        line,
-        entries.next,
-        CATALOG_CAPACITY,
-        &mut catalog,
-        MAP_CAPACITY,
-        &mut map,
-    );
-    list_if(results, plant, &catalog, &map, entries.value as usize)
-}
-
-// Writes the result if the line is good, and returns whether it is.
-fn list_if(
-    results: &mut Results,
-    plant: Plant,
-    catalog: &[u16; FIELD_WORDS],
-    map: &[u16; FIELD_WORDS],
-    entries: usize,
-) -> bool
-    requires { entries ≤ 20000 }
-{
-    if plant.is_whole {
-        list_in(
-            results,
-            fields::first(catalog, plant.words),
-            fields::first(map, plant.registers),
-            entries,
-        );
-    }
-    plant.is_whole
-}
-
-// Writes the result of `list` with a list of `entries` entries.
-fn list_in(results: &mut Results, catalog: &[u16], map: &[u16], entries: usize)
-    requires { entries ≤ 20000 }
-{
-    let mut list = [0u64; LIST_CAPACITY];
-    write_listing(results, catalog, map, &mut list[0..entries]);
-}
-
-// Writes the result of `list` with the list `out`.
-fn write_listing(results: &mut Results, catalog: &[u16], map: &[u16], out: &mut [u64]) {
-    let listing = listing::list(catalog, map, out);
-    write_points(results, listing, out);
-}
-
-// Writes a result of `list`, with the list that it filled.
-fn write_points(results: &mut Results, listing: Listing, list: &[u64]) {
-    match listing {
-        Listing::Listed { points, headers } => {
-            results.counted(output::POINTS, points as u64);
-            results.counted(output::HEADERS, headers as u64);
-            write_records(results, list, points);
+// Runs the command on its fields. None, with nothing written, where they are bad.
+pub(crate) fn run(results: &mut Results, mut fields: Fields) -> Option<()> {
+    let mut list = [0; LIST_CAPACITY];
+    let mut catalog = [0; CATALOG_CAPACITY];
+    let mut map = [0; MAP_CAPACITY];
+    let list = list.get_mut(..fields.number()? as usize)?;
+    let catalog = fields.words(&mut catalog)?;
+    let map = fields.words(&mut map)?;
+    fields.end()?;
+    match listing::list(catalog, map, list) {
+        Ok(Listed { points, headers }) => {
+            results.print(format_args!("points {points} headers {headers}"));
+            for record in list.chunks_exact(WIDTH).take(points) {
+                results.print(" /");
+                for number in record {
+                    results.print(format_args!(" {number}"));
+                }
+            }
         }
-        Listing::Refused {
-            number,
-            place,
-            headers,
-        } => {
-            results.refused_at(number, place);
-            results.counted(output::HEADERS, headers as u64);
+        Err(not_listed) => {
+            results.refused_at(not_listed.into());
+            results.print(format_args!(" headers {}", not_listed.headers));
         }
     }
-}
-
-// Writes the records of `points` points, as far as the list goes.
-fn write_records(results: &mut Results, list: &[u64], points: usize) {
-    let mut i = 0;
-    while i < list.len() {
-        if points <= i / WIDTH {
-            return;
-        }
-        results.counted(gap_before(i % WIDTH), list[i]);
-        i += 1;
-    }
-}
-
-// The text before a number of a record.
-fn gap_before(field: usize) -> usize {
-    match field {
-        0 => output::SLASH,
-        _ => output::SPACE,
-    }
+    Some(())
 }

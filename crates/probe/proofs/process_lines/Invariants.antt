@@ -1,6 +1,9 @@
--- `probe::process_lines` meets its contract, and ends: each line starts after the one before it.
-use Rattle.std.proofs.Common.{◌-◌, length}
+-- `probe::process_lines` meets its contract, and ends: each line leaves less of the input.
+use Rattle.std.proofs.Common.{◌≤◌, length}
 use Rattle.probe.proofs.process_lines.Given as goal
 
-abbrev pub decreases-loop-at : goal.decreases-loop-at
-decreases-loop-at l = length l.input - l.at
+abbrev pub invariant-loop-length : goal.invariant-loop-length
+invariant-loop-length l = length l.rest ≤ length l.input
+
+abbrev pub decreases-loop-length : goal.decreases-loop-length
+decreases-loop-length l = length l.rest

@@ -1,9 +1,0 @@
--- `probe::move_to_front` meets its contract. The loop's invariant: `i` is not below `start`.
-use Rattle.std.proofs.Common.{◌-◌, ◌≤◌}
-use Rattle.probe.proofs.move_to_front.Given as goal
-
-abbrev pub invariant-loop-i : goal.invariant-loop-i
-invariant-loop-i l = l.start ≤ l.i
-
-abbrev pub decreases-loop-i : goal.decreases-loop-i
-decreases-loop-i l = l.end - l.i
