@@ -1,7 +1,7 @@
 -- The steps of the definitions for one line.
 use mathlib.Core.Path.{◌≡◌, refl, sym, ap}
 use mathlib.Core.Bool.{true, false}
-use mathlib.Core.List.{List, [], ◌∷◌, ◌++◌, append_assoc}
+use mathlib.Core.List.{List, ◌∷◌, ◌++◌, append_assoc}
 use Prim.Native.Nat.{ℕ, ◌+◌, ◌-◌, ◌≤◌, ◌<◌}
 use borrow.Author.Tests.{eq-eqb, ne_eqb, lt-ltb, le-ltb}
 use lib.ListN.{length}
@@ -46,17 +46,9 @@ module _ (number capacity : ℕ) (l : List ℕ) (ls : List (List ℕ)) where
 
 -- ---- What was found before
 
-pub no_frame : (x : Input) → x ≡ with_frame [] x
-no_frame (refused number place) = refl
-no_frame (words catalog map) = refl
-
 pub two_frames : (a b : List ℕ) (x : Input) → with_frame a (with_frame b x) ≡ with_frame (a ++ b) x
 two_frames a b (refused number place) = refl
 two_frames a b (words catalog map) = ap (λ (ws : List ℕ). words ws map) (sym (append_assoc a b catalog))
-
-pub no_registers : (x : Input) → x ≡ with_registers [] x
-no_registers (refused number place) = refl
-no_registers (words catalog map) = refl
 
 pub two_registers : (a b : List ℕ) (x : Input) → with_registers a (with_registers b x) ≡ with_registers (a ++ b) x
 two_registers a b (refused number place) = refl

@@ -5,25 +5,14 @@ use Prim.Native.Nat.{ℕ, ◌+◌, ◌*◌, ◌/◌}
 use native.Mathlib.Omega.{arith}
 use lib.ListN.{length, drop}
 use Rattle.input.specs.Lines.{lines}
-use Rattle.input.specs.Parsing.{Input, refused, words, with_frame, map_from, parsed, stored, stored_catalog, stored_map}
+use Rattle.input.specs.Parsing.{Input, words, with_frame, map_from, parsed, stored, stored_catalog, stored_map}
 use Rattle.input.specs.InternalContracts.{words_from, FramesFound, RegistersFound}
-use Rattle.input.specs.CodeTypes.{parsed_result, refused_result, result}
+use Rattle.input.specs.CodeTypes.{parsed_result, result}
 use Rattle.input.proofs.ParsedWords.{catalog_words, map_words}
 
 -- Words stored at the start of a list.
 pub stored_at_start : (ws old : List ℕ) {part : List ℕ} {n : ℕ} → part ≡ ws → length ws ≡ n → part ++ drop n old ≡ stored ws old
 stored_at_start ws old e n = rw (e, n)
-
--- A refusal is returned as it is, and leaves both lists unchanged.
-module _ {x : Input} {number place : ℕ} (e : x ≡ refused number place) where
-  pub refusal_result : refused_result number place ≡ result x
-  refusal_result = sym (ap result e)
-
-  pub catalog_kept : (old : List ℕ) → old ≡ stored_catalog x old
-  catalog_kept old = sym (ap (λ (y : Input). stored_catalog y old) e)
-
-  pub map_kept : (old : List ℕ) → old ≡ stored_map x old
-  map_kept old = sym (ap (λ (y : Input). stored_map y old) e)
 
 module _ {text : List ℕ} (rest : List ℕ) {frames registers count found : ℕ}
     (f : FramesFound text frames count (λ capacity. map_from (count + 2) capacity (lines rest)))
