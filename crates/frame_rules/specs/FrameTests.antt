@@ -1,5 +1,5 @@
 -- Rules 4 to 10 (document 01, "Checking") for a single frame, given facts about the frames around it.
-use Rattle.std.specs.Prelude.{Bool, true, false, not, ◌&&◌, ◌||◌, List, [], ◌∷◌, ℕ, eqb, leb, ltb}
+use Rattle.std.specs.Prelude.{Bool, false, not, ◌&&◌, ◌||◌, List, [], ◌∷◌, ℕ, eqb, leb, ltb}
 use Rattle.std.proofs.Math.Option.{none, some}
 use Rattle.point_types.specs.Rows.{may_scale, registers_of}
 use Rattle.values.specs.Classes.{twos_complement, is_scale_factor}
