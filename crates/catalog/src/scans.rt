@@ -1,10 +1,10 @@
 // Scans over the frames that record in a set what they find. A scan reads each frame at most once.
-ghost use Rattle.std.specs.Prelude.{◌≡◌, false, ◌+◌, ◌-◌, ◌/◌, ◌≤◌, ◌<◌, length};
+ghost use Rattle.std.specs.Prelude.{◌≡◌, false, ◌+◌, ◌-◌, ◌/◌, ◌≤◌, length};
 ghost use Rattle.lists.specs.Members.{among};
 ghost use Rattle.number_sets.specs.NumberSets.{Marks, Blank};
 ghost use Rattle.catalog_frames.specs.InternalWords.{point_words};
 ghost use Rattle.catalog.specs.InternalScans.{has_number, is_of_kind, is_target, numbers_in};
-ghost use Rattle.catalog.specs.InternalMarks.{AfterModelFrame, BlankAtModel, Counted, ScalesAfter, first_stop, in_run, stops, unchanged};
+ghost use Rattle.catalog.specs.InternalMarks.{Counted, ScalesAfter, first_stop, in_run, stops, unchanged};
 
 use crate::frame_at::FrameAt;
 use catalog_frames::{

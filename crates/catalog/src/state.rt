@@ -1,5 +1,5 @@
 // What the check knows between two frames.
-ghost use Rattle.std.specs.Prelude.{◌≡◌, ◌||◌, ◌-◌, ◌/◌, ◌<◌, ◌≤◌, eqb, length, get_or};
+ghost use Rattle.std.specs.Prelude.{◌≡◌, ◌||◌, ◌-◌, ◌<◌, ◌≤◌, get_or};
 ghost use Rattle.catalog_frames.specs.Frames.{word};
 ghost use Rattle.catalog.specs.InternalTracking.{DepthAllows, code_start, with_opened, with_ended, state_of};
 

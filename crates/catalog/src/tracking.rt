@@ -1,6 +1,6 @@
 // What the check records of the frames so far, and what it says of the next one. `frame_rules` has the tests for each
 // kind of frame.
-ghost use Rattle.std.specs.Prelude.{◌≡◌, ◌-◌, ◌/◌, ◌<◌, ◌≤◌, get_or, length};
+ghost use Rattle.std.specs.Prelude.{◌≡◌, ◌-◌, ◌<◌, ◌≤◌};
 ghost use Rattle.lists.specs.Tests.{first_broken};
 ghost use Rattle.catalog_frames.specs.Frames.{frame_at, word};
 ghost use Rattle.frame_rules.specs.CodeTypes.{to_spec_fault};

@@ -3,14 +3,13 @@
 
 ghost use Rattle.std.specs.Prelude.{◌≡◌, get_or};
 ghost use Rattle.catalog_frames.specs.Frames.{frame_in, frame_of};
-ghost use Rattle.catalog_frames.specs.CodeTypes.{to_spec_frame, to_spec_head, to_spec_point};
-
-use registers::all_zero;
+ghost use Rattle.catalog_frames.specs.CodeTypes.{to_spec_frame};
 
 // The number of words in a frame.
 pub const FRAME_WORDS: usize = 8;
 
-// The kinds of frames (word 0).
+// The kinds of frames (word 0). These and the words below stay numbers and no enums: checking takes any words, also those
+// that no kind has, and says which rule they break.
 pub const MODEL: u16 = 1;
 
 pub const GROUP: u16 = 2;

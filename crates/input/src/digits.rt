@@ -1,5 +1,5 @@
 // Hexadecimal digits of any case.
-ghost use Rattle.std.specs.Prelude.{◌≡◌, ◌<◌, length, get_or};
+ghost use Rattle.std.specs.Prelude.{◌≡◌, ◌<◌, get_or};
 ghost use Rattle.input.specs.Digits.{digit_value, is_digit, digit_or0, are_digits, word};
 ghost use Rattle.input.specs.CodeTypes.{to_spec_digit};
 

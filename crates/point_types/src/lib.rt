@@ -4,7 +4,6 @@
 #![tactic(auto)]
 
 ghost use Rattle.std.specs.Prelude.{◌≡◌};
-ghost use Rattle.point_types.specs.Presence.{presence_of};
 ghost use Rattle.point_types.specs.Rows.{may_scale, registers_of, row_of, unimplemented_for};
 ghost use Rattle.point_types.specs.CodeTypes.{to_spec_presence, to_spec_count, to_spec_found, to_spec_unimplemented, to_spec_row, Means};
 

@@ -18,7 +18,7 @@ const SECOND_REGISTER: u16 = 0x6E53;
 // The address of the first header.
 pub const FIRST_HEADER: usize = 2;
 
-// The id of the end marker.
+// The id of the end marker. A header's other ids are the models' own, so it is a number like them.
 const END_ID: u16 = 0xFFFF;
 
 // What is found at a header: a model with its id and length, or the end marker.

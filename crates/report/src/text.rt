@@ -1,5 +1,5 @@
 // The text of a listing and of a refusal, put into a buffer.
-ghost use Rattle.std.specs.Prelude.{◌++◌, ◌∷◌, [], ◌+◌, ◌*◌, ◌≤◌, length, take};
+ghost use Rattle.std.specs.Prelude.{◌++◌, ◌∷◌, [], ◌+◌, ◌*◌, ◌≤◌, length};
 ghost use Rattle.refusals.specs.Refusals.{number};
 ghost use Rattle.display.specs.Decimals.{digits_of};
 ghost use Rattle.display.specs.InternalParts.{Put};

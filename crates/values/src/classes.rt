@@ -1,8 +1,7 @@
 // The class of a raw value under its type.
 ghost use Rattle.std.specs.Prelude.{◌≡◌};
-ghost use Rattle.std.specs.Float.Ieee.{nan_bits};
 ghost use Rattle.point_types.specs.Rows.{Listed};
-ghost use Rattle.point_types.specs.CodeTypes.{to_spec_presence, to_spec_format, to_spec_kind, to_spec_row};
+ghost use Rattle.point_types.specs.CodeTypes.{to_spec_presence, to_spec_kind, to_spec_row};
 ghost use Rattle.values.specs.Classes.{PatternOf, twos_complement, in_range, is_scale_factor, holds_nan, is_value, class_of, classified};
 ghost use Rattle.values.specs.CodeTypes.{to_spec_class, to_spec_classified};
 
