@@ -9,6 +9,14 @@ use crate::{Class, Unclassified};
 use point_types::{Format, Kind, Presence, Range, TypeRow, row_of, unimplemented_for};
 use registers::too_wide;
 
+// A raw value that fits the registers of a type with this row.
+#[derive(Clone, Copy)]
+pub(crate) struct Pattern {
+    pub(crate) row: TypeRow,
+    pub(crate) raw: u64,
+    pub(crate) ghost fits: { PatternOf (to_spec_row row) raw },
+}
+
 // The class of a raw value under a type code, for a point of this presence.
 #[tactic(auto, using(point_types::proofs::Table::own_code, point_types::proofs::Table::listed), unfolding(crate::specs::Classes::classified))]
 pub fn classify(type_code: u16, presence: Presence, raw: u64) -> Result<Class, Unclassified>
@@ -31,7 +39,7 @@ pub(crate) fn classified_in(
     if too_wide(row.most, raw) {
         Err(Unclassified::TooWide)
     } else {
-        Ok(class_in(row, presence, raw))
+        Ok(Pattern { row, raw }.class_in(presence))
     }
 }
 
@@ -49,33 +57,33 @@ pub fn is_value_in(classified: Result<Class, Unclassified>) -> bool
     matches!(classified, Ok(Class::Value))
 }
 
-// The class of a pattern of the row's type: unimplemented wins over out of range.
-#[tactic(auto, unfolding(crate::specs::Classes::class_of))]
-pub(crate) fn class_in(row: TypeRow, presence: Presence, raw: u64) -> Class
-    requires { PatternOf (to_spec_row row) raw }
-    ensures { to_spec_class result ≡ class_of (to_spec_row row) (to_spec_presence presence) raw }
-{
-    if unimplemented_for(row, presence) == Some(raw) {
-        Class::Unimplemented
-    } else if in_range(row, raw) {
-        Class::Value
-    } else {
-        Class::OutOfRange
+impl Pattern {
+    // Its class: unimplemented wins over out of range.
+    #[tactic(auto, unfolding(crate::specs::Classes::class_of))]
+    pub(crate) fn class_in(self, presence: Presence) -> Class
+        ensures { to_spec_class result ≡ class_of (to_spec_row self.row) (to_spec_presence presence) self.raw }
+    {
+        if unimplemented_for(self.row, presence) == Some(self.raw) {
+            Class::Unimplemented
+        } else if self.in_range() {
+            Class::Value
+        } else {
+            Class::OutOfRange
+        }
     }
-}
 
-// Is the pattern in its type's range?
-#[tactic(auto, using(crate::proofs::Ranges::in_whole, crate::proofs::Ranges::in_up_to, crate::proofs::Ranges::in_only, crate::proofs::Ranges::in_scale_factor, crate::proofs::Ranges::in_not_nan))]
-fn in_range(row: TypeRow, raw: u64) -> bool
-    requires { PatternOf (to_spec_row row) raw }
-    ensures { result ≡ in_range (to_spec_row row) raw }
-{
-    match row.range {
-        Range::Whole => true,
-        Range::UpTo(high) => raw <= high,
-        Range::Only(pattern) => raw == pattern,
-        Range::ScaleFactor => scale_factor_in_range(raw as u16),
-        Range::NotNan => !holds_nan(row.kind, raw),
+    // Is it in its type's range?
+    #[tactic(auto, using(crate::proofs::Ranges::in_whole, crate::proofs::Ranges::in_up_to, crate::proofs::Ranges::in_only, crate::proofs::Ranges::in_scale_factor, crate::proofs::Ranges::in_not_nan))]
+    fn in_range(self) -> bool
+        ensures { result ≡ in_range (to_spec_row self.row) self.raw }
+    {
+        match self.row.range {
+            Range::Whole => true,
+            Range::UpTo(high) => self.raw <= high,
+            Range::Only(pattern) => self.raw == pattern,
+            Range::ScaleFactor => scale_factor_in_range(self.raw as u16),
+            Range::NotNan => !holds_nan(self.row.kind, self.raw),
+        }
     }
 }
 

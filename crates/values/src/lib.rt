@@ -9,14 +9,14 @@ mod unscaled;
 ghost use Rattle.std.specs.Prelude.{◌≡◌, true, false, ◌*◌, ◌-◌, ◌^◌, ◌≤◌, ◌<◌};
 ghost use Rattle.std.specs.Float.Ieee.{top, nan_bits, of_bits};
 ghost use Rattle.point_types.specs.CodeTypes.{to_spec_presence, to_spec_format, to_spec_row};
-ghost use Rattle.values.specs.Classes.{PatternOf, twos_complement, in_range};
+ghost use Rattle.values.specs.Classes.{twos_complement, in_range};
 ghost use Rattle.values.specs.Decoding.{float, number_of, value_of, decoded};
 ghost use Rattle.values.specs.CodeTypes.{to_spec_value, to_spec_decoded};
 
-use classes::class_in;
+use classes::Pattern;
 pub use classes::{classify, is_value, is_value_in, scale_factor_in_range};
 pub use point_types::Presence;
-use point_types::{Format, Kind, TypeRow, row_of};
+use point_types::{Format, Kind, row_of};
 use refusals::Refusal;
 use registers::{all_ones, raw_value};
 pub use unscaled::unscaled_value;
@@ -66,33 +66,33 @@ pub fn decode(type_code: u16, presence: Presence, registers: [u16; 4]) -> Result
         return Err(Refusal::NotDecodable);
     }
     let raw = raw_value(&registers[..usize::from(row.most)]);
-    Ok(value_of(row, presence, raw))
+    Ok(Pattern { row, raw }.value_of(presence))
 }
 
-// The result for a pattern of the row's type.
-#[tactic(auto, using(crate::proofs::ThreeClasses::value_in_range), unfolding(crate::specs::Decoding::value_of))]
-fn value_of(row: TypeRow, presence: Presence, raw: u64) -> Value
-    requires { PatternOf (to_spec_row row) raw }
-    ensures { to_spec_value result ≡ value_of (to_spec_row row) (to_spec_presence presence) raw }
-{
-    match class_in(row, presence, raw) {
-        Class::Value => number_of(row, raw),
-        Class::Unimplemented => Value::Unimplemented,
-        Class::OutOfRange => Value::OutOfRange,
+impl Pattern {
+    // Its value, for a point of this presence.
+    #[tactic(auto, using(crate::proofs::ThreeClasses::value_in_range), unfolding(crate::specs::Decoding::value_of))]
+    fn value_of(self, presence: Presence) -> Value
+        ensures { to_spec_value result ≡ value_of (to_spec_row self.row) (to_spec_presence presence) self.raw }
+    {
+        match self.class_in(presence) {
+            Class::Value => self.number_of(),
+            Class::Unimplemented => Value::Unimplemented,
+            Class::OutOfRange => Value::OutOfRange,
+        }
     }
-}
 
-// The number of a pattern in its type's range.
-#[tactic(auto, unfolding(crate::specs::Decoding::number_of))]
-fn number_of(row: TypeRow, raw: u64) -> Value
-    requires pattern_of { PatternOf (to_spec_row row) raw }
-    requires raw_value { in_range (to_spec_row row) raw ≡ true }
-    ensures { to_spec_value result ≡ number_of (to_spec_row row) raw }
-{
-    match row.kind {
-        Kind::Signed => Value::Signed(twos_complement(row.most, raw)),
-        Kind::Unsigned | Kind::Accumulator => Value::Unsigned(raw),
-        Kind::Float(format) => float_of(format, raw),
+    // Its number, if it is in its type's range.
+    #[tactic(auto, unfolding(crate::specs::Decoding::number_of))]
+    fn number_of(self) -> Value
+        requires { in_range (to_spec_row self.row) self.raw ≡ true }
+        ensures { to_spec_value result ≡ number_of (to_spec_row self.row) self.raw }
+    {
+        match self.row.kind {
+            Kind::Signed => Value::Signed(twos_complement(self.row.most, self.raw)),
+            Kind::Unsigned | Kind::Accumulator => Value::Unsigned(self.raw),
+            Kind::Float(format) => float_of(format, self.raw),
+        }
     }
 }
 

@@ -1,13 +1,13 @@
 // The integer of a raw value, not scaled.
 ghost use Rattle.std.specs.Prelude.{◌≡◌};
 ghost use Rattle.point_types.specs.CodeTypes.{to_spec_presence, to_spec_row};
-ghost use Rattle.values.specs.Classes.{PatternOf, integer};
+ghost use Rattle.values.specs.Classes.{integer};
 ghost use Rattle.values.specs.Unscaled.{unscaled};
 ghost use Rattle.values.specs.CodeTypes.{to_code_unscaled, to_code_integer};
 
-use crate::classes::{classified_in, is_value_in};
+use crate::classes::{Pattern, classified_in, is_value_in};
 use crate::{Integer, twos_complement};
-use point_types::{Kind, Presence, TypeRow, row_of};
+use point_types::{Kind, Presence, row_of};
 use refusals::Refusal;
 
 // The integer that a scale factor multiplies, for a type code, the point's presence and a raw value.
@@ -22,26 +22,27 @@ pub fn unscaled_value(type_code: u16, presence: Presence, raw: u64) -> Result<In
     if !is_value_in(classified_in(row, presence, raw)) {
         return Err(Refusal::NoValue);
     }
-    Ok(integer_of(row, raw))
+    Ok(Pattern { row, raw }.integer_of())
 }
 
-// The integer of a pattern. Only signed types have negative ones.
-#[tactic(auto, unfolding(crate::specs::Classes::integer))]
-fn integer_of(row: TypeRow, raw: u64) -> Integer
-    requires { PatternOf (to_spec_row row) raw }
-    ensures { result ≡ to_code_integer (integer (to_spec_row row) raw) }
-{
-    match row.kind {
-        Kind::Signed => {
-            let value = twos_complement(row.most, raw);
-            Integer {
-                negative: value < 0,
-                magnitude: value.unsigned_abs(),
+impl Pattern {
+    // Its integer. Only signed types have negative ones.
+    #[tactic(auto, unfolding(crate::specs::Classes::integer))]
+    fn integer_of(self) -> Integer
+        ensures { result ≡ to_code_integer (integer (to_spec_row self.row) self.raw) }
+    {
+        match self.row.kind {
+            Kind::Signed => {
+                let value = twos_complement(self.row.most, self.raw);
+                Integer {
+                    negative: value < 0,
+                    magnitude: value.unsigned_abs(),
+                }
             }
+            _ => Integer {
+                negative: false,
+                magnitude: self.raw,
+            },
         }
-        _ => Integer {
-            negative: false,
-            magnitude: raw,
-        },
     }
 }

@@ -7,10 +7,10 @@ use Rattle.point_types.specs.CodeTypes.{to_spec_found, to_spec_row}
 use Rattle.values.proofs.FoundRow.{pattern_of}
 use Rattle.values.proofs.decode.Goals as goal
 
-pub value_of-requires : goal.value_of-requires
-value_of-requires c =
+pub invariant_of-value_of : goal.invariant_of-value_of
+invariant_of-value_of c =
     let a = c.args in
     let row = to_spec_row c.in_ok-row.row in
     let raw = c.raw_value-raw in
     let at : row_of a.type_code ≡ some row = sym c.row_of.ensures ∙ ap to_spec_found c.in_ok-row.ensures.ok_part in
-    pattern_of a.type_code a.registers row (search rules) c.if-row-gt4.false at raw.result (rw c.from.ensures at raw.ensures.upper_bound)
+    record { fits = pattern_of a.type_code a.registers row (search rules) c.if-row-gt4.false at raw.result (rw c.from.ensures at raw.ensures.upper_bound) }

@@ -8,8 +8,8 @@ use Rattle.values.specs.Classes.{is_value, classified}
 use Rattle.values.proofs.UnscaledCases.{value_fits}
 use Rattle.values.proofs.unscaled.unscaled_value.Goals as goal
 
-pub integer_of-requires : goal.integer_of-requires
-integer_of-requires c =
+pub invariant_of-integer_of : goal.invariant_of-integer_of
+invariant_of-integer_of c =
     let a = c.args in
     let r = to_spec_row c.in_ok-row.row in
     let p = to_spec_presence a.presence in
@@ -17,4 +17,4 @@ integer_of-requires c =
     let own = own_code a.type_code r at in
     let value =
     ap (λ code. is_value (classified code p a.raw)) own ∙ sym (ap is_value c.classified_in.ensures) ∙ sym c.is_value_in.ensures ∙ c.if-not-is_value_in.false in
-    record { listed = listed a.type_code r at; fits = value_fits a.type_code p a.raw r at value }
+    record { fits = record { listed = listed a.type_code r at; fits = value_fits a.type_code p a.raw r at value } }
