@@ -12,7 +12,7 @@ use group_instances::{count_of, is_unimplemented};
 
 // A size with nested counts may need more than 64 bits. No map has more registers than CAP, so sizes and numbers
 // of points are capped at it.
-pub(crate) const CAP: usize = 65536;
+const CAP: usize = 65536;
 
 // Sibling groups: their registers and points, without those of a fill group; the registers and points of one
 // instance of the fill group, 0 if there is none; whether a count point is unimplemented; and the frame after

@@ -15,7 +15,7 @@ ghost use Rattle.std.proofs.Math.ListN as Lists;
 ghost use Rattle.refusals.specs.Refusals.{number};
 ghost use Rattle.model_definitions.specs.Definitions.{definitions};
 ghost use Rattle.layout.specs.Reading.{reading};
-ghost use Rattle.layout.specs.InternalWalks.{Accepted, points_of, read_in};
+ghost use Rattle.layout.specs.InternalWalks.{points_of, read_in};
 ghost use Rattle.listing.specs.Listing as Listings;
 ghost use Rattle.listing.specs.CodeTypes.{to_spec_listing, HeadersCounted, WithoutHeaders, BeforeHeaders, AtStart};
 ghost use Rattle.listing.specs.Calls.{ListCall};
@@ -186,8 +186,8 @@ fn put_map(plant: &CheckedPlant, table: &mut Table, out: &mut [u64])
     ensures { out.new ≡ Listings.stored (Listings.walked (reading (definitions plant.now.catalog.words.now)) plant.now.map.now) out.old }
 {
     let mut at = FIRST_HEADER;
-    let mut index = 0usize;
-    let mut records = 0usize;
+    let mut index = 0;
+    let mut records = 0;
     while let Ok(Header::Model { id, length }) = header_at(plant.map, at) {
         let visit = Visit {
             index,
@@ -215,9 +215,8 @@ fn put_known(
     ensures out_after { out.new ≡ written visit records (points_of (read_in plant.now.catalog.words.now visit.id (body_at plant.now.map.now visit length))) out.old }
 {
     let body = part(plant.map, visit.address + 2, length);
-    match survey_model(&plant.catalog, table, visit.id, body) {
-        Ok(Some(survey)) => put_model(&plant.catalog, table, out, visit, body, survey, records),
-        Ok(None) => records,
-        Err(_) => records,
-    }
+    let Ok(Some(survey)) = survey_model(&plant.catalog, table, visit.id, body) else {
+        return records;
+    };
+    put_model(&plant.catalog, table, out, visit, body, survey, records)
 }

@@ -1,7 +1,6 @@
 // Finds one point of a model by arithmetic on its definition: each frame is read a few times, and no instance is walked.
 ghost use Rattle.std.specs.Prelude.{◌≡◌, ◌+◌, ◌-◌, ◌/◌, ◌≤◌, length};
 ghost use Rattle.std.proofs.Math.Option.{some};
-ghost use Rattle.std.proofs.Math.ListN as Lists;
 ghost use Rattle.catalog_frames.specs.Frames.{frame_in};
 ghost use Rattle.catalog_frames.specs.CodeTypes.{to_spec_head};
 ghost use Rattle.layout.specs.Layout.{count_of};

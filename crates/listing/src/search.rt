@@ -56,7 +56,7 @@ fn search_map(plant: &CheckedPlant, table: &mut Table, model: usize, key: Key) -
     ensures { to_spec_finding (Ok result) ≡ Findings.result (Findings.finding_in model key.number key.path.instances (Listings.walked (reading (definitions plant.now.catalog.words.now)) plant.now.map.now)) }
 {
     let mut at = FIRST_HEADER;
-    let mut index = 0usize;
+    let mut index = 0;
     while let Ok(Header::Model { id, length }) = header_at(plant.map, at) {
         if index == model {
             let body = part(plant.map, at + 2, length as usize);
@@ -80,20 +80,17 @@ fn search_model(
     requires { (length body.now ≤ 65535) × (at ≤ 65536) }
     ensures { to_spec_finding (Ok result) ≡ result_at at (first_with (is_point key.number key.path.instances) (points_of (read_in catalog.now.words.now id body.now))) }
 {
-    match survey_model(catalog, table, id, body) {
-        Ok(Some(survey)) => {
-            let search = Search {
-                catalog: catalog.words,
-                table,
-                fill: survey.fill,
-                key,
-            };
-            let location = search.locate_model(body.len(), survey.first)?;
-            Some(target_at(at, body, location))
-        }
-        Ok(None) => None,
-        Err(_) => None,
-    }
+    let Ok(Some(survey)) = survey_model(catalog, table, id, body) else {
+        return None;
+    };
+    let search = Search {
+        catalog: catalog.words,
+        table,
+        fill: survey.fill,
+        key,
+    };
+    let location = search.locate_model(body.len(), survey.first)?;
+    Some(target_at(at, body, location))
 }
 
 // The result for a point that was located in `body`, in the model whose header is at address `at`.

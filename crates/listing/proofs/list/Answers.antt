@@ -1,13 +1,11 @@
 -- `listing::list` meets its contract: the survey refuses or counts, then 30 is decided, then the records are written.
 use Rattle.std.proofs.Common.{◌≡◌, ℕ, List, length, ap, ◌∙◌, arith}
-use Rattle.model_definitions.specs.Definitions.{definitions}
-use Rattle.layout.specs.Reading.{reading}
 use Rattle.std.specs.Prelude.{Result, Ok, Err}
 use Rattle.std.proofs.lemmas.Result.{err_from_is_err_and}
 use Rattle.refusals.specs.Refusals.{number}
 use Rattle.listing.specs.declared.Listed.{Listed}
 use Rattle.listing.specs.declared.NotListed.{NotListed}
-use Rattle.listing.specs.Listing.{walked, all_records, listing, result, stored}
+use Rattle.listing.specs.Listing.{all_records, listing, result, stored}
 use Rattle.listing.specs.CodeTypes.{to_spec_listing, HeadersCounted}
 use Rattle.listing.specs.Calls.{ListCall}
 use Rattle.listing.proofs.ListingCases.{listing_records}
@@ -66,13 +64,6 @@ returns-then-out-listed c =
     let w = with_headers v.catalog.now v.map.now out c.refused.result
     (answered_by_lem out (listing_records v.catalog.now v.map.now (length out)) (c.refused.ensures ∙ n.0, n.1)) in
     record { result_value = w.0; out_after = w.1; headers_counted = w.2; list_call = w.3 }
-
-pub put_map-requires : goal.put_map-requires
-put_map-requires c =
-    let plant = c.in_ok-plant.plant in
-    let a = walked (reading (definitions plant.catalog.words.now)) plant.map.now in
-    let listed = c.in_ok-listed.listed in
-    (has_capacity c.args.out.now a listed.points listed.headers c.in_ok-listed.ensures (omega arith)).0
 
 pub returns : goal.returns
 returns c =

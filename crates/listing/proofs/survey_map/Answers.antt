@@ -3,16 +3,12 @@ use mathlib.Core.Path.{◌≡◌, sym, ap, subst, ◌∙◌}
 use mathlib.Core.List.{List}
 use Prim.Native.Nat.{ℕ, ◌+◌}
 use native.Mathlib.Omega.{arith}
-use lib.Dec.{eqb}
-use lib.ListN.{length}
 use Rattle.model_definitions.specs.Definitions.{definitions}
 use Rattle.register_map.specs.Scan.{Model}
 use Rattle.register_map.proofs.HeaderLaws.{opening_none}
-use Rattle.register_map.proofs.HeaderCases.{model_ends}
 use Rattle.layout.specs.Reading.{Reading, reading}
 use Rattle.layout.specs.InternalWalks.{Surveyed, surveyed}
 use Rattle.layout.proofs.PointsInside.{points_few}
-use Rattle.listing.proofs.MapSteps.{body_length}
 use Rattle.listing.proofs.MapSurvey.{Surveying, survey_starts, survey_ends, survey_refused}
 use Rattle.listing.proofs.MapSurvey.{survey_count, survey_faulty, survey_on}
 use Rattle.std.proofs.Common.{rules}
@@ -27,15 +23,6 @@ of_part read id is e = e ∙ ap (λ b. surveyed (read (record { id = id; body = 
 pub loop-id-init : goal.loop-id-init
 loop-id-init c =
     survey_starts (reading (definitions c.args.plant.now.catalog.words.now)) c.args.plant.now.map.now
-
-pub survey_model-requires : goal.survey_model-requires
-survey_model-requires c =
-    let l = c.loop-id in
-    let h = sym (rw c.in-Ok-Model.field-0-is at c.in-Ok-Model.ensures) in
-    let short = (opening_none c.args.plant.now.map.now c.args.plant.now.opens).0 in
-    let ends = model_ends (eqb l.at 2) c.args.plant.now.map.now l.at h in
-    let all = ap length c.part-body.ensures ∙ body_length c.args.plant.now.map.now l.at c.in-Ok-Model.id c.in-Ok-Model.length h in
-    omega (arith, all, short, ends)
 
 pub returns-in-Err-survey_model : goal.returns-in-Err-survey_model
 returns-in-Err-survey_model c =

@@ -1,19 +1,13 @@
 -- `listing::extents::groups_extent` meets its contract: the groups summed up and those that remain are all groups of the group.
-use mathlib.Core.Path.{refl, sym, subst}
+use mathlib.Core.Path.{sym, subst}
 use Prim.Native.Nat.{◌-◌, ◌≤◌}
 use native.Mathlib.Omega.{arith}
 use Rattle.layout.specs.PointTables.{scope_in}
 use Rattle.layout.specs.InternalWalks.{AtGroups}
 use Rattle.layout.proofs.FramePosition as position
 use Rattle.layout.proofs.GroupDescent as groups
-use Rattle.listing.proofs.ExtentSteps as steps
 use Rattle.listing.proofs.ExtentWalks as walks
 use Rattle.listing.proofs.extents.+groups_extent.Goals as goal
-
-pub loop-head-init : goal.loop-head-init
-loop-head-init t c =
-    let none_visited = steps.none_visited (scope_in c.args.table.now) _ _ refl refl refl refl refl in
-    record { position = c.requires.at_groups; few = c.requires.levels_bound; end = refl; summed = none_visited }
 
 pub groups_extent-inside-requires : goal.groups_extent-inside-requires
 groups_extent-inside-requires t c =

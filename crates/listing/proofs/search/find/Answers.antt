@@ -1,17 +1,14 @@
 -- `listing::search::find` meets its contract: 1 to 29 as for listing, then the search in the map.
-use mathlib.Core.Path.{sym, ap, subst, ◌∙◌}
+use mathlib.Core.Path.{sym, ap, ◌∙◌}
 use Rattle.std.specs.Prelude.{Err}
 use Rattle.std.proofs.lemmas.Result.{err_from_is_err_and}
 use Rattle.refusals.specs.Refusals.{number}
-use Rattle.model_definitions.specs.Definitions.{definitions}
-use Rattle.layout.specs.Reading.{reading}
 use Rattle.listing.specs.Listing as Listing
 use Rattle.listing.specs.Listing.{all_records, walked}
 use Rattle.listing.specs.Finding.{finding_in, finding, result}
 use Rattle.listing.specs.CodeTypes.{to_spec_finding}
-use Rattle.listing.specs.InternalContracts.{IsListed}
 use Rattle.listing.proofs.CheckedPlants.{records_walked}
-use Rattle.listing.proofs.ResultCases.{result_listed, result_refused}
+use Rattle.listing.proofs.ResultCases.{result_refused}
 use Rattle.listing.proofs.search.find.Goals as goal
 
 pub returns-in_err-plant : goal.returns-in_err-plant
@@ -39,12 +36,6 @@ returns-in_err-survey_map c =
     ap to_spec_finding out.1
     ∙ ap (λ e. to_spec_finding (Err e)) out.2
     ∙ sym (ap (λ a. result (finding_in v.model v.point v.path.instances a)) refused)
-
-pub search_map-requires : goal.search_map-requires
-search_map-requires c =
-    let plant = c.in_ok-plant.plant in
-    let a = walked (reading (definitions plant.catalog.words.now)) plant.map.now in
-    subst IsListed (sym (result_listed a _ _ c.in_ok-survey_map.ensures).is) tt
 
 pub returns : goal.returns
 unfolding finding

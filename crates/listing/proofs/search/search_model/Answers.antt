@@ -5,7 +5,7 @@ use Prim.Native.Nat.{ℕ}
 use native.Mathlib.Omega.{arith}
 use lib.ListN.{length}
 use Rattle.std.proofs.Common.{rules}
-use Rattle.std.specs.Prelude.{Ok}
+use Rattle.std.specs.Prelude.{None, Ok}
 use Rattle.lists.specs.Tests.{first_with}
 use Rattle.layout.specs.Points.{ModelPoint}
 use Rattle.layout.specs.Paths.{is_point}
@@ -24,15 +24,16 @@ nothing_found : (number : ℕ) (path : List ℕ) (at : ℕ) {ps : List ModelPoin
 unfolding first_with
 nothing_found number path at e = sym (ap (λ qs. result_at at (first_with (is_point number path) qs)) e)
 
-pub returns-in-Ok-None : goal.returns-in-Ok-None
-returns-in-Ok-None c =
+pub returns-in_default : goal.returns-in_default
+returns-in_default c =
+    let unknown : c.in_default.field-0 ≡ None = cc in
     let read = read_in c.args.catalog.now.words.now c.args.id c.args.body.now in
-    nothing_found c.args.key.number c.args.key.path.instances c.args.at (no_points_unknown read (rw c.in-Ok-None.field-0-is at c.in-Ok-None.ensures).result_value)
+    nothing_found c.args.key.number c.args.key.path.instances c.args.at (no_points_unknown read (rw (c.in_default.is, unknown) at c.survey_model.ensures.result_value))
 
-pub returns-in-Err : goal.returns-in-Err
-returns-in-Err c =
+pub returns-in_default-2 : goal.returns-in_default-2
+returns-in_default-2 c =
     let read = read_in c.args.catalog.now.words.now c.args.id c.args.body.now in
-    nothing_found c.args.key.number c.args.key.path.instances c.args.at (no_points_refused read c.in-Err.ensures.result_value)
+    nothing_found c.args.key.number c.args.key.path.instances c.args.at (no_points_refused read (rw c.in_default.is at c.survey_model.ensures.result_value))
 
 pub locate_model-requires : goal.locate_model-requires
 locate_model-requires c =
@@ -50,25 +51,25 @@ target_at-requires c =
     let has = has_points (read_in c.args.catalog.now.words.now c.args.id c.args.body.now) survey.result_value in
     let short = c.requires.0 in
     let found = model.one_found (accepted_of _ c.args.catalog.now.accepted) survey.ready_by words has short c.args.key.number c.args.key.path.instances
-    three c.args.at (sym c.in_ok-location-in-Ok-Some.ensures) in
+    three c.args.at (sym c.in_ok-location.ensures) in
     (c.requires.1, omega (arith, found.0, short))
 
-pub returns-in_ok-location-in-Ok-Some : goal.returns-in_ok-location-in-Ok-Some
-returns-in_ok-location-in-Ok-Some c =
+pub returns : goal.returns
+returns c =
     let words = c.args.catalog.now.sixteen_bits in
     let three : length c.args.key.path.instances ≡ 3 = search rules in
     let survey = rw c.in-Ok-Some.field-0-is at c.in-Ok-Some.ensures in
     let has = has_points (read_in c.args.catalog.now.words.now c.args.id c.args.body.now) survey.result_value in
     let found = model.one_found (accepted_of _ c.args.catalog.now.accepted) survey.ready_by words has c.requires.0 c.args.key.number
-    c.args.key.path.instances three c.args.at (sym c.in_ok-location-in-Ok-Some.ensures) in
+    c.args.key.path.instances three c.args.at (sym c.in_ok-location.ensures) in
     ap found_result c.target_at.ensures ∙ found.1
 
-pub returns-in_err-location-in-Ok-Some : goal.returns-in_err-location-in-Ok-Some
-returns-in_err-location-in-Ok-Some c =
+pub returns-in_err-location : goal.returns-in_err-location
+returns-in_err-location c =
     let words = c.args.catalog.now.sixteen_bits in
     let three : length c.args.key.path.instances ≡ 3 = search rules in
     let survey = rw c.in-Ok-Some.field-0-is at c.in-Ok-Some.ensures in
     let has = has_points (read_in c.args.catalog.now.words.now c.args.id c.args.body.now) survey.result_value in
     ap (λ o. to_spec_finding (Ok o)) c.from_residual.ensures
     ∙ model.none_found (accepted_of _ c.args.catalog.now.accepted) survey.ready_by words has c.requires.0 c.args.key.number
-    c.args.key.path.instances three c.args.at (sym c.in_err-location-in-Ok-Some.ensures)
+    c.args.key.path.instances three c.args.at (sym c.in_err-location.ensures)
