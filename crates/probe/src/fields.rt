@@ -77,7 +77,7 @@ impl<'a> Fields<'a> {
         Some(words)
     }
 
-    // The same for bytes of two digits each.
+    // The same for bytes of two digits each. (One function for both got no proof: a bound `Fn(&[u8; N])` is not covered.)
     pub(crate) fn bytes<'b>(&mut self, out: &'b mut [u8]) -> Option<&'b mut [u8]> {
         let chunks = self.chunks::<2>()?;
         let bytes = out.get_mut(..chunks.len())?;
