@@ -45,7 +45,7 @@ pub struct Listed {
     pub headers: usize,
 }
 
-// What `list` returns else: the refusal, its place, and the number of headers before the refused one, with 30 all of them.
+// What `list` returns otherwise: the refusal, its place, and the number of headers before the refused one, with 30 all of them.
 #[derive(Clone, Copy, Debug, PartialEq, Eq)]
 pub struct NotListed {
     pub refusal: Refusal,
@@ -53,13 +53,11 @@ pub struct NotListed {
     pub headers: usize,
 }
 
+// As in `5 at 3 headers 0`.
 impl fmt::Display for NotListed {
     fn fmt<W: fmt::Write>(&self, f: &mut fmt::Formatter<W>) -> fmt::Result {
-        write!(
-            f,
-            "{} at {}, after {} headers",
-            self.refusal, self.place, self.headers
-        )
+        let refused = Refused::from(*self);
+        write!(f, "{refused} headers {}", self.headers)
     }
 }
 

@@ -9,7 +9,7 @@ pub(crate) fn run(results: &mut Results, mut fields: Fields) -> Option<()> {
     fields.end()?;
     match catalog::check(catalog) {
         Ok(models) => results.print(format_args!("models {models}")),
-        Err(refused) => results.refused_at(refused),
+        Err(refused) => results.refused(refused),
     }
     Some(())
 }

@@ -26,10 +26,7 @@ pub(crate) fn run(results: &mut Results, mut fields: Fields) -> Option<()> {
                 }
             }
         }
-        Err(not_listed) => {
-            results.refused_at(not_listed.into());
-            results.print(format_args!(" headers {}", not_listed.headers));
-        }
+        Err(not_listed) => results.refused(not_listed),
     }
     Some(())
 }

@@ -1,5 +1,4 @@
 // The parts of a result line, written to standard output.
-use refusals::{Refusal, Refused};
 use std::fmt::Display;
 use std::io::Stdout;
 use std::{fmt, io};
@@ -39,15 +38,9 @@ impl Results {
         }
     }
 
-    // Writes a refusal without a place,
-    pub(crate) fn refused(&mut self, refusal: Refusal) {
-        self.print(format_args!("refused {}", refusal.number()));
-    }
-
-    // and with a place.
-    pub(crate) fn refused_at(&mut self, refused: Refused) {
-        self.refused(refused.refusal);
-        self.print(format_args!(" at {}", refused.place));
+    // Writes a refusal, with its place and headers where it has them.
+    pub(crate) fn refused<D: Display + Drop>(&mut self, refusal: D) {
+        self.print(format_args!("refused {refusal}"));
     }
 }
 

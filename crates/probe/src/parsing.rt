@@ -22,7 +22,7 @@ pub(crate) fn run(results: &mut Results, mut fields: Fields) -> Option<()> {
             let map = Words(&map[..registers]);
             results.print(format_args!("parsed {catalog} {map}"));
         }
-        Err(refused) => results.refused_at(refused),
+        Err(refused) => results.refused(refused),
     }
     Some(())
 }

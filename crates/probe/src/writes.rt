@@ -20,7 +20,7 @@ pub(crate) fn run(results: &mut Results, mut fields: Fields) -> Option<()> {
             let map = Words(map);
             results.print(format_args!("written {map}"));
         }
-        Err(refused) => results.refused_at(refused),
+        Err(refused) => results.refused(refused),
     }
     Some(())
 }

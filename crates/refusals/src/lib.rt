@@ -1,5 +1,5 @@
-// The refusals: what a call says of arguments that it does not take, by the numbers of document 01. Every call that can refuse
-// returns a `Result` whose error is one of these types, or `listing::NotListed`.
+// The refusals: what a call says of arguments that it does not take, by the numbers of document 01. A public call that can
+// refuse returns a `Result` whose error is one of these types, or `listing::NotListed`.
 #![tactic(auto)]
 
 ghost use Rattle.std.specs.Prelude.{◌≡◌};
@@ -60,9 +60,10 @@ impl Refusal {
     }
 }
 
+// Its number.
 impl fmt::Display for Refusal {
     fn fmt<W: fmt::Write>(&self, f: &mut fmt::Formatter<W>) -> fmt::Result {
-        write!(f, "refusal {}", self.number())
+        write!(f, "{}", self.number())
     }
 }
 
@@ -84,6 +85,7 @@ impl From<Refusal> for Refused {
     }
 }
 
+// As in `5 at 3`.
 impl fmt::Display for Refused {
     fn fmt<W: fmt::Write>(&self, f: &mut fmt::Formatter<W>) -> fmt::Result {
         write!(f, "{} at {}", self.refusal, self.place)
