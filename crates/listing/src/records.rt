@@ -17,7 +17,7 @@ use crate::checked::CheckedCatalog;
 use crate::surveys::Survey;
 use catalog::Point;
 use definition_frames::{after_group, group_at, point_at};
-use group_instances::{InstancePath, LOWER_LEVELS, count_of, record_run, with_number};
+use group_instances::{InstancePath, LOWER_LEVELS, count_of, record_run};
 use register_map::body_address;
 use registers::part;
 use shown_points::show;
@@ -139,7 +139,7 @@ impl Model<'_> {
         while let Some(head) = group_at(self.catalog, at.frame) {
             let frame = at.frame;
             for j in 0..count_of(table, head, self.fill) {
-                let within = with_number(path, LOWER_LEVELS - levels, j as u16);
+                let within = path.with_number(LOWER_LEVELS - levels, j as u16);
                 let own = self.put_own(table, out, within, Progress { frame, ..at });
                 at = self.put_groups(table, out, levels - 1, within, own);
             }
