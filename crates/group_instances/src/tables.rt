@@ -33,7 +33,7 @@ pub fn record_run(catalog: &[u16], first: usize, body: &[u16], offset: usize, ta
 fn set_entry(table: &mut [u16], number: u16, register: u16)
     ensures { table.new ≡ set table.old number register }
 {
-    let place = number as usize;
+    let place = usize::from(number);
     if place < table.len() {
         table[place] = register;
     }
@@ -43,5 +43,5 @@ fn set_entry(table: &mut [u16], number: u16, register: u16)
 pub(crate) fn entry_of(table: &[u16], number: u16) -> u16
     ensures { result ≡ get_or table.now number 0 }
 {
-    table.get(number as usize).copied().unwrap_or(0)
+    table.get(usize::from(number)).copied().unwrap_or(0)
 }
