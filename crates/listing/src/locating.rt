@@ -14,7 +14,7 @@ ghost use Rattle.listing.specs.InternalContracts.{ModelAsks, located_within, Loc
 use crate::Table;
 use crate::extents::groups_extent;
 use catalog::{Head, Point};
-use definition_frames::{group_at, point_at, run_extent};
+use definition_frames::{group_at, points_from, run_extent};
 use group_instances::{InstancePath, LOWER_LEVELS, count_of};
 
 // The search key: a point's number and its instance path.
@@ -154,19 +154,15 @@ impl Search<'_> {
         requires limit_bound { limit ≤ 65536 }
         ensures { to_spec_located result ≡ located_among self.now.key.number start.offset (present_within limit start.offset (content_from self.now.catalog.now start.frame).points) }
     {
-        let mut at = start;
-        while at.offset < limit {
-            let point = point_at(self.catalog, at.frame)?;
-            if point.number == self.key.number {
-                return Some(Location {
-                    offset: at.offset,
-                    point,
-                });
+        let mut offset = start.offset;
+        for point in points_from(self.catalog, start.frame) {
+            if limit <= offset {
+                return None;
             }
-            at = Position {
-                frame: at.frame + 1,
-                offset: at.offset + point.size as usize,
-            };
+            if point.number == self.key.number {
+                return Some(Location { offset, point });
+            }
+            offset += usize::from(point.size);
         }
         None
     }
