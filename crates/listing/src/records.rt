@@ -16,7 +16,7 @@ use crate::Table;
 use crate::checked::CheckedCatalog;
 use crate::surveys::Survey;
 use catalog::Point;
-use definition_frames::{after_group, group_at, point_at};
+use definition_frames::{after_group, group_at, points_from};
 use group_instances::{InstancePath, LOWER_LEVELS, count_of, record_run};
 use register_map::body_address;
 use registers::part;
@@ -106,14 +106,14 @@ impl Model<'_> {
         ensures out_after { out.new ≡ written self.now.visit start.records (points_at self.now.body.now (instance_in table.now path.instances) start.offset (present_points self.now.catalog.now self.now.body.now start.offset start.frame)) out.old }
     {
         let mut at = start;
-        while at.offset < self.body.len() {
-            let Some(point) = point_at(self.catalog, at.frame) else {
+        for point in points_from(self.catalog, start.frame) {
+            if self.body.len() <= at.offset {
                 return at;
-            };
+            }
             self.put_record(table, out, path, at, point);
             at = Progress {
                 records: at.records + 1,
-                offset: at.offset + point.size as usize,
+                offset: at.offset + usize::from(point.size),
                 frame: at.frame + 1,
             };
         }
