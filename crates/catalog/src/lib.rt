@@ -20,7 +20,7 @@ use refusals::{Refusal, Refused};
 use tracking::Tracking;
 
 // The largest number of frames in a catalog.
-const FRAMES: usize = 4096;
+pub const FRAMES: usize = 4096;
 
 // Checks a catalog: 1 and 2 first, then frame by frame. Gives the number of models, or a refusal (1 to 11) and its
 // place: the index of the frame, the number of frames for 11, and 0 for 1 and 2.

@@ -2,22 +2,24 @@
 use mathlib.Core.Path.{◌≡◌, refl, sym, ap, ◌∙◌}
 use mathlib.Core.Bool.{Bool, false}
 use mathlib.Core.List.{List, [], ◌∷◌}
-use mathlib.Core.Option.{none, some}
-use Prim.Native.Nat.{ℕ, suc, ◌+◌, ◌-◌, ◌*◌, ◌/◌, ◌≤◌, ◌<◌}
+use Prim.Native.Nat.{ℕ, zero, suc, max, ◌+◌, ◌-◌, ◌*◌, ◌/◌, ◌≤◌, ◌<◌}
 use native.Mathlib.Omega.{arith}
 use lib.Dec.{eqb}
 use lib.ListN.{length, take}
-use lib.Seq.{take_all, take-nil}
-use Rattle.catalog_frames.specs.Frames.{Point, pad, frame_in}
+use lib.Seq.{take_all}
+use Rattle.catalog_frames.specs.Frames.{Point, Frame, model_frame, group_frame, point_frame, end_frame, malformed, pad}
 use Rattle.catalog.specs.Rules.{run}
 use Rattle.model_definitions.specs.Definitions.{points_size}
 use Rattle.layout.specs.Reading.{ends_with_pad}
-use Rattle.layout.specs.FrameWalk.{onward, point_of}
+use Rattle.layout.specs.FrameWalk.{onward}
 use Rattle.layout.specs.InternalWalks.{content_from, ParsesAt}
 use Rattle.definition_frames.specs.CodeTypes.{RunOf, PointRun, to_spec_run, run_of}
 use Rattle.definition_frames.specs.declared.runs.Run.{Run}
-use Rattle.layout.proofs.FramePosition.{past_end_within}
+use Rattle.layout.proofs.FramePosition.{length_onward, past_end_within}
 use Rattle.layout.proofs.FrameRuns.{run_more, run_ends, run_content}
+
+-- A point frame gives the first point of the run; any other frame ends it.
+pub ruleset run_steps = (run_more, run_ends)
 
 -- A run part by part is one equation.
 to_spec_run_lem : {ps : List Point} {first : ℕ} {r : Run} → RunOf ps first r → to_spec_run r ≡ run_of ps first
@@ -48,63 +50,78 @@ pub record RunFrom (all left : List Point) (size points : ℕ) (before : Bool) :
   pub padded : last_is_pad before left ≡ ends_with_pad all
   pub bounded : size ≤ points * 65535
 
--- What is counted of the first 4,096 points of the run from frame `first` on.
-abbrev pub Counted : List ℕ → ℕ → ℕ → ℕ → Bool → Type 0
-Counted ws first size points before =
-    RunFrom (take 4096 (run (onward ws first))) (take (4096 - points) (run (onward ws (first + points)))) size points before
+-- A run has no more points than there are frames.
+run_within : (fs : List Frame) → length (run fs) ≤ length fs
+run_within [] = omega arith
+run_within (model_frame id ∷ fs) = omega arith
+run_within (group_frame h ∷ fs) = omega arith
+run_within (point_frame p ∷ fs) = omega (arith, run_within fs)
+run_within (end_frame ∷ fs) = omega arith
+run_within (malformed ∷ fs) = omega arith
 
--- At the start no point is counted.
-pub counts_none : (ws : List ℕ) (first : ℕ) → Counted ws first 0 0 false
-counts_none ws first =
-    let all : List Point = take 4096 (run (onward ws first)) in
-    let start : first + 0 ≡ first = omega arith in
-    rw start (record { sizes = omega arith; counted = omega arith; padded = pad_none all; bounded = omega arith })
+-- What is counted of the first 4,096 points of the run from frame `first` on, where `room` of the points `rest` are still to be
+-- counted.
+pub record Counted (ws : List ℕ) (first : ℕ) (r : Run) (room : ℕ) (rest : List Point) : Type 0 where
+  pub from : RunFrom (take 4096 (run (onward ws first))) (take room rest) r.size r.points r.ends_with_pad
+  pub next : r.next ≡ first + r.points
+  pub within : r.next + length rest ≤ max first (length ws / 8)
+  pub few : r.points + room ≡ 4096
 
-module _ (ws : List ℕ) (first size points : ℕ) (before : Bool) (x : Counted ws first size points before) where
-  -- The points that are left where the next frame is a point frame.
-  one_left : (p : Point) → points < 4096 → run (onward ws (first + points)) ≡ p ∷ run (onward ws (first + points + 1))
-      → take (4096 - points) (run (onward ws (first + points))) ≡ p ∷ take (4096 - (points + 1)) (run (onward ws (first + (points + 1))))
-  one_left p few e =
-      let one : 4096 - points ≡ suc (4096 - (points + 1)) = omega arith in
-      let next : first + points + 1 ≡ first + (points + 1) = omega arith in
-      rw (e, one, next)
+module _ (ws : List ℕ) (first : ℕ) where
+  -- At the start no point is counted.
+  pub counts_none : (room : ℕ) (rest : List Point) → room ≡ 4096 → rest ≡ run (onward ws first)
+      → Counted ws first (record { size = 0; points = 0; next = first; ends_with_pad = false }) room rest
+  counts_none room rest e same =
+      let all : List Point = take 4096 (run (onward ws first)) in
+      let w = run_within (onward ws first) in
+      let n = length_onward ws first in
+      rw (e, same) (record {
+        from = record { sizes = omega arith; counted = omega arith; padded = pad_none all; bounded = omega arith };
+        next = omega arith;
+        within = omega (arith, w, n);
+        few = omega arith;
+      })
 
-  -- The next frame is a point frame: it is in the catalog, and its point is counted.
-  pub counts_point : (p : Point) → some p ≡ point_of (frame_in ws (first + points)) → points < 4096 → p.size ≤ 65535
-      → (first + points < length ws / 8) × Counted ws first (size + p.size) (points + 1) (eqb p.type_code pad)
-  counts_point p e few b =
-      let more = run_more ws (first + points) p (sym e) in
-      let left = one_left p few more.1 in
+  -- One more point is counted.
+  pub counts_point : (r : Run) (room room' : ℕ) (rest rest' : List Point) (p : Point) → Counted ws first r room rest
+      → rest ≡ p ∷ rest' → room' + 1 ≡ room → p.size ≤ 65535
+      → Counted ws first (record { size = r.size + p.size; points = r.points + 1; next = r.next + 1; ends_with_pad = eqb p.type_code pad })
+      room' rest'
+  counts_point r room room' rest rest' p x e n b =
+      let one : room ≡ suc room' = omega (arith, n) in
+      let left : take room rest ≡ p ∷ take room' rest' = rw (e, one) in
       let s = ap points_size left in
-      let l = ap length left in (
-        more.0,
-        record {
-          sizes = omega (arith, s, x.sizes);
-          counted = omega (arith, l, x.counted);
-          padded = pad_next before p _ ∙ sym (ap (last_is_pad before) left) ∙ x.padded;
-          bounded = omega (arith, b, x.bounded);
-        },
-      )
+      let l = ap length left in
+      let k = ap length e in
+      record {
+        from = record {
+          sizes = omega (arith, s, x.from.sizes);
+          counted = omega (arith, l, x.from.counted);
+          padded = pad_next r.ends_with_pad p _ ∙ sym (ap (last_is_pad r.ends_with_pad) left) ∙ x.from.padded;
+          bounded = omega (arith, b, x.from.bounded);
+        };
+        next = omega (arith, x.next);
+        within = omega (arith, k, x.within);
+        few = omega (arith, n, x.few);
+      }
 
   -- No point is left.
-  counts_ends : take (4096 - points) (run (onward ws (first + points))) ≡ []
-      → to_spec_run (record { size = size; points = points; next = first + points; ends_with_pad = before })
-      ≡ run_of (take 4096 (run (onward ws first))) first
-  counts_ends e =
+  pub counts_end : (r : Run) (room : ℕ) (rest : List Point) → Counted ws first r room rest → (0 < room → rest ≡ [])
+      → to_spec_run r ≡ run_of (take 4096 (run (onward ws first))) first
+  counts_end r room rest x none_left =
+      let e : take room rest ≡ [] = go room none_left in
       let s = ap points_size e in
       let l = ap length e in
       to_spec_run_lem (record {
-        size = omega (arith, s, x.sizes);
-        points = omega (arith, l, x.counted);
-        next = omega (arith, l, x.counted);
-        pad = sym (ap (last_is_pad before) e) ∙ x.padded;
+        size = omega (arith, s, x.from.sizes);
+        points = omega (arith, l, x.from.counted);
+        next = omega (arith, l, x.from.counted, x.next);
+        pad = sym (ap (last_is_pad r.ends_with_pad) e) ∙ x.from.padded;
       })
-
-  -- The next frame is no point frame.
-  pub counts_all : none ≡ point_of (frame_in ws (first + points))
-      → to_spec_run (record { size = size; points = points; next = first + points; ends_with_pad = before })
-      ≡ run_of (take 4096 (run (onward ws first))) first
-  counts_all e = counts_ends (ap (take (4096 - points)) (run_ends ws (first + points) (sym e)) ∙ take-nil (4096 - points))
+    where
+      go : (n : ℕ) → (0 < n → rest ≡ []) → take n rest ≡ []
+      go zero h = refl
+      go (suc n) h = ap (take (suc n)) (h (omega arith))
 
 -- In a catalog of at most 4,096 frames, where a group is open, the run is the rest of its points.
 run_whole : (ws : List ℕ) (i : ℕ) → ParsesAt ws i → length ws / 8 ≤ 4096

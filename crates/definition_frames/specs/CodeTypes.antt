@@ -8,6 +8,9 @@ use Rattle.model_definitions.specs.Definitions.{points_size}
 use Rattle.layout.specs.Reading.{ends_with_pad}
 use Rattle.catalog_frames.specs.declared.Point.{Point}
 use Rattle.catalog_frames.specs.declared.Head.{Head}
+use Rattle.catalog.specs.Rules.{run}
+use Rattle.layout.specs.FrameWalk.{onward}
+use Rattle.definition_frames.specs.declared.points.Points.{Points}
 use Rattle.definition_frames.specs.declared.runs.Run.{Run}
 
 -- What `point_at` returns: the point of a point frame; none for any other frame.
@@ -19,6 +22,10 @@ to_spec_point_or None = none
 abbrev pub to_spec_group_or : Code.Option Head → Option Frames.Head
 to_spec_group_or (Some h) = some (to_spec_head h)
 to_spec_group_or None = none
+
+-- The points that `Points` has still to give.
+abbrev pub points_left : Points → List Frames.Point
+points_left s = run (onward s.catalog.now s.frame)
 
 -- A run of points: its registers, its number of points, the frame after it, and whether its last point is a pad.
 pub record PointRun : Type 0 where

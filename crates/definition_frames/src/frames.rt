@@ -11,10 +11,9 @@ use catalog_frames::FRAME_WORDS;
 pub fn point_at(catalog: &[u16], i: usize) -> Option<Point>
     ensures { to_spec_point_or result ≡ point_of (frame_in catalog.now i) }
 {
-    if let Some(Frame::Point(point)) = read_frame(catalog, i) {
-        Some(point)
-    } else {
-        None
+    match read_frame(catalog, i)? {
+        Frame::Point(point) => Some(point),
+        _ => None,
     }
 }
 
@@ -22,10 +21,9 @@ pub fn point_at(catalog: &[u16], i: usize) -> Option<Point>
 pub fn group_at(catalog: &[u16], i: usize) -> Option<Head>
     ensures { to_spec_group_or result ≡ head_of (frame_in catalog.now i) }
 {
-    if let Some(Frame::Group(head)) = read_frame(catalog, i) {
-        Some(head)
-    } else {
-        None
+    match read_frame(catalog, i)? {
+        Frame::Group(head) => Some(head),
+        _ => None,
     }
 }
 

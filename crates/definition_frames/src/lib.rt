@@ -3,7 +3,9 @@
 #![tactic(auto)]
 
 mod frames;
+mod points;
 mod runs;
 
 pub use frames::{after_group, group_at, point_at};
+pub use points::{Points, points_from};
 pub use runs::{Run, is_pad_left_out, run_extent};

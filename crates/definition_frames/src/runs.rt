@@ -5,11 +5,9 @@ ghost use Rattle.catalog.specs.Rules.{run};
 ghost use Rattle.layout.specs.FrameWalk.{head_of, onward};
 ghost use Rattle.definition_frames.specs.CodeTypes.{lacks_pad, to_spec_run, run_of};
 
-use crate::frames::{group_at, point_at};
-use catalog::PAD;
-
-// The maximum number of frames in a catalog.
-const FRAMES: usize = 4096;
+use crate::frames::group_at;
+use crate::points::points_from;
+use catalog::{FRAMES, PAD};
 
 // A run of points: its registers, its number of points, the frame after it, and whether its last point is a pad.
 #[derive(Clone, Copy, Debug, PartialEq, Eq)]
@@ -24,27 +22,21 @@ pub struct Run {
 pub fn run_extent(catalog: &[u16], first: usize) -> Run
     ensures { to_spec_run result ≡ run_of (take 4096 (run (onward catalog.now first))) first }
 {
-    let mut size = 0;
-    let mut ends_with_pad = false;
-    for points in 0..FRAMES {
-        let next = first + points;
-        let Some(point) = point_at(catalog, next) else {
-            return Run {
-                size,
-                points,
-                next,
-                ends_with_pad,
-            };
+    let mut run = Run {
+        size: 0,
+        points: 0,
+        next: first,
+        ends_with_pad: false,
+    };
+    for point in points_from(catalog, first).take(FRAMES) {
+        run = Run {
+            size: run.size + usize::from(point.size),
+            points: run.points + 1,
+            next: run.next + 1,
+            ends_with_pad: point.type_code == PAD,
         };
-        size += point.size as usize;
-        ends_with_pad = point.type_code == PAD;
     }
-    Run {
-        size,
-        points: FRAMES,
-        next: first + FRAMES,
-        ends_with_pad,
-    }
+    run
 }
 
 // Is the last pad of a model left out? `run` is its top points. Only in model 1 without groups, where `length` is one

@@ -15,8 +15,8 @@ pub fn count_of(table: &[u16], head: Head, fill: usize) -> usize
     ensures upper_bound { result ≤ max fill 65535 }
 {
     match head.count_kind {
-        CONSTANT_COUNT => head.count as usize,
-        COUNT_BY_POINT => entry_of(table, head.count) as usize,
+        CONSTANT_COUNT => usize::from(head.count),
+        COUNT_BY_POINT => usize::from(entry_of(table, head.count)),
         _ => fill,
     }
 }

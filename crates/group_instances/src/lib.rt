@@ -7,5 +7,5 @@ mod paths;
 mod tables;
 
 pub use counts::{count_of, fill_count, is_unimplemented};
-pub use paths::{InstancePath, LOWER_LEVELS, is_zero_from, number_at, with_number};
+pub use paths::{InstancePath, LOWER_LEVELS};
 pub use tables::{NUMBERS, record_run};

@@ -11,26 +11,28 @@ pub struct InstancePath {
     pub instances: [u16; LOWER_LEVELS],
 }
 
-// The instance number of `path` at `place`: places 0, 1 and 2 are levels 2, 3 and 4. 0 at any other place.
-pub fn number_at(path: InstancePath, place: usize) -> usize
-    ensures { result ≡ get_or path.instances place 0 }
-{
-    path.instances.get(place).copied().unwrap_or(0) as usize
-}
-
-// The path with `number` at `place`. The same path where it has no such place.
-pub fn with_number(mut path: InstancePath, place: usize, number: u16) -> InstancePath
-    ensures { result.instances ≡ set path.instances place number }
-{
-    if place < LOWER_LEVELS {
-        path.instances[place] = number;
+impl InstancePath {
+    // The instance number at `place`: places 0, 1 and 2 are levels 2, 3 and 4. 0 at any other place.
+    pub fn number_at(self, place: usize) -> usize
+        ensures { result ≡ get_or self.instances place 0 }
+    {
+        self.instances.get(place).copied().map_or(0, usize::from)
     }
-    path
-}
 
-// Are all numbers of `path` from `place` on 0?
-pub fn is_zero_from(path: InstancePath, place: usize) -> bool
-    ensures { result ≡ Registers.all_zero (drop place path.instances) }
-{
-    path.instances.iter().skip(place).all(|number| *number == 0)
+    // The path with `number` at `place`. The same path where it has no such place.
+    pub fn with_number(mut self, place: usize, number: u16) -> InstancePath
+        ensures { result.instances ≡ set self.instances place number }
+    {
+        if place < LOWER_LEVELS {
+            self.instances[place] = number;
+        }
+        self
+    }
+
+    // Are all numbers from `place` on 0?
+    pub fn is_zero_from(self, place: usize) -> bool
+        ensures { result ≡ Registers.all_zero (drop place self.instances) }
+    {
+        self.instances.iter().skip(place).all(|number| *number == 0)
+    }
 }

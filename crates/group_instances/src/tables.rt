@@ -5,8 +5,7 @@ ghost use Rattle.catalog.specs.Rules.{run};
 ghost use Rattle.layout.specs.FrameWalk.{onward};
 ghost use Rattle.layout.specs.PointTables.{table_with, present_within};
 
-use catalog_frames::FRAME_WORDS;
-use definition_frames::point_at;
+use definition_frames::points_from;
 
 // The length of a table with an entry for each number: a number is 16 bits.
 pub const NUMBERS: usize = 65536;
@@ -21,12 +20,12 @@ pub fn record_run(catalog: &[u16], first: usize, body: &[u16], offset: usize, ta
         (present_within (length body.now) offset (run (onward catalog.now first))) table.old }
 {
     let mut at = offset;
-    for i in first..catalog.len() / FRAME_WORDS {
-        let (Some(register), Some(point)) = (body.get(at), point_at(catalog, i)) else {
+    for point in points_from(catalog, first) {
+        let Some(register) = body.get(at) else {
             return;
         };
         set_entry(table, point.number, *register);
-        at += point.size as usize;
+        at += usize::from(point.size);
     }
 }
 
@@ -34,7 +33,7 @@ pub fn record_run(catalog: &[u16], first: usize, body: &[u16], offset: usize, ta
 fn set_entry(table: &mut [u16], number: u16, register: u16)
     ensures { table.new ≡ set table.old number register }
 {
-    let place = number as usize;
+    let place = usize::from(number);
     if place < table.len() {
         table[place] = register;
     }
@@ -44,5 +43,5 @@ fn set_entry(table: &mut [u16], number: u16, register: u16)
 pub(crate) fn entry_of(table: &[u16], number: u16) -> u16
     ensures { result ≡ get_or table.now number 0 }
 {
-    table.get(number as usize).copied().unwrap_or(0)
+    table.get(usize::from(number)).copied().unwrap_or(0)
 }

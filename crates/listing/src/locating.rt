@@ -14,8 +14,8 @@ ghost use Rattle.listing.specs.InternalContracts.{ModelAsks, located_within, Loc
 use crate::Table;
 use crate::extents::groups_extent;
 use catalog::{Head, Point};
-use definition_frames::{group_at, point_at, run_extent};
-use group_instances::{InstancePath, LOWER_LEVELS, count_of, is_zero_from, number_at};
+use definition_frames::{group_at, points_from, run_extent};
+use group_instances::{InstancePath, LOWER_LEVELS, count_of};
 
 // The search key: a point's number and its instance path.
 #[derive(Clone, Copy)]
@@ -89,7 +89,7 @@ impl Search<'_> {
         let mut at = start;
         while let Some(head) = group_at(self.catalog, at.frame) {
             let shape = self.shape_of(levels, at.frame, head);
-            let j = number_at(self.key.path, LOWER_LEVELS - levels);
+            let j = self.key.path.number_at(LOWER_LEVELS - levels);
             if j < shape.count {
                 let own = Position {
                     frame: at.frame + 1,
@@ -141,7 +141,7 @@ impl Search<'_> {
         requires limit_bound { (limit ≤ 65536) × (levels ≤ 3) }
         ensures { to_spec_located result ≡ located_own self.now.key.number self.now.key.path.instances (4 - levels) start.offset (present_within limit start.offset (content_from self.now.catalog.now start.frame).points) }
     {
-        if !is_zero_from(self.key.path, LOWER_LEVELS - levels) {
+        if !self.key.path.is_zero_from(LOWER_LEVELS - levels) {
             return None;
         }
         self.locate_run(start, limit)
@@ -154,19 +154,15 @@ impl Search<'_> {
         requires limit_bound { limit ≤ 65536 }
         ensures { to_spec_located result ≡ located_among self.now.key.number start.offset (present_within limit start.offset (content_from self.now.catalog.now start.frame).points) }
     {
-        let mut at = start;
-        while at.offset < limit {
-            let point = point_at(self.catalog, at.frame)?;
-            if point.number == self.key.number {
-                return Some(Location {
-                    offset: at.offset,
-                    point,
-                });
+        let mut offset = start.offset;
+        for point in points_from(self.catalog, start.frame) {
+            if limit <= offset {
+                return None;
             }
-            at = Position {
-                frame: at.frame + 1,
-                offset: at.offset + point.size as usize,
-            };
+            if point.number == self.key.number {
+                return Some(Location { offset, point });
+            }
+            offset += usize::from(point.size);
         }
         None
     }

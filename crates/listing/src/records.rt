@@ -16,8 +16,8 @@ use crate::Table;
 use crate::checked::CheckedCatalog;
 use crate::surveys::Survey;
 use catalog::Point;
-use definition_frames::{after_group, group_at, point_at};
-use group_instances::{InstancePath, LOWER_LEVELS, count_of, record_run, with_number};
+use definition_frames::{after_group, group_at, points_from};
+use group_instances::{InstancePath, LOWER_LEVELS, count_of, record_run};
 use register_map::body_address;
 use registers::part;
 use shown_points::show;
@@ -106,14 +106,14 @@ impl Model<'_> {
         ensures out_after { out.new ≡ written self.now.visit start.records (points_at self.now.body.now (instance_in table.now path.instances) start.offset (present_points self.now.catalog.now self.now.body.now start.offset start.frame)) out.old }
     {
         let mut at = start;
-        while at.offset < self.body.len() {
-            let Some(point) = point_at(self.catalog, at.frame) else {
+        for point in points_from(self.catalog, start.frame) {
+            if self.body.len() <= at.offset {
                 return at;
-            };
+            }
             self.put_record(table, out, path, at, point);
             at = Progress {
                 records: at.records + 1,
-                offset: at.offset + point.size as usize,
+                offset: at.offset + usize::from(point.size),
                 frame: at.frame + 1,
             };
         }
@@ -139,7 +139,7 @@ impl Model<'_> {
         while let Some(head) = group_at(self.catalog, at.frame) {
             let frame = at.frame;
             for j in 0..count_of(table, head, self.fill) {
-                let within = with_number(path, LOWER_LEVELS - levels, j as u16);
+                let within = path.with_number(LOWER_LEVELS - levels, j as u16);
                 let own = self.put_own(table, out, within, Progress { frame, ..at });
                 at = self.put_groups(table, out, levels - 1, within, own);
             }

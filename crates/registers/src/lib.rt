@@ -27,18 +27,12 @@ pub fn all_zero(registers: &[u16]) -> bool
     registers.iter().all(|register| *register == 0)
 }
 
-// The `count` registers from `start` on, or fewer if the list ends before. The code compares `count` with the
-// number of registers left, since start + count could be more than a usize holds.
+// The `count` registers from `start` on, or fewer if the list ends before.
 pub fn part<'a>(registers: &'a [u16], start: usize, count: usize) -> &'a [u16]
     ensures { result.now ≡ take count (drop start registers.now) }
 {
-    if registers.len() < start {
-        return &registers[..0];
-    }
-    if registers.len() - start <= count {
-        return &registers[start..];
-    }
-    &registers[start..start + count]
+    let rest = registers.get(start..).unwrap_or_default();
+    &rest[..count.min(rest.len())]
 }
 
 // Is the raw value too wide for `count` registers?

@@ -1,11 +1,11 @@
 -- `listing::records::Model::put_run` meets its contract: writing the remaining points gives what writing all gives.
-use Prim.Native.Nat.{◌-◌, ◌/◌}
-use lib.ListN.{length}
+use Rattle.definition_frames.specs.CodeTypes.{points_left}
 use Rattle.listing.proofs.PointRuns.{StillWrites}
 use Rattle.listing.proofs.records.Model.put_run.Given as goal
 
-abbrev pub invariant-loop-at : goal.invariant-loop-at
-invariant-loop-at l = StillWrites l.self.catalog.now l.self.body.now l.table l.self.visit l.path.instances l.initial.out l.initial.at l.out l.at
-
-abbrev pub decreases-loop-at : goal.decreases-loop-at
-decreases-loop-at l = length l.self.catalog.now / 8 - l.at.frame
+abbrev pub invariant-loop-point : goal.invariant-loop-point
+invariant-loop-point l =
+    (goal.iterator-loop-point).can_next l.point-iterator
+    × (goal.iterator-loop-point).is_finite l.point-iterator
+    × StillWrites l.self.catalog.now l.self.body.now l.table l.self.visit l.path.instances l.initial.out l.initial.at l.out l.at
+    (points_left l.point-iterator)
