@@ -41,8 +41,8 @@ impl Tracking {
         }
     }
 
-    // The first rule that the frame breaks, or `None`. The frames before it are recorded.
-    pub(crate) fn fault(&self, frame: FrameAt) -> Option<Refusal>
+    // Checks the frame: the error is the first rule that it breaks. The frames before it are recorded.
+    pub(crate) fn judge(&self, frame: FrameAt) -> Result<(), Refusal>
         requires { Recorded frame.catalog.now frame.index self.now }
         ensures result_value { to_spec_fault result ≡ first_broken (code_rules frame.entry.catalog.now self.now.ids frame.entry.index self.now.state (frame_at frame.entry.catalog.now frame.entry.index)) }
         ensures id_fits { IdFits (frame_at frame.entry.catalog.now frame.entry.index) }
@@ -70,7 +70,7 @@ impl Tracking {
                 };
                 end_fault(state.depth, state.has_group, first.kind() != POINT)
             }
-            None => Some(Refusal::MalformedFrame),
+            None => Err(Refusal::MalformedFrame),
         }
     }
 

@@ -1,4 +1,4 @@
--- `Tracking::fault` meets its contract: each kind of frame has its rules.
+-- `Tracking::judge` meets its contract: each kind of frame has its rules.
 use mathlib.Core.Path.{◌≡◌, ap, ◌∙◌}
 use mathlib.Core.Bool.{not}
 use native.Mathlib.Omega.{arith}
@@ -13,7 +13,7 @@ use Rattle.catalog.specs.Rules.{no_point, run}
 use Rattle.catalog.specs.InternalScans.{frames_onward}
 use Rattle.catalog.proofs.MarkedRules as marked
 use borrow.Author.Rules.{rules}
-use Rattle.catalog.proofs.tracking.Tracking.fault.Goals as goal
+use Rattle.catalog.proofs.tracking.Tracking.judge.Goals as goal
 
 pub returns-in-Some-Model : goal.returns-in-Some-Model
 returns-in-Some-Model c =
