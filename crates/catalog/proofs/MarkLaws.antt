@@ -8,12 +8,13 @@ use native.Mathlib.Omega.{arith}
 use borrow.Author.Tests.{eqb-true, eqb-false, eq-eqb, ne_eqb}
 use lib.Dec.{eqb}
 use lib.ListN.{length}
+use Rattle.std.specs.Prelude.{Option, Some, None}
 use Rattle.number_sets.specs.NumberSets.{in_set, Marks, Blank}
 use Rattle.catalog_frames.specs.Frames.{Point, uint16, read_only}
 use Rattle.catalog.specs.Rules.{run}
 use Rattle.catalog_frames.specs.InternalWords.{point_words}
-use Rattle.catalog.specs.InternalScans.{frames_onward, is_target, is_of_kind}
-use Rattle.catalog.specs.InternalMarks.{Counted, in_run, stops, first_stop}
+use Rattle.catalog.specs.InternalScans.{frames_onward, is_model, is_target, is_of_kind}
+use Rattle.catalog.specs.InternalMarks.{Counted, in_run, is_uncounted, uncounted_from}
 use Rattle.catalog.specs.declared.scans.Target.{Target}
 
 -- ---- Points
@@ -61,27 +62,32 @@ module _ (ws : List ℕ) (j : ℕ) (x : Target) (n : ℕ) where
 -- ---- Counts
 
 module _ (ws counts : List ℕ) (j : ℕ) where
-  pub stop_none : length ws / 8 ≤ j → first_stop ws counts j (length ws / 8 - j) ≡ j
-  unfolding first_stop
+  pub stop_none : length ws / 8 ≤ j → uncounted_from ws counts j (length ws / 8 - j) ≡ None
+  unfolding uncounted_from
   stop_none h = let e : length ws / 8 - j ≡ 0 = omega arith in rw e
 
-  pub stop_here : j < length ws / 8 → stops ws counts j ≡ true → first_stop ws counts j (length ws / 8 - j) ≡ j
-  unfolding first_stop
-  stop_here h s =
-      let e : length ws / 8 - j ≡ suc (length ws / 8 - (j + 1)) = omega arith in
-      rw (e, first_stop, s)
+  module _ (h : j < length ws / 8) where
+    more : length ws / 8 - j ≡ suc (length ws / 8 - (j + 1))
+    more = omega arith
 
-  pub stop_later : j < length ws / 8 → stops ws counts j ≡ false
-      → first_stop ws counts j (length ws / 8 - j) ≡ first_stop ws counts (j + 1) (length ws / 8 - (j + 1))
-  unfolding first_stop
-  stop_later h s =
-      let e : length ws / 8 - j ≡ suc (length ws / 8 - (j + 1)) = omega arith in
-      rw (e, first_stop, s, add-one j)
+    pub stop_model : is_model ws j ≡ true → uncounted_from ws counts j (length ws / 8 - j) ≡ None
+    unfolding uncounted_from
+    stop_model m = rw (more, uncounted_from, m)
+
+    module _ (m : is_model ws j ≡ false) where
+      pub stop_here : is_uncounted ws counts j ≡ true → uncounted_from ws counts j (length ws / 8 - j) ≡ Some j
+      unfolding uncounted_from
+      stop_here s = rw (more, uncounted_from, m, s)
+
+      pub stop_later : is_uncounted ws counts j ≡ false
+          → uncounted_from ws counts j (length ws / 8 - j) ≡ uncounted_from ws counts (j + 1) (length ws / 8 - (j + 1))
+      unfolding uncounted_from
+      stop_later s = rw (more, uncounted_from, m, s, add-one j)
 
 -- If the count points of a run are put into an empty set, the search with this set finds the first uncounted group.
-pub counted_by : (ws before counts : List ℕ) (from u : ℕ) → Blank before
+pub counted_by : (ws before counts : List ℕ) (from : ℕ) (u : Option ℕ) → Blank before
     → Marks before counts (in_run ws from Target.CountPoint) true
-    → u ≡ first_stop ws counts from (length ws / 8 - from) → Counted ws u from from
+    → u ≡ uncounted_from ws counts from (length ws / 8 - from) → Counted ws u from from
 counted_by ws before counts from u z m e =
     record {
       counts = counts;
@@ -93,12 +99,14 @@ counted_by ws before counts from u z m e =
     go true s e = refl
     go false s e = e
 
--- The search never stops before the frame where it begins.
-pub stop_from : (ws counts : List ℕ) (n j : ℕ) → j ≤ first_stop ws counts j n
-unfolding first_stop
-stop_from ws counts zero j = omega arith
-stop_from ws counts (suc n) j = go (stops ws counts j) (stop_from ws counts n (suc j))
+-- The search finds no frame before the one where it begins.
+pub found_from : (ws counts : List ℕ) (n j k : ℕ) → uncounted_from ws counts j n ≡ Some k → j ≤ k
+unfolding uncounted_from
+found_from ws counts zero j k e = absurd (cc)
+found_from ws counts (suc n) j k e = go (is_model ws j) (is_uncounted ws counts j) (found_from ws counts n (suc j) k) e
   where
-    go : (b : Bool) → suc j ≤ first_stop ws counts (suc j) n → j ≤ elim b [ true ↦ j | false ↦ first_stop ws counts (suc j) n ]
-    go true h = omega arith
-    go false h = omega arith
+    go : (a b : Bool) → (uncounted_from ws counts (suc j) n ≡ Some k → suc j ≤ k)
+        → elim a [ true ↦ None | false ↦ elim b [ true ↦ Some j | false ↦ uncounted_from ws counts (suc j) n ] ] ≡ Some k → j ≤ k
+    go true b h e = absurd (cc)
+    go false true h e = let same : j ≡ k = cc in omega arith
+    go false false h e = let later = h e in omega arith

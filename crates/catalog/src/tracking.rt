@@ -17,14 +17,14 @@ use refusals::Refusal;
 
 // What is recorded of the frames so far: `ids` are the model ids, `numbers` the numbers used in the open model, `scales`
 // the scale factors in scope, `uncounted` is the first group frame of the model that names a count point that is not in
-// the top group.
+// the top group, if there is one.
 #[derive(Drop)]
 pub(crate) struct Tracking {
     pub(crate) state: State,
     ids: NumberSet,
     numbers: NumberSet,
     scales: NumberSet,
-    uncounted: usize,
+    uncounted: Option<usize>,
 }
 
 impl Tracking {
@@ -37,7 +37,7 @@ impl Tracking {
             ids: NumberSet::new(),
             numbers: NumberSet::new(),
             scales: NumberSet::new(),
-            uncounted: 0,
+            uncounted: None,
         }
     }
 
@@ -51,7 +51,7 @@ impl Tracking {
         match read_frame(frame.catalog, frame.index) {
             Some(Frame::Model(id)) => model_fault(&self.ids, state.depth, id),
             Some(Frame::Group(head)) => {
-                let counted = frame.index != self.uncounted;
+                let counted = self.uncounted != Some(frame.index);
                 group_fault(&self.numbers, state.depth, state.has_fill, head, counted)
             }
             Some(Frame::Point(point)) => {
