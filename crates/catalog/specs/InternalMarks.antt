@@ -1,8 +1,9 @@
 -- Internal: what the code records of the frames so far; no public contract cites this file. It records the numbers used, the
 -- scale factors in scope, and the first group of the model whose count point is not in the top group, so that it need not search
 -- the frames again. A search would find the same (`proofs/MarkedFrames.antt`).
-use Rattle.std.specs.Prelude.{◌≡◌, Bool, true, false, not, ◌&&◌, List, ℕ, zero, suc, ◌+◌, ◌-◌, ◌/◌, ◌≤◌, ◌<◌, eqb, length, get_or}
-use Rattle.std.specs.Prelude.{Option, Some, None}
+use Rattle.std.specs.Prelude.{◌≡◌, Bool, true, false, not, ◌&&◌, List, ℕ, ◌+◌, ◌-◌, ◌/◌, ◌≤◌, ◌<◌, eqb, length, get_or}
+use Rattle.std.specs.Prelude.{Option, find, take_while}
+use Rattle.std.specs.List.{range_with_len}
 use Rattle.lists.specs.Members.{among}
 use Rattle.number_sets.specs.NumberSets.{in_set, Marks, Blank}
 use Rattle.catalog_frames.specs.Frames.{word, count_by_point}
@@ -30,12 +31,8 @@ is_uncounted ws counts j =
 
 -- The first of the n frames from frame j on where `is_uncounted` holds, if no model frame is before it.
 unfoldable pub uncounted_from : List ℕ → List ℕ → ℕ → ℕ → Option ℕ
-uncounted_from ws counts j zero = None
-uncounted_from ws counts j (suc n) =
-    elim (is_model ws j) [
-      | true ↦ None
-      | false ↦ elim (is_uncounted ws counts j) [ true ↦ Some j | false ↦ uncounted_from ws counts (suc j) n ]
-    ]
+uncounted_from ws counts j n =
+    find (λ k. is_uncounted ws counts k) (take_while (λ k. not (is_model ws k)) (range_with_len j n))
 
 -- `uncounted` is the first uncounted group frame from frame i on, before any model frame, with the count points of the run that
 -- begins at `first`.

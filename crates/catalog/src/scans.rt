@@ -1,5 +1,5 @@
 // Scans over the frames that record in a set what they find. A scan reads each frame at most once.
-ghost use Rattle.std.specs.Prelude.{◌≡◌, false, ◌+◌, ◌-◌, ◌/◌, ◌≤◌, length};
+ghost use Rattle.std.specs.Prelude.{◌≡◌, false, ◌+◌, ◌-◌, ◌/◌, ◌<◌, ◌≤◌, length};
 ghost use Rattle.lists.specs.Members.{among};
 ghost use Rattle.number_sets.specs.NumberSets.{Marks, Blank};
 ghost use Rattle.catalog_frames.specs.InternalWords.{point_words};
@@ -102,16 +102,18 @@ fn uncounted_from(catalog: &[u16], counts: &NumberSet, from: usize) -> Option<us
     requires { from ≤ length catalog.now / 8 }
     ensures { result ≡ uncounted_from catalog.now counts.now from (length catalog.now / 8 - from) }
 {
-    for index in from..catalog.len() / FRAME_WORDS {
-        let frame = FrameAt { catalog, index };
-        if frame.kind() == MODEL {
-            return None;
-        }
-        if is_uncounted(frame, counts) {
-            return Some(index);
-        }
-    }
-    None
+    let frames = catalog.len() / FRAME_WORDS;
+    (from..frames)
+        .take_while(
+            |&index|
+                requires { index < length catalog.now / 8 }
+            { FrameAt { catalog, index }.kind() != MODEL },
+        )
+        .find(
+            |&index|
+                requires { index < length catalog.now / 8 }
+            { is_uncounted(FrameAt { catalog, index }, counts) },
+        )
 }
 
 // The first group frame that names a count point that is not in the top group, in the model whose top group begins at

@@ -1,35 +1,30 @@
--- `catalog::scans::uncounted_from` meets its contract: as long as no frame stops the search, the frames left decide.
-use mathlib.Core.Path.{sym, ◌∙◌}
+-- `catalog::scans::uncounted_from` meets its contract: it is the chain of the definition.
+use mathlib.Core.Path.{◌≡◌, refl, sym, ◌∙◌}
+use mathlib.Core.Bool.{not}
+use Prim.Native.Nat.{ℕ, ◌-◌, ◌/◌}
+use lib.ListN.{length}
 use native.Mathlib.Omega.{arith}
-use borrow.Author.Tests.{eq-eqb, ne_eqb}
-use Rattle.catalog.proofs.MarkLaws as laws
+use Rattle.std.proofs.Common.{rules, tests}
+use Rattle.std.specs.Prelude.{Option, Some, None}
+use Rattle.std.specs.Option.{option_map}
+use Rattle.std.proofs.lemmas.Iterator.{YieldsList-from_range}
+use Rattle.std.proofs.lemmas.Iterator.Search.{YieldsList-from_take_while, find_from_yields_List}
+use Rattle.catalog.specs.InternalScans.{is_model}
+use Rattle.catalog.specs.InternalMarks.{is_uncounted, uncounted_from}
 use Rattle.catalog.proofs.scans.uncounted_from.Goals as goal
 
-pub returns-then-kind-eq-MODEL : goal.returns-then-kind-eq-MODEL
-returns-then-kind-eq-MODEL c =
-    let l = c.loop-index in
-    let a = c.args in
-    let model = eq-eqb _ _ (sym c.kind.ensures ∙ c.if-kind-eq-MODEL.true) in
-    sym (laws.stop_model a.catalog.now a.counts.now l.index (omega arith) model) ∙ l.invariant
-
-pub returns-then-is_uncounted : goal.returns-then-is_uncounted
-returns-then-is_uncounted c =
-    let l = c.loop-index in
-    let a = c.args in
-    let other = ne_eqb _ _ (λ e. c.if-kind-eq-MODEL.false (c.kind.ensures ∙ e)) in
-    let found = sym c.is_uncounted.ensures ∙ c.if-is_uncounted.true in
-    sym (laws.stop_here a.catalog.now a.counts.now l.index (omega arith) other found) ∙ l.invariant
-
-pub loop-index-preserved : goal.loop-index-preserved
-loop-index-preserved c =
-    let l = c.loop-index in
-    let a = c.args in
-    let other = ne_eqb _ _ (λ e. c.if-kind-eq-MODEL.false (c.kind.ensures ∙ e)) in
-    let goes = sym c.is_uncounted.ensures ∙ c.if-is_uncounted.false in
-    sym (laws.stop_later a.catalog.now a.counts.now l.index (omega arith) other goes) ∙ l.invariant
+itself : (r : Option ℕ) → option_map (λ x. x) r ≡ r
+itself None = refl
+itself (Some x) = refl
 
 pub returns : goal.returns
+unfolding uncounted_from
 returns c =
-    let l = c.loop-index in
     let a = c.args in
-    sym (laws.stop_none a.catalog.now a.counts.now l.index (omega arith)) ∙ l.invariant
+    let ws = a.catalog.now in
+    sym (itself c.find.result)
+    ∙ find_from_yields_List (λ k. is_uncounted ws a.counts.now k) _ _ c.find.result c.find.ensures.ran
+    (YieldsList-from_take_while _ (λ k. not (is_model ws k))
+    (YieldsList-from_range a.from _ (length ws / 8 - a.from) c.take_while.ensures.source (omega arith))
+    c.take_while.ensures.closure c.take_while.ensures.done (λ x b q k. search (rules, tests)))
+    (λ x b q k. search (rules, tests))
