@@ -2,15 +2,21 @@
 use mathlib.Core.Path.{◌≡◌, refl, sym, ap, ◌∙◌}
 use mathlib.Core.Bool.{Bool, true, false}
 use mathlib.Core.List.{List, ◌∷◌}
-use mathlib.Core.Option.{none, some}
+use mathlib.Core.Option.{Option, none, some}
 use Prim.Native.Nat.{ℕ, ◌+◌, ◌/◌, ◌≤◌, ◌<◌}
 use native.Mathlib.Omega.{arith}
 use borrow.Author.Tests.{eq-eqb, ne_eqb}
 use lib.Dec.{eqb}
 use lib.ListN.{length}
+use Rattle.std.specs.Prelude.{Result, Ok, Err}
+use Rattle.std.specs.Result.{is_ok, MatchResult, IsErrAnd}
+use Rattle.std.proofs.lemmas.Result.{err_from_is_err_and}
 use Rattle.lists.specs.Tests.{first_broken}
 use Rattle.lists.proofs.TestLaws.{none_broken}
+use Rattle.refusals.specs.declared.Refusal.{Refusal}
+use Rattle.refusals.specs.declared.Refused.{Refused}
 use Rattle.catalog_frames.specs.Frames.{frame_at, word}
+use Rattle.frame_rules.specs.CodeTypes.{to_spec_fault}
 use Rattle.catalog.specs.State as check
 use Rattle.catalog.specs.State.{start}
 use Rattle.catalog.specs.Rules.{run, no_model, rules, fault}
@@ -42,6 +48,23 @@ pub record Holds (ws : List ℕ) (i : ℕ) (t : Tracking) : Type 0 where
   pub decides : Decides ws t.ids i t.state
   pub fresh : Fresh decides.state
   pub indexed : Indexed ws t.numbers t.scales t.uncounted i t.state
+
+-- If no error is told, no rule is broken.
+pub unbroken_value : (r : Result (Unit {0}) Refusal) (q : Option ℕ) → is_ok r ≡ true → to_spec_fault r ≡ q → none ≡ q
+unbroken_value (Ok done) q e b = b
+unbroken_value (Err x) q e b = absurd (cc)
+
+-- The error that `map_err` tells has the refusal, and the place that the closure puts to it.
+pub told_at : (r : Result (Unit {0}) Refusal) (m : Result (Unit {0}) Refused) (i : ℕ) (P : Refusal → Refused → Type 0)
+    → ((e : Refusal) (z : Refused) → P e z → z ≡ record { refusal = e; place = i })
+    → MatchResult r (λ x. m ≡ Ok x) (λ e. IsErrAnd m (P e)) → (d : Refused) → m ≡ Err d
+    → (r ≡ Err d.refusal) × (d.place ≡ i)
+told_at (Ok x) m i P f k d w = absurd (cc)
+told_at (Err e) m i P f k d w =
+    let p = err_from_is_err_and m k in
+    let q = f e p.0 p.2 in
+    let same : d ≡ record { refusal = e; place = i } = cc in
+    (ap Err (ap (λ (z : Refused). z.refusal) (sym same)), ap (λ (z : Refused). z.place) same)
 
 -- Before the first frame.
 pub holds_start : (ws : List ℕ) (t : Tracking) → NoneTaken t → Holds ws 0 t

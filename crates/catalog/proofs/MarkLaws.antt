@@ -3,17 +3,19 @@ use mathlib.Core.Path.{◌≡◌, refl, sym, ap, ◌∙◌}
 use mathlib.Core.Bool.{Bool, true, false, ◌&&◌, ◌||◌}
 use mathlib.Core.List.{List, [], ◌∷◌}
 use Prim.Native.Nat.{ℕ, zero, suc, ◌+◌, ◌-◌, ◌/◌, ◌≤◌, ◌<◌}
-use native.Mathlib.Numerals.{add-one}
 use native.Mathlib.Omega.{arith}
 use borrow.Author.Tests.{eqb-true, eqb-false, eq-eqb, ne_eqb}
 use lib.Dec.{eqb}
-use lib.ListN.{length}
+use lib.ListN.{length, take}
+use Rattle.std.specs.Prelude.{Option, Some, None, find, take_while}
+use Rattle.std.specs.List.{prefix_len, range_with_len}
+use mathlib.Core.Bool.{cond, not}
 use Rattle.number_sets.specs.NumberSets.{in_set, Marks, Blank}
 use Rattle.catalog_frames.specs.Frames.{Point, uint16, read_only}
 use Rattle.catalog.specs.Rules.{run}
 use Rattle.catalog_frames.specs.InternalWords.{point_words}
-use Rattle.catalog.specs.InternalScans.{frames_onward, is_target, is_of_kind}
-use Rattle.catalog.specs.InternalMarks.{Counted, in_run, stops, first_stop}
+use Rattle.catalog.specs.InternalScans.{frames_onward, is_model, is_target, is_of_kind}
+use Rattle.catalog.specs.InternalMarks.{Counted, in_run, is_uncounted, uncounted_from}
 use Rattle.catalog.specs.declared.scans.Target.{Target}
 
 -- ---- Points
@@ -60,28 +62,40 @@ module _ (ws : List ℕ) (j : ℕ) (x : Target) (n : ℕ) where
 
 -- ---- Counts
 
+-- One step of a search up to a limit.
+step : (found goes_on : ℕ → Bool) (j : ℕ) (js : List ℕ)
+    → find found (take_while goes_on (j ∷ js))
+    ≡ cond (goes_on j) (cond (found j) (Some j) (find found (take_while goes_on js))) None
+step found goes_on j js = go (goes_on j)
+  where
+    go : (b : Bool) → find found (take (cond b (1 + prefix_len goes_on js) 0) (j ∷ js))
+        ≡ cond b (cond (found j) (Some j) (find found (take_while goes_on js))) None
+    go true =
+        let e : 1 + prefix_len goes_on js ≡ suc (prefix_len goes_on js) = omega arith in
+        ap (λ (m : ℕ). find found (take m (j ∷ js))) e
+    go false = refl
+
 module _ (ws counts : List ℕ) (j : ℕ) where
-  pub stop_none : length ws / 8 ≤ j → first_stop ws counts j (length ws / 8 - j) ≡ j
-  unfolding first_stop
-  stop_none h = let e : length ws / 8 - j ≡ 0 = omega arith in rw e
+  search_step : (n : ℕ) → uncounted_from ws counts j (suc n)
+      ≡ cond (not (is_model ws j)) (cond (is_uncounted ws counts j) (Some j) (uncounted_from ws counts (j + 1) n)) None
+  unfolding uncounted_from
+  search_step n = step (λ k. is_uncounted ws counts k) (λ k. not (is_model ws k)) j (range_with_len (j + 1) n)
 
-  pub stop_here : j < length ws / 8 → stops ws counts j ≡ true → first_stop ws counts j (length ws / 8 - j) ≡ j
-  unfolding first_stop
-  stop_here h s =
-      let e : length ws / 8 - j ≡ suc (length ws / 8 - (j + 1)) = omega arith in
-      rw (e, first_stop, s)
+  module _ (h : j < length ws / 8) (m : is_model ws j ≡ false) where
+    more : length ws / 8 - j ≡ suc (length ws / 8 - (j + 1))
+    more = omega arith
 
-  pub stop_later : j < length ws / 8 → stops ws counts j ≡ false
-      → first_stop ws counts j (length ws / 8 - j) ≡ first_stop ws counts (j + 1) (length ws / 8 - (j + 1))
-  unfolding first_stop
-  stop_later h s =
-      let e : length ws / 8 - j ≡ suc (length ws / 8 - (j + 1)) = omega arith in
-      rw (e, first_stop, s, add-one j)
+    pub stop_here : is_uncounted ws counts j ≡ true → uncounted_from ws counts j (length ws / 8 - j) ≡ Some j
+    stop_here s = rw (more, search_step (length ws / 8 - (j + 1)), m, s)
+
+    pub stop_later : is_uncounted ws counts j ≡ false
+        → uncounted_from ws counts j (length ws / 8 - j) ≡ uncounted_from ws counts (j + 1) (length ws / 8 - (j + 1))
+    stop_later s = rw (more, search_step (length ws / 8 - (j + 1)), m, s)
 
 -- If the count points of a run are put into an empty set, the search with this set finds the first uncounted group.
-pub counted_by : (ws before counts : List ℕ) (from u : ℕ) → Blank before
+pub counted_by : (ws before counts : List ℕ) (from : ℕ) (u : Option ℕ) → Blank before
     → Marks before counts (in_run ws from Target.CountPoint) true
-    → u ≡ first_stop ws counts from (length ws / 8 - from) → Counted ws u from from
+    → u ≡ uncounted_from ws counts from (length ws / 8 - from) → Counted ws u from from
 counted_by ws before counts from u z m e =
     record {
       counts = counts;
@@ -93,12 +107,15 @@ counted_by ws before counts from u z m e =
     go true s e = refl
     go false s e = e
 
--- The search never stops before the frame where it begins.
-pub stop_from : (ws counts : List ℕ) (n j : ℕ) → j ≤ first_stop ws counts j n
-unfolding first_stop
-stop_from ws counts zero j = omega arith
-stop_from ws counts (suc n) j = go (stops ws counts j) (stop_from ws counts n (suc j))
+-- The search finds no frame before the one where it begins.
+pub found_from : (ws counts : List ℕ) (n j k : ℕ) → uncounted_from ws counts j n ≡ Some k → j ≤ k
+unfolding uncounted_from
+found_from ws counts zero j k e = absurd (cc)
+found_from ws counts (suc n) j k e =
+    go (is_model ws j) (is_uncounted ws counts j) (found_from ws counts n (j + 1) k) (sym (search_step ws counts j n) ∙ e)
   where
-    go : (b : Bool) → suc j ≤ first_stop ws counts (suc j) n → j ≤ elim b [ true ↦ j | false ↦ first_stop ws counts (suc j) n ]
-    go true h = omega arith
-    go false h = omega arith
+    go : (a b : Bool) → (uncounted_from ws counts (j + 1) n ≡ Some k → j + 1 ≤ k)
+        → cond (not a) (cond b (Some j) (uncounted_from ws counts (j + 1) n)) None ≡ Some k → j ≤ k
+    go true b h e = absurd (cc)
+    go false true h e = let same : j ≡ k = cc in omega arith
+    go false false h e = let later = h e in omega arith

@@ -10,6 +10,7 @@ use borrow.Author.Tests.{eqb-true, eqb-false, leb-false, not-false}
 use lib.Dec.{eqb}
 use lib.ListN.{length, get_or, set}
 use lib.Seq.{get_or-set_same, get_or-set_other}
+use Rattle.std.specs.Prelude.{Option}
 use Rattle.lists.specs.Members.{among}
 use Rattle.lists.specs.Tests.{first_broken}
 use Rattle.lists.proofs.TestOutcomes.{impossible, clash}
@@ -24,7 +25,7 @@ use Rattle.catalog.specs.InternalTracking.{IdFits}
 use Rattle.catalog.specs.InternalScans.{frames_onward, has_number, is_model, numbers_in, runs_of}
 use Rattle.catalog.specs.InternalTracking.{Tracks, Opens, model_rules, group_rules, point_rules, end_rules, code_rules, run_in}
 use Rattle.catalog.specs.InternalTracking.{code_start, numbers_so_far}
-use Rattle.catalog.specs.InternalMarks.{AfterModelFrame, BlankAtModel, Counted, CountsAfter, Indexed, ScalesAfter, in_run, stops}
+use Rattle.catalog.specs.InternalMarks.{AfterModelFrame, BlankAtModel, Counted, CountsAfter, Indexed, ScalesAfter, in_run, is_uncounted}
 use Rattle.catalog.specs.declared.scans.Target.{Target}
 use Rattle.catalog.specs.declared.state.State.{State}
 use Rattle.catalog.proofs.FreshNumbers.{Fresh, Apart}
@@ -35,7 +36,7 @@ use Rattle.catalog.proofs.TrackedState.{state_by, word_here, kind_here}
 use Rattle.catalog.proofs.WordScans.{has_either, number_here, scope_more}
 
 -- Before the first frame.
-pub indexed_start : (ws numbers scales : List ℕ) (u : ℕ) → Blank numbers → Blank scales
+pub indexed_start : (ws numbers scales : List ℕ) (u : Option ℕ) → Blank numbers → Blank scales
     → Indexed ws numbers scales u 0 code_start
 unfolding numbers_in runs_of
 indexed_start ws numbers scales u no_number no_scale =
@@ -54,7 +55,7 @@ runs_kept ws firsts d v zero h = refl
 runs_kept ws firsts d v (suc k) h =
     rw (get_or-set_other firsts d k v 0 (λ e. omega (arith, e, h)), runs_kept ws firsts d v k (omega arith))
 
-module _ (ws used numbers scales : List ℕ) (u i : ℕ) (c : State) (s : check.State) (t : Tracks ws used i c s)
+module _ (ws used numbers scales : List ℕ) (u : Option ℕ) (i : ℕ) (c : State) (s : check.State) (t : Tracks ws used i c s)
     (x : Indexed ws numbers scales u i c) where
   -- At a model frame no group is open, so no scale factor is in scope.
   module _ (id : ℕ) (e : first_broken (model_rules used c id) ≡ none) where
@@ -69,7 +70,7 @@ module _ (ws used numbers scales : List ℕ) (u i : ℕ) (c : State) (s : check.
           none = λ n h. x.in_scope n h ∙ ap (λ d. has_scale_factor n (runs_of ws c.firsts d)) none_open;
         }
 
-  module _ (used' numbers' numbers'' scales' scales'' : List ℕ) (u' inner : ℕ) (here : i < length ws / 8)
+  module _ (used' numbers' numbers'' scales' scales'' : List ℕ) (u' : Option ℕ) (inner : ℕ) (here : i < length ws / 8)
       (top : inner ≡ get_or c.firsts (c.depth - 1) 0) (b : AfterModelFrame ws i inner u u' used used' numbers numbers' scales scales')
       (m : Marks numbers' numbers'' (λ n. has_number ws n i) true) (r : ScalesAfter ws i inner scales' scales'') where
     number_words_lem : length numbers'' ≡ 1024
@@ -111,12 +112,12 @@ module _ (ws used numbers scales : List ℕ) (u i : ℕ) (c : State) (s : check.
         ∙ ap (λ a. has_number ws n i || a) (same ∙ x.used n h)
         ∙ rw more (number_here ws f n (i - f) i (omega arith))
 
-    -- A frame where the search does not stop keeps the first uncounted group.
-    counted_next : is_model ws i ≡ false → (k : Counted ws u (get_or c.firsts 0 0) i) → stops ws k.counts i ≡ false
+    -- A frame that is no model frame and no uncounted group keeps the first uncounted group.
+    counted_next : is_model ws i ≡ false → (k : Counted ws u (get_or c.firsts 0 0) i) → is_uncounted ws k.counts i ≡ false
         → Counted ws u' (get_or c.firsts 0 0) (i + 1)
     counted_next e k q =
         let same : u' ≡ u = subst (λ a. CountsAfter a ws i u u') e b.counts in
-        record { counts = k.counts; holds = k.holds; is = same ∙ k.is ∙ stop_later ws k.counts i here q }
+        record { counts = k.counts; holds = k.holds; is = same ∙ k.is ∙ stop_later ws k.counts i here e q }
 
     after_model : (id : ℕ) → frame_at ws i ≡ model_frame id → first_broken (model_rules used c id) ≡ none
         → Indexed ws numbers'' scales'' u' (i + 1) (state_by c i (model_frame id))
@@ -156,7 +157,7 @@ module _ (ws used numbers scales : List ℕ) (u i : ℕ) (c : State) (s : check.
         let f = get_or-set_other c.firsts c.depth 0 (i + 1) 0 (λ z. omega (arith, z, d)) in
         let k = x.counted d in
         let no_fault = ((none_of (count_faults (run_in ws c 0) (eqb c.depth 1) h)).0 ok.1.1.1.1.0).1.1.0 in
-        let goes : stops ws k.counts i ≡ false = rw (kind, count_kind_lem, count, k.holds h.count fits) no_fault in
+        let goes : is_uncounted ws k.counts i ≡ false = rw (kind, count_kind_lem, count, k.holds h.count fits) no_fault in
         record {
           number_words = number_words_lem;
           scale_words = r.words ∙ scale_words_lem;

@@ -1,7 +1,9 @@
 -- Internal: what the code records of the frames so far; no public contract cites this file. It records the numbers used, the
 -- scale factors in scope, and the first group of the model whose count point is not in the top group, so that it need not search
 -- the frames again. A search would find the same (`proofs/MarkedFrames.antt`).
-use Rattle.std.specs.Prelude.{◌≡◌, Bool, true, false, not, ◌&&◌, ◌||◌, List, ℕ, zero, suc, ◌+◌, ◌-◌, ◌/◌, ◌≤◌, ◌<◌, eqb, length, get_or}
+use Rattle.std.specs.Prelude.{◌≡◌, Bool, true, false, not, ◌&&◌, List, ℕ, ◌+◌, ◌-◌, ◌/◌, ◌≤◌, ◌<◌, eqb, length, get_or}
+use Rattle.std.specs.Prelude.{Option, find, take_while}
+use Rattle.std.specs.List.{range_with_len}
 use Rattle.lists.specs.Members.{among}
 use Rattle.number_sets.specs.NumberSets.{in_set, Marks, Blank}
 use Rattle.catalog_frames.specs.Frames.{word, count_by_point}
@@ -22,31 +24,32 @@ unchanged before after = Marks before after (λ n. false) true
 
 -- ---- Counts
 
--- Is frame j a model frame, or a group frame that names a count point that is not in the set `counts`?
-abbrev pub stops : List ℕ → List ℕ → ℕ → Bool
-stops ws counts j =
-    eqb (word ws j 0) 1 || eqb (word ws j 0) 2 && eqb (word ws j 3) count_by_point && not (in_set counts (word ws j 4))
+-- Is frame j a group frame that names a count point that is not in the set `counts`?
+abbrev pub is_uncounted : List ℕ → List ℕ → ℕ → Bool
+is_uncounted ws counts j =
+    eqb (word ws j 0) 2 && eqb (word ws j 3) count_by_point && not (in_set counts (word ws j 4))
 
--- The first of the n frames from frame j on where `stops` holds; the frame after them if there is none.
-unfoldable pub first_stop : List ℕ → List ℕ → ℕ → ℕ → ℕ
-first_stop ws counts j zero = j
-first_stop ws counts j (suc n) = elim (stops ws counts j) [ true ↦ j | false ↦ first_stop ws counts (suc j) n ]
+-- The first of the n frames from frame j on where `is_uncounted` holds, if no model frame is before it.
+unfoldable pub uncounted_from : List ℕ → List ℕ → ℕ → ℕ → Option ℕ
+uncounted_from ws counts j n =
+    find (λ k. is_uncounted ws counts k) (take_while (λ k. not (is_model ws k)) (range_with_len j n))
 
--- `uncounted` is the first frame from frame i on where `stops` holds, with the count points of the run that begins at `first`.
-pub record Counted (ws : List ℕ) (uncounted first i : ℕ) : Type 0 where
+-- `uncounted` is the first uncounted group frame from frame i on, before any model frame, with the count points of the run that
+-- begins at `first`.
+pub record Counted (ws : List ℕ) (uncounted : Option ℕ) (first i : ℕ) : Type 0 where
   pub counts : List ℕ
   pub holds : (n : ℕ) → n < 65536 → in_set counts n ≡ in_run ws first Target.CountPoint n
-  pub is : uncounted ≡ first_stop ws counts i (length ws / 8 - i)
+  pub is : uncounted ≡ uncounted_from ws counts i (length ws / 8 - i)
 
 -- ---- After frame i
 
 -- The first uncounted group after frame i (u before it): a model frame starts a new search, any other frame keeps u.
-abbrev pub CountsAfter : Bool → List ℕ → ℕ → ℕ → ℕ → Type 0
+abbrev pub CountsAfter : Bool → List ℕ → ℕ → Option ℕ → Option ℕ → Type 0
 CountsAfter true ws i u u' = Counted ws u' (i + 1) (i + 1)
 CountsAfter false ws i u u' = u' ≡ u
 
 -- If frame i is a model frame, its id is added, and the numbers of the frames from `first` up to i are removed.
-pub record AfterModelFrame (ws : List ℕ) (i first u u' : ℕ) (ids ids' numbers numbers' scales scales' : List ℕ) : Type 0 where
+pub record AfterModelFrame (ws : List ℕ) (i first : ℕ) (u u' : Option ℕ) (ids ids' numbers numbers' scales scales' : List ℕ) : Type 0 where
   pub used : Marks ids ids' (λ n. is_model ws i && eqb n (word ws i 1)) true
   pub freed : Marks numbers numbers' (λ n. is_model ws i && among n (numbers_in ws first (i - first))) false
   pub kept : unchanged scales scales'
@@ -66,7 +69,7 @@ BlankAtModel ws i scales = is_model ws i ≡ true → Blank scales
 -- ---- Before frame i
 
 -- The sets and the first uncounted group are what a search of the frames would find.
-pub record Indexed (ws numbers scales : List ℕ) (uncounted i : ℕ) (c : State) : Type 0 where
+pub record Indexed (ws numbers scales : List ℕ) (uncounted : Option ℕ) (i : ℕ) (c : State) : Type 0 where
   pub number_words : length numbers ≡ 1024
   pub scale_words : length scales ≡ 1024
   pub used : (n : ℕ) → n < 65536 → in_set numbers n ≡ among n (numbers_so_far ws i c)

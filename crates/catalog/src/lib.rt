@@ -46,12 +46,10 @@ fn check_frames(catalog: &[u16]) -> Result<usize, Refused>
     let mut tracking = Tracking::new();
     for index in 0..frames {
         let frame = FrameAt { catalog, index };
-        if let Some(refusal) = tracking.fault(frame) {
-            return Err(Refused {
-                refusal,
-                place: index,
-            });
-        }
+        tracking.judge(frame).map_err(|refusal| Refused {
+            refusal,
+            place: index,
+        })?;
         tracking.take_in(frame);
     }
     let state = tracking.state;

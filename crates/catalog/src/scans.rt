@@ -1,10 +1,10 @@
 // Scans over the frames that record in a set what they find. A scan reads each frame at most once.
-ghost use Rattle.std.specs.Prelude.{◌≡◌, false, ◌+◌, ◌-◌, ◌/◌, ◌≤◌, length};
+ghost use Rattle.std.specs.Prelude.{◌≡◌, false, ◌+◌, ◌-◌, ◌/◌, ◌<◌, ◌≤◌, length};
 ghost use Rattle.lists.specs.Members.{among};
 ghost use Rattle.number_sets.specs.NumberSets.{Marks, Blank};
 ghost use Rattle.catalog_frames.specs.InternalWords.{point_words};
 ghost use Rattle.catalog.specs.InternalScans.{has_number, is_of_kind, is_target, numbers_in};
-ghost use Rattle.catalog.specs.InternalMarks.{Counted, ScalesAfter, first_stop, in_run, stops, unchanged};
+ghost use Rattle.catalog.specs.InternalMarks.{Counted, ScalesAfter, in_run, is_uncounted, unchanged, uncounted_from};
 
 use crate::frame_at::FrameAt;
 use catalog_frames::{
@@ -90,41 +90,42 @@ pub(crate) fn mark_scales(frame: FrameAt, scales: &mut NumberSet, inner: usize)
 
 // ---- Groups whose count a point gives
 
-// Is the frame a model frame, or a group frame that names a count point that is not in the set `counts`?
-fn is_stop(frame: FrameAt, counts: &NumberSet) -> bool
-    ensures { result ≡ stops frame.entry.catalog.now counts.now frame.entry.index }
+// Is the frame a group frame that names a count point that is not in the set `counts`?
+fn is_uncounted(frame: FrameAt, counts: &NumberSet) -> bool
+    ensures { result ≡ is_uncounted frame.entry.catalog.now counts.now frame.entry.index }
 {
-    match frame.kind() {
-        MODEL => true,
-        GROUP => frame.count_kind() == COUNT_BY_POINT && !counts.contains(frame.count()),
-        _ => false,
-    }
+    frame.kind() == GROUP && frame.count_kind() == COUNT_BY_POINT && !counts.contains(frame.count())
 }
 
-// The first frame from frame `from` on where `is_stop` holds, or the number of frames.
-fn first_stop(catalog: &[u16], counts: &NumberSet, from: usize) -> usize
+// The first frame from frame `from` on where `is_uncounted` holds, if it is before the next model frame.
+fn uncounted_from(catalog: &[u16], counts: &NumberSet, from: usize) -> Option<usize>
     requires { from ≤ length catalog.now / 8 }
-    ensures { result ≡ first_stop catalog.now counts.now from (length catalog.now / 8 - from) }
+    ensures { result ≡ uncounted_from catalog.now counts.now from (length catalog.now / 8 - from) }
 {
     let frames = catalog.len() / FRAME_WORDS;
-    for index in from..frames {
-        if is_stop(FrameAt { catalog, index }, counts) {
-            return index;
-        }
-    }
-    frames
+    (from..frames)
+        .take_while(
+            |&index|
+                requires { index < length catalog.now / 8 }
+            { FrameAt { catalog, index }.kind() != MODEL },
+        )
+        .find(
+            |&index|
+                requires { index < length catalog.now / 8 }
+            { is_uncounted(FrameAt { catalog, index }, counts) },
+        )
 }
 
 // The first group frame that names a count point that is not in the top group, in the model whose top group begins at
-// frame `from`. If there is none, a frame past the model. The set is empty before the call and after it.
-pub(crate) fn first_uncounted(catalog: &[u16], set: &mut NumberSet, from: usize) -> usize
+// frame `from`. The set is empty before the call and after it.
+pub(crate) fn first_uncounted(catalog: &[u16], set: &mut NumberSet, from: usize) -> Option<usize>
     requires from_in_bounds { from ≤ length catalog.now / 8 }
     requires blank { Blank set.old }
     ensures counted { Counted catalog.now result from from }
     ensures unchanged { unchanged set.old set.new }
 {
     mark_run(catalog, set, from, Target::CountPoint, true);
-    let uncounted = first_stop(catalog, set, from);
+    let uncounted = uncounted_from(catalog, set, from);
     mark_run(catalog, set, from, Target::CountPoint, false);
     uncounted
 }

@@ -10,6 +10,8 @@ use frame_rules::LEVELS;
 // `models` is the number of models so far, an open one included; `depth` the number of open groups; `firsts` the first
 // frame inside each open group, the top group's first. `has_group` says whether a group is directly in the innermost
 // open group, `has_fill` whether a fill group is in the top group.
+// `firsts` is an array beside its count `depth`, and no slice: fixed memory, the rules read the depth, and at depth 0
+// `innermost` still reads the last top group's first frame.
 #[derive(Clone, Copy)]
 pub(crate) struct State {
     pub(crate) models: usize,

@@ -17,14 +17,14 @@ use refusals::Refusal;
 
 // What is recorded of the frames so far: `ids` are the model ids, `numbers` the numbers used in the open model, `scales`
 // the scale factors in scope, `uncounted` is the first group frame of the model that names a count point that is not in
-// the top group.
+// the top group, if there is one.
 #[derive(Drop)]
 pub(crate) struct Tracking {
     pub(crate) state: State,
     ids: NumberSet,
     numbers: NumberSet,
     scales: NumberSet,
-    uncounted: usize,
+    uncounted: Option<usize>,
 }
 
 impl Tracking {
@@ -37,12 +37,12 @@ impl Tracking {
             ids: NumberSet::new(),
             numbers: NumberSet::new(),
             scales: NumberSet::new(),
-            uncounted: 0,
+            uncounted: None,
         }
     }
 
-    // The first rule that the frame breaks, or `None`. The frames before it are recorded.
-    pub(crate) fn fault(&self, frame: FrameAt) -> Option<Refusal>
+    // Checks the frame: the error is the first rule that it breaks. The frames before it are recorded.
+    pub(crate) fn judge(&self, frame: FrameAt) -> Result<(), Refusal>
         requires { Recorded frame.catalog.now frame.index self.now }
         ensures result_value { to_spec_fault result ≡ first_broken (code_rules frame.entry.catalog.now self.now.ids frame.entry.index self.now.state (frame_at frame.entry.catalog.now frame.entry.index)) }
         ensures id_fits { IdFits (frame_at frame.entry.catalog.now frame.entry.index) }
@@ -51,7 +51,7 @@ impl Tracking {
         match read_frame(frame.catalog, frame.index) {
             Some(Frame::Model(id)) => model_fault(&self.ids, state.depth, id),
             Some(Frame::Group(head)) => {
-                let counted = frame.index != self.uncounted;
+                let counted = self.uncounted != Some(frame.index);
                 group_fault(&self.numbers, state.depth, state.has_fill, head, counted)
             }
             Some(Frame::Point(point)) => {
@@ -70,7 +70,7 @@ impl Tracking {
                 };
                 end_fault(state.depth, state.has_group, first.kind() != POINT)
             }
-            None => Some(Refusal::MalformedFrame),
+            None => Err(Refusal::MalformedFrame),
         }
     }
 

@@ -33,7 +33,7 @@ pub fn event_bits(type_code: u16, raw: u64) -> Result<EventBits, Refusal>
     })
 }
 
-// Is it the code of bitfield16, bitfield32 or bitfield64?
+// Is it the code of bitfield16, bitfield32 or bitfield64? The codes stay numbers: public calls take any code.
 fn is_bitfield(type_code: u16) -> bool
     ensures { result ≡ is_bitfield type_code }
 {

@@ -1,5 +1,5 @@
-// Rules 4 to 10 for a single frame, given facts about the frames around it. For each kind of frame a function returns
-// the first rule that the frame breaks, or `None`. `depth` is the number of open groups.
+// Rules 4 to 10 for a single frame, given facts about the frames around it. For each kind of frame a function's error is
+// the first rule that the frame breaks. `depth` is the number of open groups.
 #![tactic(auto)]
 
 ghost use Rattle.std.specs.Prelude.{◌≡◌, ◌||◌, eqb};
@@ -22,15 +22,15 @@ use values::scale_factor_in_range;
 pub const LEVELS: usize = 4;
 
 // The first rule that a model frame breaks. `ids` is the set of the model ids so far.
-pub fn model_fault(ids: &NumberSet, depth: usize, id: u16) -> Option<Refusal>
+pub fn model_fault(ids: &NumberSet, depth: usize, id: u16) -> Result<(), Refusal>
     ensures { to_spec_fault result ≡ first_broken (model_tests depth (in_set ids.now id) id) }
 {
     if depth != 0 {
-        Some(Refusal::FrameOutOfPlace)
+        Err(Refusal::FrameOutOfPlace)
     } else if id == 0 || id == 65535 || ids.contains(id) {
-        Some(Refusal::BadNumber)
+        Err(Refusal::BadNumber)
     } else {
-        None
+        Ok(())
     }
 }
 
@@ -42,21 +42,21 @@ pub fn group_fault(
     has_fill: bool,
     head: Head,
     counted: bool,
-) -> Option<Refusal>
+) -> Result<(), Refusal>
     ensures { to_spec_fault result ≡ first_broken (group_tests depth has_fill (in_set numbers.now head.number) (one_holds (count_tests counted (eqb depth 1) (to_spec_head head))) (to_spec_head head)) }
 {
     if depth == 0 || depth == 1 && has_fill {
-        Some(Refusal::FrameOutOfPlace)
+        Err(Refusal::FrameOutOfPlace)
     } else if LEVELS <= depth {
-        Some(Refusal::TooManyLevels)
+        Err(Refusal::TooManyLevels)
     } else if has_bad_number(numbers, head.number) {
-        Some(Refusal::BadNumber)
+        Err(Refusal::BadNumber)
     } else if 1 < head.group_type {
-        Some(Refusal::BadType)
+        Err(Refusal::BadType)
     } else if has_bad_count(depth, head, counted) {
-        Some(Refusal::BadCount)
+        Err(Refusal::BadCount)
     } else {
-        None
+        Ok(())
     }
 }
 
@@ -67,33 +67,33 @@ pub fn point_fault(
     depth: usize,
     has_group: bool,
     point: Point,
-) -> Option<Refusal>
+) -> Result<(), Refusal>
     ensures { to_spec_fault result ≡ first_broken (point_tests depth has_group (in_set numbers.now point.number) (one_holds (scale_tests (in_set scales.now point.scale) (to_spec_point point))) (to_spec_point point)) }
 {
     if depth == 0 || has_group {
-        Some(Refusal::FrameOutOfPlace)
+        Err(Refusal::FrameOutOfPlace)
     } else if has_bad_number(numbers, point.number) {
-        Some(Refusal::BadNumber)
+        Err(Refusal::BadNumber)
     } else if has_bad_type(point) {
-        Some(Refusal::BadType)
+        Err(Refusal::BadType)
     } else if has_bad_scale(scales, point) {
-        Some(Refusal::BadScale)
+        Err(Refusal::BadScale)
     } else {
-        None
+        Ok(())
     }
 }
 
 // The first rule that an end frame breaks. `empty` says whether the group that ends has no point of its own. Points
 // come first in a group, so the caller sees that from its first frame.
-pub fn end_fault(depth: usize, has_group: bool, empty: bool) -> Option<Refusal>
+pub fn end_fault(depth: usize, has_group: bool, empty: bool) -> Result<(), Refusal>
     ensures { to_spec_fault result ≡ first_broken (end_tests depth has_group empty) }
 {
     if depth == 0 {
-        Some(Refusal::FrameOutOfPlace)
+        Err(Refusal::FrameOutOfPlace)
     } else if empty && !(depth == 1 && has_group) {
-        Some(Refusal::EmptyGroup)
+        Err(Refusal::EmptyGroup)
     } else {
-        None
+        Ok(())
     }
 }
 

@@ -41,7 +41,8 @@ impl NumberSet {
         (word >> (number % 64)) % 2 == 1
     }
 
-    // Puts the number into the set, or takes it out if not `present`.
+    // Puts the number into the set, or takes it out if not `present`. A flag, and not two methods: a scan of a run of
+    // points is the same for both, and passes it on.
     pub fn mark(&mut self, number: u16, present: bool)
         ensures set_after { self.new ≡ marked self.old number present }
         ensures marks { Marks self.old self.new (λ n. eqb n number) present }

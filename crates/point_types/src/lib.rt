@@ -77,6 +77,7 @@ const NAN_64: u64 = 0x7FF8000000000000;
 pub fn row_of(type_code: u16) -> Option<TypeRow>
     ensures { to_spec_found result ≡ row_of type_code }
 {
+    // The codes stay numbers and are no enum: public calls take any code, also one that no type has.
     let (fewest, most, scalable, kind, unimplemented, range) = match type_code {
         1 => (1, 1, true, Signed, Some(0x8000), Whole), // int16
         2 => (1, 1, true, Unsigned, Some(0xFFFF), Whole), // uint16

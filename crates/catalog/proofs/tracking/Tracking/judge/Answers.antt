@@ -1,4 +1,4 @@
--- `Tracking::fault` meets its contract: each kind of frame has its rules.
+-- `Tracking::judge` meets its contract: each kind of frame has its rules.
 use mathlib.Core.Path.{◌≡◌, ap, ◌∙◌}
 use mathlib.Core.Bool.{not}
 use native.Mathlib.Omega.{arith}
@@ -13,7 +13,7 @@ use Rattle.catalog.specs.Rules.{no_point, run}
 use Rattle.catalog.specs.InternalScans.{frames_onward}
 use Rattle.catalog.proofs.MarkedRules as marked
 use borrow.Author.Rules.{rules}
-use Rattle.catalog.proofs.tracking.Tracking.fault.Goals as goal
+use Rattle.catalog.proofs.tracking.Tracking.judge.Goals as goal
 
 pub returns-in-Some-Model : goal.returns-in-Some-Model
 returns-in-Some-Model c =
@@ -28,7 +28,7 @@ returns-in-Some-Group c =
     rw c.in-Some-Group.field-0-is at c.in-Some-Group.ensures ∙ frame_within _ _ c.args.frame.whole in
     let fits : (head.number < 65536) × (head.count < 65536) = search rules in
     let same = marked.group_tested _ _ _ _ _ _ c.requires.indexed c.args.frame.whole _ f fits.1 fits.0 in
-    record { result_value = rw (← f) (c.group_fault.ensures ∙ same); id_fits = rw (← f) fits }
+    record { result_value = rw (← f) (rw c.ne-counted.ensures at c.group_fault.ensures ∙ same); id_fits = rw (← f) fits }
 
 pub returns-in-Some-Point : goal.returns-in-Some-Point
 returns-in-Some-Point c =
