@@ -30,8 +30,8 @@ use Rattle.layout.proofs.LeftOutPad.{but_one, left_out}
 use Rattle.layout.proofs.CountsAgree.{measures_agree, fills_agree, unimplemented_agrees}
 use Rattle.group_instances.specs.Fills.{filled}
 use Rattle.group_instances.proofs.FillCounts as fills
-use Rattle.listing.specs.InternalCodeTypes.{to_spec_survey}
-use Rattle.listing.specs.InternalContracts.{ExtentOf, surveyed_by, fitted_by, ReadyBy}
+use Rattle.listing.specs.InternalCodeTypes.{to_spec_known}
+use Rattle.listing.specs.InternalContracts.{ExtentOf, surveyed_by, fitted_by, KnownReadyBy}
 use Rattle.definition_frames.specs.declared.runs.Run.{Run}
 use Rattle.listing.specs.declared.extents.Extent.{Extent}
 use Rattle.listing.specs.declared.surveys.Survey.{Survey}
@@ -67,10 +67,10 @@ extent_agrees s s' top enclosing level g r agree e x =
     }
 
 -- A survey that counts points, and 29.
-abbrev pub counted : ℕ → ℕ → ℕ → Std.Result (Std.Option Survey) Refusal
-counted begin number count = Std.Ok (Std.Some (record { first = begin; points = number; fill = count }))
+abbrev pub counted : ℕ → ℕ → ℕ → Std.Result Survey Refusal
+counted begin number count = Std.Ok (record { first = begin; points = number; fill = count })
 
-abbrev pub no_fit : Std.Result (Std.Option Survey) Refusal
+abbrev pub no_fit : Std.Result Survey Refusal
 no_fit = Std.Err Refusal.LengthNotSize
 
 -- ---- By numbers: T and N are the registers and points of the top group, G and P those of the groups without a fill group, size
@@ -145,7 +145,7 @@ by_remainder first over often run groups = go (eqb over 0)
     go false = refl
 
 same_survey : (first m n p q f g : ℕ) → m ≡ n → p ≡ q → f ≡ g
-    → ◌≡◌ {A = Std.Result (Std.Option Survey) Refusal} (elim (eqb m 0) [ true ↦ counted first p f | false ↦ no_fit ])
+    → ◌≡◌ {A = Std.Result Survey Refusal} (elim (eqb m 0) [ true ↦ counted first p f | false ↦ no_fit ])
     (elim (eqb n 0) [ true ↦ counted first q g | false ↦ no_fit ])
 same_survey first m n p q f g a b c k =
     elim (eqb (a k) 0) [ true ↦ counted first (b k) (c k) | false ↦ no_fit ]
@@ -170,7 +170,7 @@ fitted_fill first L T N G P size Q run groups short few one fewer t n g p z q = 
     left : ℕ
     left = L - (T + G)
 
-    right : Bool → Std.Result (Std.Option Survey) Refusal
+    right : Bool → Std.Result Survey Refusal
     right b =
         elim b [ true ↦ counted first (N + (P + left / size * Q)) (left / size) | false ↦ no_fit ]
 
@@ -246,7 +246,7 @@ module _ (first : ℕ) (run : Run) (groups : Extent) (c : Content) (body : List 
       fill_by : Option ℕ → ℕ
       fill_by o = elim o [ none ↦ 0 | some n ↦ (L - (T + G)) / n ]
 
-      result : Bool → ℕ → ℕ → Std.Result (Std.Option Survey) Refusal
+      result : Bool → ℕ → ℕ → Std.Result Survey Refusal
       result b k f = elim b [ true ↦ counted first k f | false ↦ no_fit ]
 
       go : (o : Option ℕ) → fill_size_of c body ≡ o → length (content_at c body) ≡ N + (P + fill_by o * Q)
@@ -306,20 +306,20 @@ module _ (id : ℕ) (c : Content) (body : List ℕ) where
           sym (ap surveyed (whole ∙ e))
 
       -- Otherwise 29 or the number of points.
-      pub fits_surveyed : (r : Std.Result (Std.Option Survey) Refusal) (first : ℕ) → count_unimplemented (top_scope c.points body) c.groups ≡ false
+      pub fits_surveyed : (r : Std.Result Survey Refusal) (first : ℕ) → count_unimplemented (top_scope c.points body) c.groups ≡ false
           → r ≡ elim (fits c body) [
             | true ↦ counted first (length (content_at c body)) (fill_of c body)
             | false ↦ no_fit
           ]
-          → to_spec_survey r ≡ surveyed (read_by id c body)
+          → to_spec_known r ≡ surveyed (read_by id c body)
       unfolding read_full
       fits_surveyed r first u q =
           let e : read_full c body ≡ elim (fits c body) [ false ↦ faulty not_the_size | true ↦ points (content_at c body) ] =
           rw (le-ltb (length body) (points_size c.points) long, read_full) (rw u) in
-          ap to_spec_survey q ∙ go (fits c body) ∙ sym (ap surveyed (whole ∙ e))
+          ap to_spec_known q ∙ go (fits c body) ∙ sym (ap surveyed (whole ∙ e))
         where
           go : (b : Bool)
-              → to_spec_survey (elim b [
+              → to_spec_known (elim b [
                 | true ↦ counted first (length (content_at c body)) (fill_of c body)
                 | false ↦ no_fit
               ])
@@ -328,8 +328,8 @@ module _ (id : ℕ) (c : Content) (body : List ℕ) where
           go false = refl
 
 -- If the survey counts points, the definition and the table are ready for writing records.
-pub ready_by : (ws : List ℕ) (id : ℕ) (body table : List ℕ) (first number f : ℕ) (b : Bool) (r : Std.Result (Std.Option Survey) Refusal)
+pub ready_by : (ws : List ℕ) (id : ℕ) (body table : List ℕ) (first number f : ℕ) (b : Bool) (r : Std.Result Survey Refusal)
     → r ≡ elim b [ true ↦ counted first number f | false ↦ no_fit ] → Ready ws id body table first f
-    → ReadyBy ws id body table r
+    → KnownReadyBy ws id body table r
 ready_by ws id body table first number f b r q h =
-    subst (ReadyBy ws id body table) (sym q) (by_test (ReadyBy ws id body table) b (λ t. h) (λ t. tt))
+    subst (KnownReadyBy ws id body table) (sym q) (by_test (KnownReadyBy ws id body table) b (λ t. h) (λ t. tt))

@@ -57,16 +57,21 @@ pub record WithGroup (sum : Extent) (top : Scope) (h : Frames.Head) (run : Run) 
   pub next : r.next ≡ inside.next
 
 -- The result of a survey by the count of the fill group: 29 if the length does not fit, else the number of points.
-abbrev pub surveyed_by : ℕ → Run → Extent → Math.Option ℕ → Result (Option Survey) Refusal
+abbrev pub surveyed_by : ℕ → Run → Extent → Math.Option ℕ → Result Survey Refusal
 surveyed_by first run groups none = Err Refusal.LengthNotSize
 surveyed_by first run groups (some count) =
-    Ok (Some (record { first = first; points = run.points + groups.points + count * groups.fill_points; fill = count }))
+    Ok (record { first = first; points = run.points + groups.points + count * groups.fill_points; fill = count })
 
 -- The same for a model of length `len`, by the sizes.
-abbrev pub fitted_by : ℕ → Run → Extent → ℕ → Result (Option Survey) Refusal
+abbrev pub fitted_by : ℕ → Run → Extent → ℕ → Result Survey Refusal
 fitted_by first run groups len = surveyed_by first run groups (filled len (run.size + groups.size) groups.fill_size)
 
--- If a survey counts points, the catalog and the table are ready for writing their records.
+-- If a survey of a known model counts points, the catalog and the table are ready for writing their records.
+abbrev pub KnownReadyBy : List ℕ → ℕ → List ℕ → List ℕ → Result Survey Refusal → Type 0
+KnownReadyBy ws id body table (Ok s) = Ready ws id body table s.first s.fill
+KnownReadyBy ws id body table (Err refusal) = Unit {0}
+
+-- The same of any survey.
 abbrev pub ReadyBy : List ℕ → ℕ → List ℕ → List ℕ → Result (Option Survey) Refusal → Type 0
 ReadyBy ws id body table (Ok None) = Unit {0}
 ReadyBy ws id body table (Ok (Some s)) = Ready ws id body table s.first s.fill
