@@ -21,6 +21,7 @@ use Rattle.listing.specs.Listing as Listing
 use Rattle.listing.specs.Finding as Finding
 use Rattle.definition_frames.specs.declared.runs.Run.{Run}
 use Rattle.listing.specs.declared.extents.Extent.{Extent}
+use Rattle.listing.specs.declared.extents.Size.{Size}
 use Rattle.listing.specs.declared.surveys.Survey.{Survey}
 use Rattle.listing.specs.declared.locating.Shape.{Shape}
 use Rattle.listing.specs.declared.records.Visit.{Visit}
@@ -35,22 +36,31 @@ FoundParses ws None = Unit {0}
 abbrev pub RunOf : List ℕ → ℕ → Run → Type 0
 RunOf ws first r = DefinitionFrames.RunOf (content_from ws first).points first r
 
+-- The registers and the points of a size, 0 if there is none.
+abbrev pub registers_or0 : Option Size → ℕ
+registers_or0 (Some s) = s.registers
+registers_or0 None = 0
+
+abbrev pub points_or0 : Option Size → ℕ
+points_or0 (Some s) = s.points
+points_or0 None = 0
+
 -- The extent r is that of the groups gs: sizes and numbers of points capped at 65,536, counts by the scope `top`.
 pub record ExtentOf (top : Scope) (gs : Groups) (r : Extent) : Type 0 where
-  pub size : r.size ≡ min (groups_size (count_of top 0) gs) 65536
-  pub points : r.points ≡ min (groups_points (count_of top 0) gs) 65536
-  pub fill_size : r.fill_size ≡ min (or0 (fill_size (count_of top 0) gs)) 65536
-  pub fill_points : r.fill_points ≡ min (fill_points (count_of top 0) gs) 65536
+  pub size : r.size.registers ≡ min (groups_size (count_of top 0) gs) 65536
+  pub points : r.size.points ≡ min (groups_points (count_of top 0) gs) 65536
+  pub fill_size : registers_or0 r.fill ≡ min (or0 (fill_size (count_of top 0) gs)) 65536
+  pub fill_points : points_or0 r.fill ≡ min (fill_points (count_of top 0) gs) 65536
   pub unimplemented : r.unimplemented ≡ count_unimplemented top gs
 
 -- The extent r is `sum` and one more group: its head h, its points `run` and the groups in it, `inside`.
 pub record WithGroup (sum : Extent) (top : Scope) (h : Frames.Head) (run : Run) (inside r : Extent) : Type 0 where
-  pub size : r.size ≡ min (sum.size + count_of top 0 h * min (run.size + inside.size) 65536) 65536
-  pub points : r.points ≡ min (sum.points + count_of top 0 h * min (run.points + inside.points) 65536) 65536
-  pub fill_size : r.fill_size
-      ≡ elim (eqb h.count_kind Frames.fill) [ true ↦ min (run.size + inside.size) 65536 | false ↦ sum.fill_size ]
-  pub fill_points : r.fill_points
-      ≡ elim (eqb h.count_kind Frames.fill) [ true ↦ min (run.points + inside.points) 65536 | false ↦ sum.fill_points ]
+  pub size : r.size.registers ≡ min (sum.size.registers + count_of top 0 h * min (run.size + inside.size.registers) 65536) 65536
+  pub points : r.size.points ≡ min (sum.size.points + count_of top 0 h * min (run.points + inside.size.points) 65536) 65536
+  pub fill_size : registers_or0 r.fill
+      ≡ elim (eqb h.count_kind Frames.fill) [ true ↦ min (run.size + inside.size.registers) 65536 | false ↦ registers_or0 sum.fill ]
+  pub fill_points : points_or0 r.fill
+      ≡ elim (eqb h.count_kind Frames.fill) [ true ↦ min (run.points + inside.size.points) 65536 | false ↦ points_or0 sum.fill ]
   pub unimplemented : r.unimplemented
       ≡ (sum.unimplemented
       || (inside.unimplemented || (eqb h.count_kind Frames.count_by_point && eqb (top h.count) 0xFFFF)))
@@ -60,11 +70,11 @@ pub record WithGroup (sum : Extent) (top : Scope) (h : Frames.Head) (run : Run) 
 abbrev pub surveyed_by : ℕ → Run → Extent → Math.Option ℕ → Result Survey Refusal
 surveyed_by first run groups none = Err Refusal.LengthNotSize
 surveyed_by first run groups (some count) =
-    Ok (record { first = first; points = run.points + groups.points + count * groups.fill_points; fill = count })
+    Ok (record { first = first; points = run.points + groups.size.points + count * points_or0 groups.fill; fill = count })
 
 -- The same for a model of length `len`, by the sizes.
 abbrev pub fitted_by : ℕ → Run → Extent → ℕ → Result Survey Refusal
-fitted_by first run groups len = surveyed_by first run groups (filled len (run.size + groups.size) groups.fill_size)
+fitted_by first run groups len = surveyed_by first run groups (filled len (run.size + groups.size.registers) (registers_or0 groups.fill))
 
 -- If a survey of a known model counts points, the catalog and the table are ready for writing their records.
 abbrev pub KnownReadyBy : List ℕ → ℕ → List ℕ → List ℕ → Result Survey Refusal → Type 0

@@ -128,7 +128,7 @@ impl Search<'_> {
         Shape {
             count: count_of(table, head, self.fill),
             own_size: run.size,
-            size: run.size + inside.size,
+            size: run.size + inside.size.registers,
             inside: run.next,
             next: inside.next,
         }

@@ -5,7 +5,7 @@ ghost use Rattle.model_definitions.specs.Definitions.{definitions};
 ghost use Rattle.layout.specs.Reading.{read_by, top_of};
 ghost use Rattle.layout.specs.InternalWalks.{content_from, ParsesAt, surveyed, read_in};
 ghost use Rattle.listing.specs.InternalCodeTypes.{to_spec_survey, to_spec_known};
-ghost use Rattle.listing.specs.InternalContracts.{ReadyBy, KnownReadyBy, fitted_by};
+ghost use Rattle.listing.specs.InternalContracts.{ReadyBy, KnownReadyBy, fitted_by, points_or0};
 
 use crate::Table;
 use crate::checked::CheckedCatalog;
@@ -77,14 +77,15 @@ fn survey_known(
 // number of points.
 fn fitted(first: usize, run: Run, groups: Extent, length: usize) -> Result<Survey, Refusal>
     requires size_in_bounds { (run.size ≤ length) × (length ≤ 65535) × (run.points ≤ 4096) }
-    requires size_bound { (groups.size ≤ 65536) × (groups.points ≤ 65536) × (groups.fill_points ≤ 65536) }
+    requires size_bound { (groups.size.registers ≤ 65536) × (groups.size.points ≤ 65536) × (points_or0 groups.fill ≤ 65536) }
     ensures { result ≡ fitted_by first run groups length }
 {
-    let rest = run.size + groups.size;
-    let fill = fill_count(length, rest, groups.fill_size).ok_or(Refusal::LengthNotSize)?;
+    let rest = run.size + groups.size.registers;
+    let instance = groups.fill.unwrap_or_default();
+    let fill = fill_count(length, rest, instance.registers).ok_or(Refusal::LengthNotSize)?;
     Ok(Survey {
         first,
-        points: run.points + groups.points + fill * groups.fill_points,
+        points: run.points + groups.size.points + fill * instance.points,
         fill,
     })
 }
