@@ -164,9 +164,7 @@ module _ {ws table : List ℕ} {fill levels frame offset : ℕ} {h : Head} {r : 
   past_asks =
       record {
         position = subst (λ i. AtGroups ws i levels) (sym shape.next) (groups.past ws frame levels at few h e);
-        is_table = asks.is_table;
         at_most3 = few;
-        filling = asks.filling;
         inside = omega (
           arith,
           ap (λ i. groups_size count (content_from ws i).groups) shape.next,
@@ -236,9 +234,7 @@ module _ {ws table : List ℕ} {fill levels frame offset : ℕ} {h : Head} {r : 
           let there = position.after_run ws (frame + 1) own_parses in
           record {
             position = subst (λ i. AtGroups ws i (levels - 1)) (sym shape.inside) into;
-            is_table = asks.is_table;
             at_most3 = omega (arith, few);
-            filling = asks.filling;
             inside = omega (
               arith,
               ap (λ i. groups_size count (content_from ws i).groups) shape.inside,

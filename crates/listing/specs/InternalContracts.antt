@@ -16,7 +16,7 @@ use Rattle.definition_frames.specs.CodeTypes as DefinitionFrames
 use Rattle.group_instances.specs.Fills.{filled}
 use Rattle.layout.specs.Locating.{Located, or_else, located_own, located_in}
 use Rattle.layout.specs.PointTables.{present_within, scope_in}
-use Rattle.layout.specs.InternalWalks.{content_from, ParsesAt, past_end, Ready, IsTable, AtGroups}
+use Rattle.layout.specs.InternalWalks.{content_from, ParsesAt, past_end, Ready, AtGroups}
 use Rattle.listing.specs.Listing as Listing
 use Rattle.listing.specs.Finding as Finding
 use Rattle.definition_frames.specs.declared.runs.Run.{Run}
@@ -91,9 +91,7 @@ ReadyBy ws id body table (Err refusal) = Unit {0}
 -- or before.
 pub record LocateAsks (ws table : List ℕ) (fill levels frame offset : ℕ) : Type 0 where
   pub position : AtGroups ws frame levels
-  pub is_table : IsTable table
   pub at_most3 : levels ≤ 3
-  pub filling : fill ≤ 65535
   pub inside : offset + groups_size (count_of (scope_in table) fill) (content_from ws frame).groups ≤ 65536
 
 -- What locating a point in a model of length `len` requires: its definition begins at frame `first`; its groups can be searched.
@@ -146,18 +144,13 @@ abbrev pub written : Visit → ℕ → List ModelPoint → List ℕ → List ℕ
 written visit count ps out = sets out (Listing.record_width * count) (Listing.entries (map (record_at visit) ps))
 
 -- Point p has a size that its type allows, and is inside the body at `offset`.
-pub record PointFits (body : List ℕ) (offset : ℕ) (visit : Visit) (p : Frames.Point) : Type 0 where
+pub record PointFits (body : List ℕ) (offset : ℕ) (p : Frames.Point) : Type 0 where
   pub sized : is_size_of p.type_code p.size ≡ true
   pub inside : offset + p.size ≤ length body
-  pub short : length body ≤ 65535
-  pub address : visit.address ≤ 65536
 
 -- What writing the points of an instance requires: they begin at the frame and are inside the body; the list has capacity for them.
-pub record RunAsks (ws body out : List ℕ) (visit : Visit) (at : Progress) (ps : List Frames.Point) : Type 0 where
+pub record RunAsks (ws body out : List ℕ) (at : Progress) (ps : List Frames.Point) : Type 0 where
   pub parses : ParsesAt ws at.frame
-  pub few : length ws / 8 ≤ 4096
-  pub short : length body ≤ 65535
-  pub address : visit.address ≤ 65536
   pub sized : Each (λ p. is_size_of p.type_code p.size ≡ true) (content_from ws at.frame).points
   pub inside : at.offset + points_size ps ≤ length body
   pub capacity : Listing.record_width * (at.records + length ps) ≤ length out
@@ -169,14 +162,9 @@ pub record AfterRun (at : Progress) (ps : List Frames.Point) (r : Progress) : Ty
   pub frame : r.frame ≡ at.frame + length ps
 
 -- What writing groups requires: they begin at the frame and are inside the body; the list has capacity for their points.
-pub record GroupsAsk (ws body table out : List ℕ) (visit : Visit) (fill levels : ℕ) (path : List ℕ) (at : Progress) : Type 0 where
+pub record GroupsAsk (ws body table out : List ℕ) (fill levels : ℕ) (at : Progress) : Type 0 where
   pub position : AtGroups ws at.frame levels
-  pub is_table : IsTable table
-  pub three_levels : length path ≡ 3
   pub at_most3 : levels ≤ 3
-  pub filling : fill ≤ 65535
-  pub short : length body ≤ 65535
-  pub address : visit.address ≤ 65536
   pub inside : at.offset + groups_size (count_of (scope_in table) fill) (content_from ws at.frame).groups ≤ length body
   pub capacity : Listing.record_width * (at.records + groups_points (count_of (scope_in table) fill) (content_from ws at.frame).groups)
       ≤ length out

@@ -23,8 +23,8 @@ returns-then-point-self c =
     let a = c.args in
     let l = c.loop-at in
     let p = to_spec_point c.in_ok-point.point in
-    let next = position.point_next a.self.now.catalog.now l.at.frame l.invariant.1 p (sym c.in_ok-point.ensures) in
-    sym (found_first a.self.now.key.number a.limit l.at.offset p (content_from a.self.now.catalog.now (l.at.frame + 1)).points (omega arith)
+    let next = position.point_next a.self.now.catalog.words.now l.at.frame l.invariant.1 p (sym c.in_ok-point.ensures) in
+    sym (found_first a.self.now.key.number a.limit l.at.offset p (content_from a.self.now.catalog.words.now (l.at.frame + 1)).points (omega arith)
     (omega (arith, c.if-point-self)))
     ∙ among a.self.now.key.number a.limit l.at.offset next.0
     ∙ l.invariant.0
@@ -32,20 +32,20 @@ returns-then-point-self c =
 pub overflow_add-at : goal.overflow_add-at
 overflow_add-at c =
     let l = c.loop-at in
-    omega (arith, position.parses_within c.args.self.now.catalog.now l.at.frame l.invariant.1)
+    omega (arith, position.parses_within c.args.self.now.catalog.words.now l.at.frame l.invariant.1)
 
 pub loop-at-smaller : goal.loop-at-smaller
 loop-at-smaller c =
     let l = c.loop-at in
-    omega (arith, position.parses_within c.args.self.now.catalog.now l.at.frame l.invariant.1)
+    omega (arith, position.parses_within c.args.self.now.catalog.words.now l.at.frame l.invariant.1)
 
 pub loop-at-preserved : goal.loop-at-preserved
 loop-at-preserved c =
     let a = c.args in
     let l = c.loop-at in
     let p = to_spec_point c.in_ok-point.point in
-    let next = position.point_next a.self.now.catalog.now l.at.frame l.invariant.1 p (sym c.in_ok-point.ensures) in (
-      sym (not_first a.self.now.key.number a.limit l.at.offset p (content_from a.self.now.catalog.now (l.at.frame + 1)).points (omega arith)
+    let next = position.point_next a.self.now.catalog.words.now l.at.frame l.invariant.1 p (sym c.in_ok-point.ensures) in (
+      sym (not_first a.self.now.key.number a.limit l.at.offset p (content_from a.self.now.catalog.words.now (l.at.frame + 1)).points (omega arith)
           c.if-point-self.false)
           ∙ among a.self.now.key.number a.limit l.at.offset next.0
           ∙ l.invariant.0,
@@ -56,7 +56,7 @@ pub returns-in_err-point : goal.returns-in_err-point
 returns-in_err-point c =
     let a = c.args in
     let l = c.loop-at in
-    let none = position.no_point_lem a.self.now.catalog.now l.at.frame l.invariant.1 (sym c.in_err-point.ensures) in
+    let none = position.no_point_lem a.self.now.catalog.words.now l.at.frame l.invariant.1 (sym c.in_err-point.ensures) in
     ap to_spec_located c.from_residual.ensures
     ∙ sym (none_left a.self.now.key.number a.limit l.at.offset)
     ∙ among a.self.now.key.number a.limit l.at.offset none
@@ -66,5 +66,5 @@ pub returns : goal.returns
 returns c =
     let a = c.args in
     let l = c.loop-at in
-    sym (none_past a.self.now.key.number a.limit l.at.offset (content_from a.self.now.catalog.now l.at.frame).points (omega arith))
+    sym (none_past a.self.now.key.number a.limit l.at.offset (content_from a.self.now.catalog.words.now l.at.frame).points (omega arith))
     ∙ l.invariant.0

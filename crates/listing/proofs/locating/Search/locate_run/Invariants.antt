@@ -9,10 +9,10 @@ use Rattle.listing.proofs.locating.Search.locate_run.Given as goal
 
 abbrev pub invariant-loop-at : goal.invariant-loop-at
 invariant-loop-at l =
-    (located_among l.self.key.number l.at.offset (present_within l.limit l.at.offset (content_from l.self.catalog.now l.at.frame).points)
+    (located_among l.self.key.number l.at.offset (present_within l.limit l.at.offset (content_from l.self.catalog.words.now l.at.frame).points)
     ≡ located_among l.self.key.number l.initial.at.offset
-    (present_within l.limit l.initial.at.offset (content_from l.self.catalog.now l.initial.at.frame).points))
-    × ParsesAt l.self.catalog.now l.at.frame
+    (present_within l.limit l.initial.at.offset (content_from l.self.catalog.words.now l.initial.at.frame).points))
+    × ParsesAt l.self.catalog.words.now l.at.frame
 
 abbrev pub decreases-loop-at : goal.decreases-loop-at
-decreases-loop-at l = length l.self.catalog.now / 8 - l.at.frame
+decreases-loop-at l = length l.self.catalog.words.now / 8 - l.at.frame

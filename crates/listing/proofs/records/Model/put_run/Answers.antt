@@ -15,8 +15,7 @@ put_record-requires-clause-records_in_bounds c =
 
 pub overflow_add-at-in-loop-at-2 : goal.overflow_add-at-in-loop-at-2
 overflow_add-at-in-loop-at-2 c =
-    let i = c.loop-at.invariant in
-    omega (arith, i.asks.few, still_within i)
+    omega (arith, c.args.self.now.catalog.few, still_within c.loop-at.invariant)
 
 pub loop-at-smaller : goal.loop-at-smaller
 loop-at-smaller c =
