@@ -3,7 +3,8 @@ use mathlib.Core.Path.{◌≡◌, refl, sym, subst, ◌∙◌}
 use mathlib.Core.Bool.{true}
 use mathlib.Core.List.{List}
 use mathlib.Core.Option.{none}
-use Prim.Native.Nat.{ℕ}
+use Prim.Native.Nat.{ℕ, ◌/◌, ◌≤◌}
+use lib.ListN.{length}
 use Rattle.std.specs.Prelude.{Result, Err, MatchResult}
 use Rattle.lists.proofs.TestOutcomes.{impossible}
 use Rattle.catalog.specs.Checking as Checking
@@ -11,6 +12,7 @@ use Rattle.model_definitions.specs.Definitions.{definitions}
 use Rattle.register_map.specs.Headers.{opening}
 use Rattle.layout.specs.Reading.{reading}
 use Rattle.layout.specs.InternalWalks.{Accepted}
+use Rattle.layout.proofs.AcceptedModels.{accepted_few}
 use Rattle.listing.specs.Listing.{walked, all_records}
 use Rattle.listing.specs.InternalAccepted.{is_accepted, IsAccepted}
 use Rattle.listing.proofs.ListingCases.{opened, records_accepted}
@@ -21,6 +23,10 @@ accepted_of ws e = go (Checking.checked ws) refl e
     go : (v : Checking.Verdict) → Checking.checked ws ≡ v → is_accepted v ≡ true → Accepted ws
     go (Checking.accepted models) q f = (models, q)
     go (Checking.refused number place) q f = impossible (cc)
+
+-- An accepted catalog has at most 4,096 frames.
+pub frames_few : (ws : List ℕ) → IsAccepted ws → length ws / 8 ≤ 4096
+frames_few ws e = accepted_few ws (accepted_of ws e)
 
 -- All records are those of the walk.
 pub records_walked : {ws catalog map registers : List ℕ} → IsAccepted ws → opening map ≡ none → (ws ≡ catalog) × (map ≡ registers)

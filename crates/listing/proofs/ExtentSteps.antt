@@ -15,23 +15,23 @@ use Rattle.layout.specs.Points.{Scope}
 use Rattle.layout.specs.Layout.{count_of, measured, fill_measured, groups_size, fill_size, count_unimplemented}
 use Rattle.layout.specs.Counts.{groups_points, fill_points, or0}
 use Rattle.layout.proofs.Capping.{capped_factor}
-use Rattle.listing.specs.InternalContracts.{ExtentOf, WithGroup}
+use Rattle.listing.specs.InternalContracts.{ExtentOf, WithGroup, registers_or0, points_or0}
 use Rattle.definition_frames.specs.declared.runs.Run.{Run}
 use Rattle.listing.specs.declared.extents.Extent.{Extent}
 
 -- If a group remains, no group visited so far is a fill group.
 abbrev pub NoFillYet : Groups → Extent → Type 0
 NoFillYet no_group sum = Unit {0}
-NoFillYet (group h ps inside following) sum = (sum.fill_size ≡ 0) × (sum.fill_points ≡ 0)
+NoFillYet (group h ps inside following) sum = (registers_or0 sum.fill ≡ 0) × (points_or0 sum.fill ≡ 0)
 
 -- `sum`, the extent of the groups visited, and the extent of `rest` together are the extent of `all`.
 pub record SummedUp (top : Scope) (all rest : Groups) (sum : Extent) : Type 0 where
-  pub sizes : min (sum.size + groups_size (count_of top 0) rest) 65536 ≡ min (groups_size (count_of top 0) all) 65536
-  pub points : min (sum.points + groups_points (count_of top 0) rest) 65536 ≡ min (groups_points (count_of top 0) all) 65536
-  pub capped : (sum.size ≤ 65536) × (sum.points ≤ 65536)
-  pub fill_sizes : sum.fill_size + min (or0 (fill_size (count_of top 0) rest)) 65536
+  pub sizes : min (sum.size.registers + groups_size (count_of top 0) rest) 65536 ≡ min (groups_size (count_of top 0) all) 65536
+  pub points : min (sum.size.points + groups_points (count_of top 0) rest) 65536 ≡ min (groups_points (count_of top 0) all) 65536
+  pub capped : (sum.size.registers ≤ 65536) × (sum.size.points ≤ 65536)
+  pub fill_sizes : registers_or0 sum.fill + min (or0 (fill_size (count_of top 0) rest)) 65536
       ≡ min (or0 (fill_size (count_of top 0) all)) 65536
-  pub fill_points : sum.fill_points + min (fill_points (count_of top 0) rest) 65536 ≡ min (fill_points (count_of top 0) all) 65536
+  pub fill_points : points_or0 sum.fill + min (fill_points (count_of top 0) rest) 65536 ≡ min (fill_points (count_of top 0) all) 65536
   pub no_fill : NoFillYet rest sum
   pub unimplemented : (sum.unimplemented || count_unimplemented top rest) ≡ count_unimplemented top all
 
@@ -79,7 +79,7 @@ size_picked false size other = refl
 
 -- No group follows a fill group.
 none_yet : (following : Groups) (r : Extent) (fills : Bool) → (fills ≡ true → following ≡ no_group)
-    → (fills ≡ false → (r.fill_size ≡ 0) × (r.fill_points ≡ 0)) → NoFillYet following r
+    → (fills ≡ false → (registers_or0 r.fill ≡ 0) × (points_or0 r.fill ≡ 0)) → NoFillYet following r
 none_yet no_group r fills last z = tt
 none_yet (group h ps inside following) r true last z =
     let e = last refl in impossible (cc)
@@ -87,7 +87,7 @@ none_yet (group h ps inside following) r false last z = z refl
 
 module _ (top : Scope) (all : Groups) where
   -- No group is visited yet.
-  pub none_visited : (sum : Extent) → sum.size ≡ 0 → sum.points ≡ 0 → sum.fill_size ≡ 0 → sum.fill_points ≡ 0
+  pub none_visited : (sum : Extent) → sum.size.registers ≡ 0 → sum.size.points ≡ 0 → registers_or0 sum.fill ≡ 0 → points_or0 sum.fill ≡ 0
       → sum.unimplemented ≡ false → SummedUp top all all sum
   none_visited sum s p fs fp u =
       record {
@@ -139,18 +139,18 @@ module _ (top : Scope) (all : Groups) where
         λ weight. size_picked fills (weight ps + measured weight count inside) (fill_measured weight count following) in
         let last_here : fills ≡ true → following ≡ no_group = λ t. last (eqb-true h.count_kind fill t) in
         record {
-          sizes = total sum.size (count h) (points_size ps) (groups_size count inside) (groups_size count following) _ run.size
-              lower.size r.size s.sizes size i.size w.size;
-          points = total sum.points (count h) (length ps) (groups_points count inside) (groups_points count following) _
-              run.points lower.points r.points s.points points i.points w.points;
+          sizes = total sum.size.registers (count h) (points_size ps) (groups_size count inside) (groups_size count following) _ run.size
+              lower.size.registers r.size.registers s.sizes size i.size w.size;
+          points = total sum.size.points (count h) (length ps) (groups_points count inside) (groups_points count following) _
+              run.points lower.size.points r.size.points s.points points i.points w.points;
           capped = (omega (arith, w.size), omega (arith, w.points));
           fill_sizes = filled fills (points_size ps) (groups_size count inside) (or0 (fill_size count following)) _ run.size
-              lower.size sum.fill_size r.fill_size
-              (ap (λ n. sum.fill_size + min n 65536) (sym (picked points_size)) ∙ s.fill_sizes) s.no_fill.0
+              lower.size.registers (registers_or0 sum.fill) (registers_or0 r.fill)
+              (ap (λ n. (registers_or0 sum.fill) + min n 65536) (sym (picked points_size)) ∙ s.fill_sizes) s.no_fill.0
               (λ t. ap (λ g. or0 (fill_size count g)) (last_here t)) size i.size w.fill_size;
           fill_points = filled fills (length ps) (groups_points count inside) (fill_points count following) _ run.points
-              lower.points sum.fill_points r.fill_points
-              (ap (λ n. sum.fill_points + min n 65536) (sym (picked length)) ∙ s.fill_points) s.no_fill.1
+              lower.size.points (points_or0 sum.fill) (points_or0 r.fill)
+              (ap (λ n. (points_or0 sum.fill) + min n 65536) (sym (picked length)) ∙ s.fill_points) s.no_fill.1
               (λ t. ap (fill_points count) (last_here t)) points i.points w.fill_points;
           no_fill = none_yet following r fills last_here
               (λ f. (not_filled _ _ _ _ f w.fill_size s.no_fill.0, not_filled _ _ _ _ f w.fill_points s.no_fill.1));

@@ -26,8 +26,8 @@ use Rattle.listing.proofs.WrittenRecords as lists
 use Rattle.listing.proofs.GroupsWriting as writing
 use Rattle.listing.proofs.GroupsWriting.{Writing}
 
-module _ {ws body : List ℕ} {visit : Visit} {fill levels : ℕ} {path table₀ out₀ : List ℕ} {start : Progress}
-    (asks : GroupsAsk ws body table₀ out₀ visit fill levels path start) where
+module _ {ws body : List ℕ} (visit : Visit) {fill levels : ℕ} (path : List ℕ) {table₀ out₀ : List ℕ} {start : Progress}
+    (asks : GroupsAsk ws body table₀ out₀ fill levels start) where
   abbrev counting : Head → ℕ
   counting = count_of (scope_in table₀) fill
 
@@ -42,12 +42,12 @@ module _ {ws body : List ℕ} {visit : Visit} {fill levels : ℕ} {path table₀
   At table out records offset j frame = State table out records offset j (content_from ws frame).groups
 
   -- It begins at the first group.
-  pub begins : At table₀ out₀ start.records start.offset 0 start.frame
-  begins =
+  pub begins : IsTable table₀ → At table₀ out₀ start.records start.offset 0 start.frame
+  begins is_table =
       let s = asks.position.sound in
       writing.writing_begins body visit fill (level_of levels) path table₀ out₀ start.records start.offset g₀ s.top
       s.enclosing
-      (sound_below s) asks.is_table
+      (sound_below s) is_table
 
   module _ {table out : List ℕ} {records offset j frame : ℕ} (w : At table out records offset j frame) (s : ParsesAt ws frame)
       (n : (content_from ws frame).points ≡ []) where
@@ -111,15 +111,12 @@ module _ {ws body : List ℕ} {visit : Visit} {fill levels : ℕ} {path table₀
         counted = omega (arith, count_there, l)
 
         -- What writing the instance's own points requires.
-        pub own_asks : RunAsks ws body out visit (record { records = records; offset = offset; frame = frame + 1 }) own
+        pub own_asks : RunAsks ws body out (record { records = records; offset = offset; frame = frame + 1 }) own
         own_asks =
             let z = writing.measure_next points_size counting j h own inside following counted in
             let p = writing.measure_next length counting j h own inside following counted in
             record {
               parses = (position.group_next ws frame s n h e).1;
-              few = asks.position.few;
-              short = asks.short;
-              address = asks.address;
               sized = points_sized (own ++ there.enclosing) own there.sound.sound.2;
               inside = omega (arith, z, there.size, asks.inside);
               capacity = omega (arith, p, there.points, there.same_length, asks.capacity);
@@ -151,7 +148,7 @@ module _ {ws body : List ℕ} {visit : Visit} {fill levels : ℕ} {path table₀
               ∙ (position.after_run ws (frame + 1) (position.group_next ws frame s n h e).1).1
 
           -- What writing the groups in the instance requires.
-          pub lower_asks : GroupsAsk ws body table₁ out₁ visit fill (levels - 1) path₁ at₁
+          pub lower_asks : GroupsAsk ws body table₁ out₁ fill (levels - 1) at₁
           lower_asks =
               let r = position.after_run ws (frame + 1) (position.group_next ws frame s n h e).1 in
               let b = below there.top there.enclosing (level_of levels) h own inside following there.sound in
@@ -163,12 +160,7 @@ module _ {ws body : List ℕ} {visit : Visit} {fill levels : ℕ} {path table₀
               record {
                 position = position_at (subst (ParsesAt ws) (sym run.frame) r.2)
                     (ap (λ k. (content_from ws k).points) run.frame ∙ r.0) lower_here c asks.position.few;
-                is_table = still_table;
-                three_levels = ap length way ∙ length-set path (level_of levels - 2) j ∙ asks.three_levels;
                 at_most3 = omega (arith, asks.at_most3);
-                filling = asks.filling;
-                short = asks.short;
-                address = asks.address;
                 inside = omega (
                   arith,
                   ap (groups_size (count_of (scope_in table₁) fill)) lower_here,

@@ -69,7 +69,7 @@ module _ (ws table : List ℕ) (fill levels frame : ℕ) (at : AtGroups ws frame
       → ShapeOf ws counting h frame (record {
         count = count;
         own_size = run.size;
-        size = run.size + lower.size;
+        size = run.size + lower.size.registers;
         inside = run.next;
         next = lower.next;
       })
@@ -77,7 +77,7 @@ module _ (ws table : List ℕ) (fill levels frame : ℕ) (at : AtGroups ws frame
       let n = position.group_next ws frame at.parses at.no_point h e in
       let same : (content_from ws run.next).groups ≡ inside =
       ap (λ j. (content_from ws j).groups) o.next ∙ (position.after_run ws (frame + 1) n.1).1 in
-      let size : lower.size ≡ min (groups_size counting inside) 65536 =
+      let size : lower.size.registers ≡ min (groups_size counting inside) 65536 =
       l.size ∙ ap (λ g. min (groups_size (count_of (scope_in table) 0) g) 65536) same ∙ ap (λ x. min x 65536) inside_size in
       record {
         count = k;
@@ -164,9 +164,7 @@ module _ {ws table : List ℕ} {fill levels frame offset : ℕ} {h : Head} {r : 
   past_asks =
       record {
         position = subst (λ i. AtGroups ws i levels) (sym shape.next) (groups.past ws frame levels at few h e);
-        is_table = asks.is_table;
         at_most3 = few;
-        filling = asks.filling;
         inside = omega (
           arith,
           ap (λ i. groups_size count (content_from ws i).groups) shape.next,
@@ -236,9 +234,7 @@ module _ {ws table : List ℕ} {fill levels frame offset : ℕ} {h : Head} {r : 
           let there = position.after_run ws (frame + 1) own_parses in
           record {
             position = subst (λ i. AtGroups ws i (levels - 1)) (sym shape.inside) into;
-            is_table = asks.is_table;
             at_most3 = omega (arith, few);
-            filling = asks.filling;
             inside = omega (
               arith,
               ap (λ i. groups_size count (content_from ws i).groups) shape.inside,

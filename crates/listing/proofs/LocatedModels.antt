@@ -78,9 +78,7 @@ module _ {ws : List ℕ} {id : ℕ} {body table : List ℕ} {first fill : ℕ} (
         short = short;
         groups = record {
           position = top_groups ws id first accepted ready.parses ready.known;
-          is_table = ready.is_table;
           at_most3 = omega arith;
-          filling = omega (arith, ready.filling, model.fill_few top body, short);
           inside = omega (arith, ap (groups_size count) there.1, within_bound);
         };
       }

@@ -29,8 +29,7 @@ use Rattle.listing.proofs.ReadyModels as model
 -- ---- The model at a frame
 
 module _ {ws : List ℕ} {id : ℕ} {body table : List ℕ} {first fill : ℕ} (visit : Visit) (records : ℕ) (out : List ℕ)
-    (accepted : Accepted ws) (ready : Ready ws id body table first fill) (words : (k : ℕ) → get_or ws k 0 < 65536)
-    (short : length body ≤ 65535) (address : visit.address ≤ 65536) where
+    (accepted : Accepted ws) (ready : Ready ws id body table first fill) (words : (k : ℕ) → get_or ws k 0 < 65536) where
   abbrev top : Content
   top = content_from ws first
 
@@ -50,22 +49,19 @@ module _ {ws : List ℕ} {id : ℕ} {body table : List ℕ} {first fill : ℕ} (
 
   module _ (has : HasPoints read) (capacity : record_width * (records + length (points_of read)) ≤ length out) where
     -- What writing the top points requires.
-    pub run_asks : RunAsks ws body out visit start present
+    pub run_asks : RunAsks ws body out start present
     run_asks = go (read_by id top body) (model.read_here accepted ready words) (model.how accepted ready words has)
       where
-        asks : points_size present ≤ length body → length present ≤ length (points_of read) → RunAsks ws body out visit start present
+        asks : points_size present ≤ length body → length present ≤ length (points_of read) → RunAsks ws body out start present
         asks inside few =
             record {
               parses = ready.parses;
-              few = models.accepted_few ws accepted;
-              short = short;
-              address = address;
               sized = points_sized ps ps (model.sound_points accepted ready words);
               inside = omega (arith, inside);
               capacity = omega (arith, few, capacity);
             }
 
-        go : (r : Reading) → read ≡ r → HowRead id top body r → RunAsks ws body out visit start present
+        go : (r : Reading) → read ≡ r → HowRead id top body r → RunAsks ws body out start present
         go r q (reading_left_out e) =
             let l = pads.left_out id top (length body) e in
             let b = pads.present_but_pad ps id top (length body) (model.sound_points accepted ready words) e in
@@ -121,19 +117,14 @@ module _ {ws : List ℕ} {id : ℕ} {body table : List ℕ} {first fill : ℕ} (
       counted = ap (λ x. length (points_of x)) q ∙ point_counts.content_counted top body
 
       -- What writing the groups requires.
-      pub groups_ask : GroupsAsk ws body table out₁ visit fill 3 no_instance at₁
+      pub groups_ask : GroupsAsk ws body table out₁ fill 3 at₁
       groups_ask =
           let b = model.all_present accepted ready words f in
           let o = lists.written_length visit records (points_at body (instance_in table no_instance) 0 present) out in
           record {
             position = subst (λ k. AtGroups ws k 3) (sym frame_there)
                 (top_groups ws id first accepted ready.parses ready.known);
-            is_table = ready.is_table;
-            three_levels = refl;
             at_most3 = omega arith;
-            filling = omega (arith, ready.filling, model.fill_few top body, short);
-            short = short;
-            address = address;
             inside = omega (
               arith,
               ap (groups_size (count_of (scope_in table) fill)) groups_there,

@@ -74,7 +74,7 @@ shown_at ws body table path at = points_at body (instance_in table path) at.offs
 pub record StillWrites (ws body table : List ℕ) (visit : Visit) (path : List ℕ) (out₀ : List ℕ) (at₀ : Progress) (out : List ℕ)
     (at : Progress) (ps : List Point) : Type 0 where
   pub given : ps ≡ run (onward ws at.frame)
-  pub asks : RunAsks ws body out visit at (left_at ws body at)
+  pub asks : RunAsks ws body out at (left_at ws body at)
   pub holds : written visit at.records (shown_at ws body table path at) out
       ≡ written visit at₀.records (shown_at ws body table path at₀) out₀
   pub following : AfterRun at₀ (left_at ws body at₀) (record {
@@ -90,7 +90,7 @@ past_point at p = record { records = at.records + 1; offset = at.offset + p.size
 
 -- At the start all points remain.
 pub still_all : (ws body table : List ℕ) (visit : Visit) (path out : List ℕ) (at : Progress) (ps : List Point)
-    → ps ≡ run (onward ws at.frame) → RunAsks ws body out visit at (left_at ws body at)
+    → ps ≡ run (onward ws at.frame) → RunAsks ws body out at (left_at ws body at)
     → StillWrites ws body table visit path out at out at ps
 still_all ws body table visit path out at ps e a =
     record { given = e; asks = a; holds = refl; following = record { records = refl; offset = refl; frame = refl }; same = refl }
@@ -145,7 +145,7 @@ module _ {ws body table : List ℕ} {visit : Visit} {path out₀ : List ℕ} {at
         ∙ present_first (length body) at.offset p (content_from ws (at.frame + 1)).points h
 
     -- It is inside the body, and the list has capacity for its record.
-    pub first_fits : PointFits body at.offset visit p
+    pub first_fits : PointFits body at.offset p
         × (record_width * (at.records + 1) ≤ length out)
     first_fits =
         let next = position.point_next ws at.frame s.asks.parses p f in
@@ -155,8 +155,6 @@ module _ {ws body table : List ℕ} {visit : Visit} {path out₀ : List ℕ} {at
           record {
             sized = sized.0;
             inside = omega (arith, s.asks.inside, z);
-            short = s.asks.short;
-            address = s.asks.address;
           },
           omega (arith, s.asks.capacity, n),
         )
@@ -184,9 +182,6 @@ module _ {ws body table : List ℕ} {visit : Visit} {path out₀ : List ℕ} {at
           given = (run_first ws at.frame p others (sym s.given ∙ more)).1;
           asks = record {
             parses = next.2;
-            few = a.few;
-            short = a.short;
-            address = a.address;
             sized = sized.1;
             inside = omega (arith, a.inside, z);
             capacity = omega (arith, a.capacity, n, same);

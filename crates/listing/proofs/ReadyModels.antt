@@ -42,6 +42,12 @@ fill_few c body = go (fill_size_of c body)
     go none = omega arith
     go (some size) = let d = div-le_self (length body - rest_size c body) size in omega arith
 
+-- So it is at most that of a body.
+pub few_instances : {ws : List ℕ} {id : ℕ} {body table : List ℕ} {first fill : ℕ} → Ready ws id body table first fill
+    → length body ≤ 65535 → fill ≤ 65535
+few_instances {ws} {id} {body} {table} {first} ready short =
+    omega (arith, ready.filling, fill_few (content_from ws first) body, short)
+
 each_present : (P : Point → Type 0) (len offset : ℕ) (ps : List Point) → Each P ps → Each P (present_within len offset ps)
 unfolding present_within
 each_present P len offset [] e = tt

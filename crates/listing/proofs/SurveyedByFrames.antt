@@ -22,8 +22,8 @@ use Rattle.layout.proofs.GroupDescent.{top_groups}
 use Rattle.layout.proofs.ScopeOnly.{Agree, within_own}
 use Rattle.layout.proofs.RecordedPoints.{table_with_length, table_with_scope, numbers_in_table, present_all}
 use Rattle.layout.proofs.LeftOutPad.{but_one, left_out, no_fill_lem}
-use Rattle.listing.specs.InternalCodeTypes.{to_spec_survey}
-use Rattle.listing.specs.InternalContracts.{RunOf, ExtentOf, fitted_by, ReadyBy}
+use Rattle.listing.specs.InternalCodeTypes.{to_spec_known}
+use Rattle.listing.specs.InternalContracts.{RunOf, ExtentOf, fitted_by, KnownReadyBy}
 use Rattle.definition_frames.specs.declared.runs.Run.{Run}
 use Rattle.listing.specs.declared.extents.Extent.{Extent}
 use Rattle.listing.specs.declared.surveys.Survey.{Survey}
@@ -107,8 +107,8 @@ module _ {ws : List ℕ} (id : ℕ) {first : ℕ} (accepted : Accepted ws) (pars
         unimplemented u = models.unimplemented_surveyed id c body kept long (sym extent.unimplemented ∙ u)
 
         -- Otherwise 29 or the number of points.
-        pub surveyed_here : groups.unimplemented ≡ false → {s : Std.Result (Std.Option Survey) Refusal} → s ≡ fitted_by first run groups (length body)
-            → (to_spec_survey s ≡ surveyed (read_by id c body)) × (ReadyBy ws id body after s × IsTable after)
+        pub surveyed_here : groups.unimplemented ≡ false → {s : Std.Result Survey Refusal} → s ≡ fitted_by first run groups (length body)
+            → (to_spec_known s ≡ surveyed (read_by id c body)) × (KnownReadyBy ws id body after s × IsTable after)
         surveyed_here u {s} q =
             let d = q ∙ models.fitted_by_definition first run groups c body short sound_groups r.size r.points extent in (
               models.fits_surveyed id c body kept long s first (sym extent.unimplemented ∙ u) d,

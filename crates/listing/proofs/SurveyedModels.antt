@@ -30,8 +30,8 @@ use Rattle.layout.proofs.LeftOutPad.{but_one, left_out}
 use Rattle.layout.proofs.CountsAgree.{measures_agree, fills_agree, unimplemented_agrees}
 use Rattle.group_instances.specs.Fills.{filled}
 use Rattle.group_instances.proofs.FillCounts as fills
-use Rattle.listing.specs.InternalCodeTypes.{to_spec_survey}
-use Rattle.listing.specs.InternalContracts.{ExtentOf, surveyed_by, fitted_by, ReadyBy}
+use Rattle.listing.specs.InternalCodeTypes.{to_spec_known}
+use Rattle.listing.specs.InternalContracts.{ExtentOf, surveyed_by, fitted_by, registers_or0, points_or0, KnownReadyBy}
 use Rattle.definition_frames.specs.declared.runs.Run.{Run}
 use Rattle.listing.specs.declared.extents.Extent.{Extent}
 use Rattle.listing.specs.declared.surveys.Survey.{Survey}
@@ -67,10 +67,10 @@ extent_agrees s s' top enclosing level g r agree e x =
     }
 
 -- A survey that counts points, and 29.
-abbrev pub counted : ℕ → ℕ → ℕ → Std.Result (Std.Option Survey) Refusal
-counted begin number count = Std.Ok (Std.Some (record { first = begin; points = number; fill = count }))
+abbrev pub counted : ℕ → ℕ → ℕ → Std.Result Survey Refusal
+counted begin number count = Std.Ok (record { first = begin; points = number; fill = count })
 
-abbrev pub no_fit : Std.Result (Std.Option Survey) Refusal
+abbrev pub no_fit : Std.Result Survey Refusal
 no_fit = Std.Err Refusal.LengthNotSize
 
 -- ---- By numbers: T and N are the registers and points of the top group, G and P those of the groups without a fill group, size
@@ -78,21 +78,21 @@ no_fit = Std.Err Refusal.LengthNotSize
 
 -- A model without a fill group.
 fitted_rest : (first L T N G P : ℕ) (run : Run) (groups : Extent) → L ≤ 65535 → P ≤ G
-    → run.size ≡ T → run.points ≡ N → groups.size ≡ min G 65536 → groups.points ≡ min P 65536 → groups.fill_size ≡ 0
+    → run.size ≡ T → run.points ≡ N → groups.size.registers ≡ min G 65536 → groups.size.points ≡ min P 65536 → registers_or0 groups.fill ≡ 0
     → fitted_by first run groups L ≡ elim (eqb L (T + G)) [ true ↦ counted first (N + P) 0 | false ↦ no_fit ]
 fitted_rest first L T N G P run groups short few t n g p z = go (eqb L (T + G)) refl
   where
     rest : ℕ
-    rest = run.size + groups.size
+    rest = run.size + groups.size.registers
 
     size : ℕ
-    size = groups.fill_size
+    size = registers_or0 groups.fill
 
     go : (b : Bool) → eqb L (T + G) ≡ b
         → fitted_by first run groups L ≡ elim b [ true ↦ counted first (N + P) 0 | false ↦ no_fit ]
     go true y =
         let v = eqb-true L (T + G) y in
-        let k : run.points + groups.points + 0 * groups.fill_points ≡ N + P = omega arith in
+        let k : run.points + groups.size.points + 0 * points_or0 groups.fill ≡ N + P = omega arith in
         ap (surveyed_by first run groups) (fills.rest_alone L rest size z (omega arith)) ∙ ap (λ m. counted first m 0) k
     go false y =
         let v = eqb-false L (T + G) y in
@@ -131,29 +131,29 @@ module _ (l size fs : ℕ) (short : l ≤ 65535) (z : fs ≡ min size 65536) whe
 by_remainder : (first over often : ℕ) (run : Run) (groups : Extent)
     → surveyed_by first run groups (elim (eqb over 0) [ true ↦ some often | false ↦ none ])
     ≡ elim (eqb over 0) [
-      | true ↦ counted first (run.points + groups.points + often * groups.fill_points) often
+      | true ↦ counted first (run.points + groups.size.points + often * points_or0 groups.fill) often
       | false ↦ no_fit
     ]
 by_remainder first over often run groups = go (eqb over 0)
   where
     go : (b : Bool) → surveyed_by first run groups (elim b [ true ↦ some often | false ↦ none ])
         ≡ elim b [
-          | true ↦ counted first (run.points + groups.points + often * groups.fill_points) often
+          | true ↦ counted first (run.points + groups.size.points + often * points_or0 groups.fill) often
           | false ↦ no_fit
         ]
     go true = refl
     go false = refl
 
 same_survey : (first m n p q f g : ℕ) → m ≡ n → p ≡ q → f ≡ g
-    → ◌≡◌ {A = Std.Result (Std.Option Survey) Refusal} (elim (eqb m 0) [ true ↦ counted first p f | false ↦ no_fit ])
+    → ◌≡◌ {A = Std.Result Survey Refusal} (elim (eqb m 0) [ true ↦ counted first p f | false ↦ no_fit ])
     (elim (eqb n 0) [ true ↦ counted first q g | false ↦ no_fit ])
 same_survey first m n p q f g a b c k =
     elim (eqb (a k) 0) [ true ↦ counted first (b k) (c k) | false ↦ no_fit ]
 
 -- A model with a fill group.
 fitted_fill : (first L T N G P size Q : ℕ) (run : Run) (groups : Extent) → L ≤ 65535 → P ≤ G → 1 ≤ size → Q ≤ size
-    → run.size ≡ T → run.points ≡ N → groups.size ≡ min G 65536 → groups.points ≡ min P 65536
-    → groups.fill_size ≡ min size 65536 → groups.fill_points ≡ min Q 65536
+    → run.size ≡ T → run.points ≡ N → groups.size.registers ≡ min G 65536 → groups.size.points ≡ min P 65536
+    → registers_or0 groups.fill ≡ min size 65536 → points_or0 groups.fill ≡ min Q 65536
     → fitted_by first run groups L
     ≡ elim (leb (T + G) L && eqb ((L - (T + G)) % size) 0) [
       | true ↦ counted first (N + (P + (L - (T + G)) / size * Q)) ((L - (T + G)) / size)
@@ -162,15 +162,15 @@ fitted_fill : (first L T N G P size Q : ℕ) (run : Run) (groups : Extent) → L
 fitted_fill first L T N G P size Q run groups short few one fewer t n g p z q = go (leb (T + G) L) refl
   where
     rest : ℕ
-    rest = run.size + groups.size
+    rest = run.size + groups.size.registers
 
     all : ℕ
-    all = run.points + groups.points
+    all = run.points + groups.size.points
 
     left : ℕ
     left = L - (T + G)
 
-    right : Bool → Std.Result (Std.Option Survey) Refusal
+    right : Bool → Std.Result Survey Refusal
     right b =
         elim b [ true ↦ counted first (N + (P + left / size * Q)) (left / size) | false ↦ no_fit ]
 
@@ -179,22 +179,22 @@ fitted_fill first L T N G P size Q run groups short few one fewer t n g p z q = 
     go true e =
         let l = leb-true (T + G) L e in
         let r : rest ≤ L = omega arith in
-        let nonzero : groups.fill_size ≡ 0 → ⊥ = λ y. omega arith in
+        let nonzero : registers_or0 groups.fill ≡ 0 → ⊥ = λ y. omega arith in
         let d : L - rest ≡ left = omega arith in
         let small : L - rest ≤ 65535 = omega arith in
-        let fs = groups.fill_size in
+        let fs = registers_or0 groups.fill in
         let a = left_over (L - rest) size fs small z ∙ ap (λ k. k % size) d in
         let b = often (L - rest) size fs small z ∙ ap (λ k. k / size) d in
-        let w = often_points (L - rest) size fs small z Q groups.fill_points q fewer ∙ ap (λ k. k / size * Q) d in
-        let x : all + (L - rest) / fs * groups.fill_points ≡ N + (P + left / size * Q) = omega arith in
+        let w = often_points (L - rest) size fs small z Q (points_or0 groups.fill) q fewer ∙ ap (λ k. k / size * Q) d in
+        let x : all + (L - rest) / fs * points_or0 groups.fill ≡ N + (P + left / size * Q) = omega arith in
         ap (surveyed_by first run groups) (fills.by_remainder L rest fs nonzero r)
         ∙ by_remainder first ((L - rest) % fs) ((L - rest) / fs) run groups
-        ∙ same_survey first ((L - rest) % fs) (left % size) (all + (L - rest) / fs * groups.fill_points)
+        ∙ same_survey first ((L - rest) % fs) (left % size) (all + (L - rest) / fs * points_or0 groups.fill)
         (N + (P + left / size * Q)) ((L - rest) / fs) (left / size) a x b
     go false e =
         let l = leb-false (T + G) L e in
         let r : L < rest = omega arith in
-        ap (surveyed_by first run groups) (fills.too_short L rest groups.fill_size r)
+        ap (surveyed_by first run groups) (fills.too_short L rest (registers_or0 groups.fill) r)
 
 -- ---- By the definition
 
@@ -246,18 +246,18 @@ module _ (first : ℕ) (run : Run) (groups : Extent) (c : Content) (body : List 
       fill_by : Option ℕ → ℕ
       fill_by o = elim o [ none ↦ 0 | some n ↦ (L - (T + G)) / n ]
 
-      result : Bool → ℕ → ℕ → Std.Result (Std.Option Survey) Refusal
+      result : Bool → ℕ → ℕ → Std.Result Survey Refusal
       result b k f = elim b [ true ↦ counted first k f | false ↦ no_fit ]
 
       go : (o : Option ℕ) → fill_size_of c body ≡ o → length (content_at c body) ≡ N + (P + fill_by o * Q)
           → fitted_by first run groups L ≡ result (fits_by o) (length (content_at c body)) (fill_by o)
       go none e k =
-          let z : groups.fill_size ≡ 0 = extent.fill_size ∙ ap (λ o. min (or0 o) 65536) e in
+          let z : registers_or0 groups.fill ≡ 0 = extent.fill_size ∙ ap (λ o. min (or0 o) 65536) e in
           let m : N + P ≡ length (content_at c body) = omega arith in
           fitted_rest first L T N G P run groups short few registers number extent.size extent.points z
           ∙ ap (λ n. result (eqb L (T + G)) n 0) m
       go (some n) e k =
-          let z : groups.fill_size ≡ min n 65536 = extent.fill_size ∙ ap (λ o. min (or0 o) 65536) e in
+          let z : registers_or0 groups.fill ≡ min n 65536 = extent.fill_size ∙ ap (λ o. min (or0 o) 65536) e in
           let one = fill_takes_registers (count_of s 0) c.points c.points 2 c.groups sound n e in
           let fits_in = fill_fits (count_of s 0) c.points c.points 2 c.groups sound in
           let same : or0 (fill_size_of c body) ≡ n = ap or0 e in
@@ -306,20 +306,20 @@ module _ (id : ℕ) (c : Content) (body : List ℕ) where
           sym (ap surveyed (whole ∙ e))
 
       -- Otherwise 29 or the number of points.
-      pub fits_surveyed : (r : Std.Result (Std.Option Survey) Refusal) (first : ℕ) → count_unimplemented (top_scope c.points body) c.groups ≡ false
+      pub fits_surveyed : (r : Std.Result Survey Refusal) (first : ℕ) → count_unimplemented (top_scope c.points body) c.groups ≡ false
           → r ≡ elim (fits c body) [
             | true ↦ counted first (length (content_at c body)) (fill_of c body)
             | false ↦ no_fit
           ]
-          → to_spec_survey r ≡ surveyed (read_by id c body)
+          → to_spec_known r ≡ surveyed (read_by id c body)
       unfolding read_full
       fits_surveyed r first u q =
           let e : read_full c body ≡ elim (fits c body) [ false ↦ faulty not_the_size | true ↦ points (content_at c body) ] =
           rw (le-ltb (length body) (points_size c.points) long, read_full) (rw u) in
-          ap to_spec_survey q ∙ go (fits c body) ∙ sym (ap surveyed (whole ∙ e))
+          ap to_spec_known q ∙ go (fits c body) ∙ sym (ap surveyed (whole ∙ e))
         where
           go : (b : Bool)
-              → to_spec_survey (elim b [
+              → to_spec_known (elim b [
                 | true ↦ counted first (length (content_at c body)) (fill_of c body)
                 | false ↦ no_fit
               ])
@@ -328,8 +328,8 @@ module _ (id : ℕ) (c : Content) (body : List ℕ) where
           go false = refl
 
 -- If the survey counts points, the definition and the table are ready for writing records.
-pub ready_by : (ws : List ℕ) (id : ℕ) (body table : List ℕ) (first number f : ℕ) (b : Bool) (r : Std.Result (Std.Option Survey) Refusal)
+pub ready_by : (ws : List ℕ) (id : ℕ) (body table : List ℕ) (first number f : ℕ) (b : Bool) (r : Std.Result Survey Refusal)
     → r ≡ elim b [ true ↦ counted first number f | false ↦ no_fit ] → Ready ws id body table first f
-    → ReadyBy ws id body table r
+    → KnownReadyBy ws id body table r
 ready_by ws id body table first number f b r q h =
-    subst (ReadyBy ws id body table) (sym q) (by_test (ReadyBy ws id body table) b (λ t. h) (λ t. tt))
+    subst (KnownReadyBy ws id body table) (sym q) (by_test (KnownReadyBy ws id body table) b (λ t. h) (λ t. tt))

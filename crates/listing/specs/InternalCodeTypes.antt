@@ -16,6 +16,11 @@ abbrev pub to_spec_found : List ℕ → Option ℕ → Math.Option Content
 to_spec_found ws (Some i) = some (content_from ws i)
 to_spec_found ws None = none
 
+-- The result of a survey of a model that the catalog knows.
+abbrev pub to_spec_known : Result Survey Refusal → Surveyed
+to_spec_known (Ok s) = surveyed_points s.points
+to_spec_known (Err r) = surveyed_refused (number r)
+
 -- The result of a survey.
 abbrev pub to_spec_survey : Result (Option Survey) Refusal → Surveyed
 to_spec_survey (Ok None) = surveyed_unknown

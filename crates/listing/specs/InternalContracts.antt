@@ -16,11 +16,12 @@ use Rattle.definition_frames.specs.CodeTypes as DefinitionFrames
 use Rattle.group_instances.specs.Fills.{filled}
 use Rattle.layout.specs.Locating.{Located, or_else, located_own, located_in}
 use Rattle.layout.specs.PointTables.{present_within, scope_in}
-use Rattle.layout.specs.InternalWalks.{content_from, ParsesAt, past_end, Ready, IsTable, AtGroups}
+use Rattle.layout.specs.InternalWalks.{content_from, ParsesAt, past_end, Ready, AtGroups}
 use Rattle.listing.specs.Listing as Listing
 use Rattle.listing.specs.Finding as Finding
 use Rattle.definition_frames.specs.declared.runs.Run.{Run}
 use Rattle.listing.specs.declared.extents.Extent.{Extent}
+use Rattle.listing.specs.declared.extents.Size.{Size}
 use Rattle.listing.specs.declared.surveys.Survey.{Survey}
 use Rattle.listing.specs.declared.locating.Shape.{Shape}
 use Rattle.listing.specs.declared.records.Visit.{Visit}
@@ -35,38 +36,52 @@ FoundParses ws None = Unit {0}
 abbrev pub RunOf : List ℕ → ℕ → Run → Type 0
 RunOf ws first r = DefinitionFrames.RunOf (content_from ws first).points first r
 
+-- The registers and the points of a size, 0 if there is none.
+abbrev pub registers_or0 : Option Size → ℕ
+registers_or0 (Some s) = s.registers
+registers_or0 None = 0
+
+abbrev pub points_or0 : Option Size → ℕ
+points_or0 (Some s) = s.points
+points_or0 None = 0
+
 -- The extent r is that of the groups gs: sizes and numbers of points capped at 65,536, counts by the scope `top`.
 pub record ExtentOf (top : Scope) (gs : Groups) (r : Extent) : Type 0 where
-  pub size : r.size ≡ min (groups_size (count_of top 0) gs) 65536
-  pub points : r.points ≡ min (groups_points (count_of top 0) gs) 65536
-  pub fill_size : r.fill_size ≡ min (or0 (fill_size (count_of top 0) gs)) 65536
-  pub fill_points : r.fill_points ≡ min (fill_points (count_of top 0) gs) 65536
+  pub size : r.size.registers ≡ min (groups_size (count_of top 0) gs) 65536
+  pub points : r.size.points ≡ min (groups_points (count_of top 0) gs) 65536
+  pub fill_size : registers_or0 r.fill ≡ min (or0 (fill_size (count_of top 0) gs)) 65536
+  pub fill_points : points_or0 r.fill ≡ min (fill_points (count_of top 0) gs) 65536
   pub unimplemented : r.unimplemented ≡ count_unimplemented top gs
 
 -- The extent r is `sum` and one more group: its head h, its points `run` and the groups in it, `inside`.
 pub record WithGroup (sum : Extent) (top : Scope) (h : Frames.Head) (run : Run) (inside r : Extent) : Type 0 where
-  pub size : r.size ≡ min (sum.size + count_of top 0 h * min (run.size + inside.size) 65536) 65536
-  pub points : r.points ≡ min (sum.points + count_of top 0 h * min (run.points + inside.points) 65536) 65536
-  pub fill_size : r.fill_size
-      ≡ elim (eqb h.count_kind Frames.fill) [ true ↦ min (run.size + inside.size) 65536 | false ↦ sum.fill_size ]
-  pub fill_points : r.fill_points
-      ≡ elim (eqb h.count_kind Frames.fill) [ true ↦ min (run.points + inside.points) 65536 | false ↦ sum.fill_points ]
+  pub size : r.size.registers ≡ min (sum.size.registers + count_of top 0 h * min (run.size + inside.size.registers) 65536) 65536
+  pub points : r.size.points ≡ min (sum.size.points + count_of top 0 h * min (run.points + inside.size.points) 65536) 65536
+  pub fill_size : registers_or0 r.fill
+      ≡ elim (eqb h.count_kind Frames.fill) [ true ↦ min (run.size + inside.size.registers) 65536 | false ↦ registers_or0 sum.fill ]
+  pub fill_points : points_or0 r.fill
+      ≡ elim (eqb h.count_kind Frames.fill) [ true ↦ min (run.points + inside.size.points) 65536 | false ↦ points_or0 sum.fill ]
   pub unimplemented : r.unimplemented
       ≡ (sum.unimplemented
       || (inside.unimplemented || (eqb h.count_kind Frames.count_by_point && eqb (top h.count) 0xFFFF)))
   pub next : r.next ≡ inside.next
 
 -- The result of a survey by the count of the fill group: 29 if the length does not fit, else the number of points.
-abbrev pub surveyed_by : ℕ → Run → Extent → Math.Option ℕ → Result (Option Survey) Refusal
+abbrev pub surveyed_by : ℕ → Run → Extent → Math.Option ℕ → Result Survey Refusal
 surveyed_by first run groups none = Err Refusal.LengthNotSize
 surveyed_by first run groups (some count) =
-    Ok (Some (record { first = first; points = run.points + groups.points + count * groups.fill_points; fill = count }))
+    Ok (record { first = first; points = run.points + groups.size.points + count * points_or0 groups.fill; fill = count })
 
 -- The same for a model of length `len`, by the sizes.
-abbrev pub fitted_by : ℕ → Run → Extent → ℕ → Result (Option Survey) Refusal
-fitted_by first run groups len = surveyed_by first run groups (filled len (run.size + groups.size) groups.fill_size)
+abbrev pub fitted_by : ℕ → Run → Extent → ℕ → Result Survey Refusal
+fitted_by first run groups len = surveyed_by first run groups (filled len (run.size + groups.size.registers) (registers_or0 groups.fill))
 
--- If a survey counts points, the catalog and the table are ready for writing their records.
+-- If a survey of a known model counts points, the catalog and the table are ready for writing their records.
+abbrev pub KnownReadyBy : List ℕ → ℕ → List ℕ → List ℕ → Result Survey Refusal → Type 0
+KnownReadyBy ws id body table (Ok s) = Ready ws id body table s.first s.fill
+KnownReadyBy ws id body table (Err refusal) = Unit {0}
+
+-- The same of any survey.
 abbrev pub ReadyBy : List ℕ → ℕ → List ℕ → List ℕ → Result (Option Survey) Refusal → Type 0
 ReadyBy ws id body table (Ok None) = Unit {0}
 ReadyBy ws id body table (Ok (Some s)) = Ready ws id body table s.first s.fill
@@ -76,9 +91,7 @@ ReadyBy ws id body table (Err refusal) = Unit {0}
 -- or before.
 pub record LocateAsks (ws table : List ℕ) (fill levels frame offset : ℕ) : Type 0 where
   pub position : AtGroups ws frame levels
-  pub is_table : IsTable table
   pub at_most3 : levels ≤ 3
-  pub filling : fill ≤ 65535
   pub inside : offset + groups_size (count_of (scope_in table) fill) (content_from ws frame).groups ≤ 65536
 
 -- What locating a point in a model of length `len` requires: its definition begins at frame `first`; its groups can be searched.
@@ -131,18 +144,13 @@ abbrev pub written : Visit → ℕ → List ModelPoint → List ℕ → List ℕ
 written visit count ps out = sets out (Listing.record_width * count) (Listing.entries (map (record_at visit) ps))
 
 -- Point p has a size that its type allows, and is inside the body at `offset`.
-pub record PointFits (body : List ℕ) (offset : ℕ) (visit : Visit) (p : Frames.Point) : Type 0 where
+pub record PointFits (body : List ℕ) (offset : ℕ) (p : Frames.Point) : Type 0 where
   pub sized : is_size_of p.type_code p.size ≡ true
   pub inside : offset + p.size ≤ length body
-  pub short : length body ≤ 65535
-  pub address : visit.address ≤ 65536
 
 -- What writing the points of an instance requires: they begin at the frame and are inside the body; the list has capacity for them.
-pub record RunAsks (ws body out : List ℕ) (visit : Visit) (at : Progress) (ps : List Frames.Point) : Type 0 where
+pub record RunAsks (ws body out : List ℕ) (at : Progress) (ps : List Frames.Point) : Type 0 where
   pub parses : ParsesAt ws at.frame
-  pub few : length ws / 8 ≤ 4096
-  pub short : length body ≤ 65535
-  pub address : visit.address ≤ 65536
   pub sized : Each (λ p. is_size_of p.type_code p.size ≡ true) (content_from ws at.frame).points
   pub inside : at.offset + points_size ps ≤ length body
   pub capacity : Listing.record_width * (at.records + length ps) ≤ length out
@@ -154,14 +162,9 @@ pub record AfterRun (at : Progress) (ps : List Frames.Point) (r : Progress) : Ty
   pub frame : r.frame ≡ at.frame + length ps
 
 -- What writing groups requires: they begin at the frame and are inside the body; the list has capacity for their points.
-pub record GroupsAsk (ws body table out : List ℕ) (visit : Visit) (fill levels : ℕ) (path : List ℕ) (at : Progress) : Type 0 where
+pub record GroupsAsk (ws body table out : List ℕ) (fill levels : ℕ) (at : Progress) : Type 0 where
   pub position : AtGroups ws at.frame levels
-  pub is_table : IsTable table
-  pub three_levels : length path ≡ 3
   pub at_most3 : levels ≤ 3
-  pub filling : fill ≤ 65535
-  pub short : length body ≤ 65535
-  pub address : visit.address ≤ 65536
   pub inside : at.offset + groups_size (count_of (scope_in table) fill) (content_from ws at.frame).groups ≤ length body
   pub capacity : Listing.record_width * (at.records + groups_points (count_of (scope_in table) fill) (content_from ws at.frame).groups)
       ≤ length out

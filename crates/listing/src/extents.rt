@@ -14,15 +14,35 @@ use group_instances::{count_of, is_unimplemented};
 // of points are capped at it.
 const CAP: usize = 65536;
 
-// Sibling groups: their registers and points, without those of a fill group; the registers and points of one
-// instance of the fill group, 0 if there is none; whether a count point is unimplemented; and the frame after
-// the end frame of the group that contains them.
+// A number of registers and a number of points.
+#[derive(Clone, Copy, Default)]
+pub(crate) struct Size {
+    pub(crate) registers: usize,
+    pub(crate) points: usize,
+}
+
+impl Size {
+    // This and `count` times `instance`, capped.
+    fn plus(self, count: usize, instance: Size) -> Size
+        requires sum_bound { (self.registers ≤ 268435456) × (self.points ≤ 268435456) }
+        requires instance_bound { (count ≤ 65535) × (instance.registers ≤ 65536) × (instance.points ≤ 65536) }
+        ensures registers { result.registers ≡ min (self.registers + count * instance.registers) 65536 }
+        ensures points { result.points ≡ min (self.points + count * instance.points) 65536 }
+    {
+        Size {
+            registers: (self.registers + count * instance.registers).min(CAP),
+            points: (self.points + count * instance.points).min(CAP),
+        }
+    }
+}
+
+// Sibling groups: their size, without a fill group; the size of one instance of the fill group, if there is one; whether
+// a count point is unimplemented; and the frame after the end frame of the group that contains them.
+// An unimplemented count is no error here: a search takes the sizes alone, since its survey has decided 28.
 #[derive(Clone, Copy)]
 pub(crate) struct Extent {
-    pub(crate) size: usize,
-    pub(crate) points: usize,
-    pub(crate) fill_size: usize,
-    pub(crate) fill_points: usize,
+    pub(crate) size: Size,
+    pub(crate) fill: Option<Size>,
     pub(crate) unimplemented: bool,
     pub(crate) next: usize,
 }
@@ -35,10 +55,8 @@ pub(crate) fn groups_extent(catalog: &[u16], table: &Table, levels: usize, first
     ensures next_value { result.next ≡ past_end catalog.now first }
 {
     let mut sum = Extent {
-        size: 0,
-        points: 0,
-        fill_size: 0,
-        fill_points: 0,
+        size: Size::default(),
+        fill: None,
         unimplemented: false,
         next: first,
     };
@@ -55,28 +73,23 @@ pub(crate) fn groups_extent(catalog: &[u16], table: &Table, levels: usize, first
 
 // The extent `sum` and one more group: its head, its points and the groups in it.
 fn with_group(sum: Extent, table: &Table, head: Head, run: Run, inside: Extent) -> Extent
-    requires size_bound { (sum.size ≤ 65536) × (sum.points ≤ 65536) × (inside.size ≤ 65536) × (inside.points ≤ 65536) }
+    requires size_bound { (sum.size.registers ≤ 65536) × (sum.size.points ≤ 65536) × (inside.size.registers ≤ 65536) × (inside.size.points ≤ 65536) }
     requires size_bound_2 { (run.size ≤ 268435456) × (run.points ≤ 4096) }
     ensures { WithGroup sum (scope_in table.now) (to_spec_head head) run inside result }
 {
-    let size = grown(run.size, 1, inside.size);
-    let points = grown(run.points, 1, inside.points);
-    let count = count_of(table, head, 0);
-    let fills = head.count_kind == FILL;
+    let own = Size {
+        registers: run.size,
+        points: run.points,
+    };
+    let instance = own.plus(1, inside.size);
     Extent {
-        size: grown(sum.size, count, size),
-        points: grown(sum.points, count, points),
-        fill_size: if fills { size } else { sum.fill_size },
-        fill_points: if fills { points } else { sum.fill_points },
+        size: sum.size.plus(count_of(table, head, 0), instance),
+        fill: if head.count_kind == FILL {
+            Some(instance)
+        } else {
+            sum.fill
+        },
         unimplemented: sum.unimplemented || inside.unimplemented || is_unimplemented(table, head),
         next: inside.next,
     }
-}
-
-// sum + count × size, capped.
-fn grown(sum: usize, count: usize, size: usize) -> usize
-    requires { (sum ≤ 268435456) × (count ≤ 65535) × (size ≤ 65536) }
-    ensures { result ≡ min (sum + count * size) 65536 }
-{
-    (sum + count * size).min(CAP)
 }

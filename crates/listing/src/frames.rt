@@ -16,12 +16,10 @@ pub(crate) fn find_model(catalog: &CheckedCatalog, id: u16) -> Option<usize>
     ensures result_value { to_spec_found catalog.now.words.now result ≡ top_of id (definitions catalog.now.words.now) }
     ensures found_parses { FoundParses catalog.now.words.now result }
 {
-    for i in 0..catalog.words.len() / FRAME_WORDS {
-        if is_model(catalog.words, i, id) {
-            return Some(i + 1);
-        }
-    }
-    None
+    let frames = catalog.words.len() / FRAME_WORDS;
+    (0..frames)
+        .find(|i| is_model(catalog.words, *i, id))
+        .map(|i| i + 1)
 }
 
 // Is frame i the model frame of `id`?

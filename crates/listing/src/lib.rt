@@ -26,7 +26,7 @@ use checked::{CheckedCatalog, CheckedPlant};
 pub use group_instances::InstancePath;
 use group_instances::NUMBERS;
 pub use records::WIDTH;
-use records::{Visit, put_model};
+use records::{Model, Visit};
 use refusals::{Refusal, Refused};
 use register_map::{FIRST_HEADER, Header, body_address, header_at, opened};
 use registers::part;
@@ -216,5 +216,11 @@ fn put_known(
     let Ok(Some(survey)) = survey_model(&plant.catalog, table, visit.id, body) else {
         return records;
     };
-    put_model(&plant.catalog, table, out, visit, body, survey, records)
+    let model = Model {
+        catalog: plant.catalog,
+        visit,
+        body,
+        survey,
+    };
+    model.put_points(table, out, records)
 }

@@ -33,15 +33,17 @@ pub(crate) struct Visit {
     pub(crate) address: usize,
 }
 
-// The visited model as its records are written: the catalog that has its definition, its body, and the count of its fill group.
+// The visited model as its records are written: the catalog that has its definition, its body, and its survey.
 #[derive(Clone, Copy)]
-struct Model<'a> {
-    catalog: &'a [u16],
-    visit: Visit,
-    body: &'a [u16],
-    fill: usize,
-    ghost words: { SixteenBits catalog.now },
-    ghost registers: { SixteenBits body.now },
+pub(crate) struct Model<'a> {
+    pub(crate) catalog: CheckedCatalog<'a>,
+    pub(crate) visit: Visit,
+    pub(crate) body: &'a [u16],
+    pub(crate) survey: Survey,
+    pub(crate) ghost registers: { SixteenBits body.now },
+    pub(crate) ghost short: { length body.now ≤ 65535 },
+    pub(crate) ghost address: { visit.address ≤ 65536 },
+    pub(crate) ghost few_instances: { survey.fill ≤ 65535 },
 }
 
 // The progress of the walk: the number of records written, the offset in the body, and the frame.
@@ -52,47 +54,31 @@ pub(crate) struct Progress {
     pub(crate) frame: usize,
 }
 
-// Writes the records of a model that was surveyed and whose top points are in the table. Returns the number of records
-// written so far.
-pub(crate) fn put_model(
-    catalog: &CheckedCatalog,
-    table: &mut Table,
-    out: &mut [u64],
-    visit: Visit,
-    body: &[u16],
-    survey: Survey,
-    records: usize,
-) -> usize
-    requires ready { Ready catalog.now.words.now visit.id body.now table.old survey.first survey.fill }
-    requires has_points { HasPoints (read_in catalog.now.words.now visit.id body.now) }
-    requires body_len_bound { (length body.now ≤ 65535) × (visit.address ≤ 65536) }
-    requires body_in_bounds { record_width * (records + length (points_of (read_in catalog.now.words.now visit.id body.now))) ≤ length out.old }
-    ensures value { result ≡ records + length (points_of (read_in catalog.now.words.now visit.id body.now)) }
-    ensures out_after { out.new ≡ written visit records (points_of (read_in catalog.now.words.now visit.id body.now)) out.old }
-{
-    let top = InstancePath {
-        instances: [0, 0, 0],
-    };
-    let start = Progress {
-        records,
-        offset: 0,
-        frame: survey.first,
-    };
-    let model = Model {
-        catalog: catalog.words,
-        visit,
-        body,
-        fill: survey.fill,
-    };
-    let after_points = model.put_run(table, out, top, start);
-    if after_points.offset == body.len() {
-        return after_points.records;
-    }
-    let end = model.put_groups(table, out, LOWER_LEVELS, top, after_points);
-    end.records
-}
-
 impl Model<'_> {
+    // Writes the records of a model whose top points are in the table. Returns the number of records written so far.
+    pub(crate) fn put_points(&self, table: &mut Table, out: &mut [u64], records: usize) -> usize
+        requires ready { Ready self.now.catalog.words.now self.now.visit.id self.now.body.now table.old self.now.survey.first self.now.survey.fill }
+        requires has_points { HasPoints (read_in self.now.catalog.words.now self.now.visit.id self.now.body.now) }
+        requires capacity { record_width * (records + length (points_of (read_in self.now.catalog.words.now self.now.visit.id self.now.body.now))) ≤ length out.old }
+        ensures value { result ≡ records + length (points_of (read_in self.now.catalog.words.now self.now.visit.id self.now.body.now)) }
+        ensures out_after { out.new ≡ written self.now.visit records (points_of (read_in self.now.catalog.words.now self.now.visit.id self.now.body.now)) out.old }
+    {
+        let top = InstancePath {
+            instances: [0, 0, 0],
+        };
+        let start = Progress {
+            records,
+            offset: 0,
+            frame: self.survey.first,
+        };
+        let after_points = self.put_run(table, out, top, start);
+        if after_points.offset == self.body.len() {
+            return after_points.records;
+        }
+        self.put_groups(table, out, LOWER_LEVELS, top, after_points)
+            .records
+    }
+
     // Writes the points of an instance. Ends at the end of the body, so that a pad that is left out has no record.
     fn put_run(
         &self,
@@ -101,12 +87,12 @@ impl Model<'_> {
         path: InstancePath,
         start: Progress,
     ) -> Progress
-        requires { RunAsks self.now.catalog.now self.now.body.now out.old self.now.visit start (present_points self.now.catalog.now self.now.body.now start.offset start.frame) }
-        ensures after_run { AfterRun start (present_points self.now.catalog.now self.now.body.now start.offset start.frame) result }
-        ensures out_after { out.new ≡ written self.now.visit start.records (points_at self.now.body.now (instance_in table.now path.instances) start.offset (present_points self.now.catalog.now self.now.body.now start.offset start.frame)) out.old }
+        requires { RunAsks self.now.catalog.words.now self.now.body.now out.old start (present_points self.now.catalog.words.now self.now.body.now start.offset start.frame) }
+        ensures after_run { AfterRun start (present_points self.now.catalog.words.now self.now.body.now start.offset start.frame) result }
+        ensures out_after { out.new ≡ written self.now.visit start.records (points_at self.now.body.now (instance_in table.now path.instances) start.offset (present_points self.now.catalog.words.now self.now.body.now start.offset start.frame)) out.old }
     {
         let mut at = start;
-        for point in points_from(self.catalog, start.frame) {
+        for point in points_from(self.catalog.words, start.frame) {
             if self.body.len() <= at.offset {
                 return at;
             }
@@ -130,21 +116,21 @@ impl Model<'_> {
         path: InstancePath,
         start: Progress,
     ) -> Progress
-        requires { GroupsAsk self.now.catalog.now self.now.body.now table.old out.old self.now.visit self.now.fill levels path.instances start }
-        ensures after_groups { AfterGroups (content_from self.now.catalog.now start.frame).groups (count_of (scope_in table.old) self.now.fill) start result }
-        ensures out_after { out.new ≡ written self.now.visit start.records (groups_at self.now.body.now (count_of (scope_in table.old) self.now.fill) (level_of levels) (instance_in table.old path.instances) start.offset (content_from self.now.catalog.now start.frame).groups) out.old }
-        ensures agree_except { AgreeExcept (Soundness.numbers_of (group_frames (content_from self.now.catalog.now start.frame).groups)) table.old table.new }
+        requires { GroupsAsk self.now.catalog.words.now self.now.body.now table.old out.old self.now.survey.fill levels start }
+        ensures after_groups { AfterGroups (content_from self.now.catalog.words.now start.frame).groups (count_of (scope_in table.old) self.now.survey.fill) start result }
+        ensures out_after { out.new ≡ written self.now.visit start.records (groups_at self.now.body.now (count_of (scope_in table.old) self.now.survey.fill) (level_of levels) (instance_in table.old path.instances) start.offset (content_from self.now.catalog.words.now start.frame).groups) out.old }
+        ensures agree_except { AgreeExcept (Soundness.numbers_of (group_frames (content_from self.now.catalog.words.now start.frame).groups)) table.old table.new }
     {
         let mut at = start;
-        while let Some(head) = group_at(self.catalog, at.frame) {
+        while let Some(head) = group_at(self.catalog.words, at.frame) {
             let frame = at.frame;
-            for j in 0..count_of(table, head, self.fill) {
+            for j in 0..count_of(table, head, self.survey.fill) {
                 let within = path.with_number(LOWER_LEVELS - levels, j as u16);
                 let own = self.put_own(table, out, within, Progress { frame, ..at });
                 at = self.put_groups(table, out, levels - 1, within, own);
             }
             at = Progress {
-                frame: after_group(self.catalog, frame),
+                frame: after_group(self.catalog.words, frame),
                 ..at
             };
         }
@@ -159,16 +145,22 @@ impl Model<'_> {
         path: InstancePath,
         at: Progress,
     ) -> Progress
-        requires { RunAsks self.now.catalog.now self.now.body.now out.old self.now.visit (record { records = at.records; offset = at.offset; frame = at.frame + 1 }) (content_from self.now.catalog.now (at.frame + 1)).points }
-        ensures after_run { AfterRun (record { records = at.records; offset = at.offset; frame = at.frame + 1 }) (content_from self.now.catalog.now (at.frame + 1)).points result }
-        ensures out_after { out.new ≡ written self.now.visit at.records (points_at self.now.body.now (record { scope = within self.now.body.now at.offset (content_from self.now.catalog.now (at.frame + 1)).points (scope_in table.old); path = path.instances }) at.offset (content_from self.now.catalog.now (at.frame + 1)).points) out.old }
-        ensures table_after { table.new ≡ table_with self.now.body.now at.offset (content_from self.now.catalog.now (at.frame + 1)).points table.old }
+        requires { RunAsks self.now.catalog.words.now self.now.body.now out.old (record { records = at.records; offset = at.offset; frame = at.frame + 1 }) (content_from self.now.catalog.words.now (at.frame + 1)).points }
+        ensures after_run { AfterRun (record { records = at.records; offset = at.offset; frame = at.frame + 1 }) (content_from self.now.catalog.words.now (at.frame + 1)).points result }
+        ensures out_after { out.new ≡ written self.now.visit at.records (points_at self.now.body.now (record { scope = within self.now.body.now at.offset (content_from self.now.catalog.words.now (at.frame + 1)).points (scope_in table.old); path = path.instances }) at.offset (content_from self.now.catalog.words.now (at.frame + 1)).points) out.old }
+        ensures table_after { table.new ≡ table_with self.now.body.now at.offset (content_from self.now.catalog.words.now (at.frame + 1)).points table.old }
     {
         let first = Progress {
             frame: at.frame + 1,
             ..at
         };
-        record_run(self.catalog, first.frame, self.body, first.offset, table);
+        record_run(
+            self.catalog.words,
+            first.frame,
+            self.body,
+            first.offset,
+            table,
+        );
         self.put_run(table, out, path, first)
     }
 
@@ -181,7 +173,7 @@ impl Model<'_> {
         at: Progress,
         point: Point,
     )
-        requires point_fits { PointFits self.now.body.now at.offset self.now.visit (to_spec_point point) }
+        requires point_fits { PointFits self.now.body.now at.offset (to_spec_point point) }
         requires records_in_bounds { record_width * (at.records + 1) ≤ length out.old }
         ensures { out.new ≡ written self.now.visit at.records (point_at self.now.body.now (instance_in table.now path.instances) at.offset (to_spec_point point) ∷ []) out.old }
     {

@@ -84,7 +84,7 @@ fn search_model(
         return None;
     };
     let search = Search {
-        catalog: catalog.words,
+        catalog: *catalog,
         table,
         fill: survey.fill,
         key,

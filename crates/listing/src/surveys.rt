@@ -4,8 +4,8 @@ ghost use Rattle.std.proofs.Math.Option.{some};
 ghost use Rattle.model_definitions.specs.Definitions.{definitions};
 ghost use Rattle.layout.specs.Reading.{read_by, top_of};
 ghost use Rattle.layout.specs.InternalWalks.{content_from, ParsesAt, surveyed, read_in};
-ghost use Rattle.listing.specs.InternalCodeTypes.{to_spec_survey};
-ghost use Rattle.listing.specs.InternalContracts.{ReadyBy, fitted_by};
+ghost use Rattle.listing.specs.InternalCodeTypes.{to_spec_survey, to_spec_known};
+ghost use Rattle.listing.specs.InternalContracts.{ReadyBy, KnownReadyBy, fitted_by, points_or0};
 
 use crate::Table;
 use crate::checked::CheckedCatalog;
@@ -37,7 +37,7 @@ pub(crate) fn survey_model(
     let Some(first) = find_model(catalog, id) else {
         return Ok(None);
     };
-    survey_known(catalog, table, id, body, first)
+    survey_known(catalog, table, id, body, first).map(Some)
 }
 
 // Surveys a model by the definition that begins at frame `first`.
@@ -47,20 +47,20 @@ fn survey_known(
     id: u16,
     body: &[u16],
     first: usize,
-) -> Result<Option<Survey>, Refusal>
+) -> Result<Survey, Refusal>
     requires body_len_bound { length body.now ≤ 65535 }
     requires parses_at { ParsesAt catalog.now.words.now first × (top_of id (definitions catalog.now.words.now) ≡ some (content_from catalog.now.words.now first)) }
-    ensures result_value { to_spec_survey result ≡ surveyed (read_by id (content_from catalog.now.words.now first) body.now) }
-    ensures ready_by { ReadyBy catalog.now.words.now id body.now table.new result }
+    ensures result_value { to_spec_known result ≡ surveyed (read_by id (content_from catalog.now.words.now first) body.now) }
+    ensures ready_by { KnownReadyBy catalog.now.words.now id body.now table.new result }
 {
     let run = run_extent(catalog.words, first);
     if is_pad_left_out(catalog.words, id, run, body.len()) {
         record_run(catalog.words, first, body, 0, table);
-        return Ok(Some(Survey {
+        return Ok(Survey {
             first,
             points: run.points - 1,
             fill: 0,
-        }));
+        });
     }
     if body.len() < run.size {
         return Err(Refusal::ShortModel);
@@ -75,16 +75,17 @@ fn survey_known(
 
 // 29 unless `length` is the model's size; with a fill group, 29 if it is below the rest or leaves a remainder. Else the
 // number of points.
-fn fitted(first: usize, run: Run, groups: Extent, length: usize) -> Result<Option<Survey>, Refusal>
+fn fitted(first: usize, run: Run, groups: Extent, length: usize) -> Result<Survey, Refusal>
     requires size_in_bounds { (run.size ≤ length) × (length ≤ 65535) × (run.points ≤ 4096) }
-    requires size_bound { (groups.size ≤ 65536) × (groups.points ≤ 65536) × (groups.fill_points ≤ 65536) }
+    requires size_bound { (groups.size.registers ≤ 65536) × (groups.size.points ≤ 65536) × (points_or0 groups.fill ≤ 65536) }
     ensures { result ≡ fitted_by first run groups length }
 {
-    let rest = run.size + groups.size;
-    let fill = fill_count(length, rest, groups.fill_size).ok_or(Refusal::LengthNotSize)?;
-    Ok(Some(Survey {
+    let rest = run.size + groups.size.registers;
+    let instance = groups.fill.unwrap_or_default();
+    let fill = fill_count(length, rest, instance.registers).ok_or(Refusal::LengthNotSize)?;
+    Ok(Survey {
         first,
-        points: run.points + groups.points + fill * groups.fill_points,
+        points: run.points + groups.size.points + fill * instance.points,
         fill,
-    }))
+    })
 }

@@ -15,6 +15,7 @@ use Rattle.listing.specs.Finding.{nothing_result, found_result}
 use Rattle.listing.specs.InternalContracts.{result_at}
 use Rattle.listing.proofs.MapSurvey.{no_points_unknown, no_points_refused, has_points}
 use Rattle.listing.proofs.LocatedModels as model
+use Rattle.listing.proofs.ReadyModels.{few_instances}
 use Rattle.listing.proofs.CheckedPlants.{accepted_of}
 use Rattle.listing.proofs.search.search_model.Goals as goal
 
@@ -34,6 +35,11 @@ pub returns-in_default-2 : goal.returns-in_default-2
 returns-in_default-2 c =
     let read = read_in c.args.catalog.now.words.now c.args.id c.args.body.now in
     nothing_found c.args.key.number c.args.key.path.instances c.args.at (no_points_refused read (rw c.in_default.is at c.survey_model.ensures.result_value))
+
+pub invariant_of-search : goal.invariant_of-search
+invariant_of-search c =
+    let survey = rw c.in-Ok-Some.field-0-is at c.in-Ok-Some.ensures in
+    record { few_instances = few_instances survey.ready_by c.requires.0 }
 
 pub locate_model-requires : goal.locate_model-requires
 locate_model-requires c =

@@ -39,7 +39,7 @@ overflow_sub-levels-then-j-shape t c =
 pub locate_own-requires-clause-parses_at : goal.locate_own-requires-clause-parses_at
 locate_own-requires-clause-parses_at t c =
     let asks = c.loop-head.invariant.0 in
-    (steps.own_parses (at_group asks c.in-Some.ensures c.shape_of-shape.ensures), asks.position.few)
+    steps.own_parses (at_group asks c.in-Some.ensures c.shape_of-shape.ensures)
 
 pub locate_own-requires-clause-limit_bound : goal.locate_own-requires-clause-limit_bound
 locate_own-requires-clause-limit_bound t c =
@@ -88,8 +88,8 @@ loop-head-preserved t c =
     let j = at_number c.args.levels asks.at_most3 path c.number_at-j.ensures in
     let result = located_in (count_of (scope_in c.args.self.now.table.now) c.args.self.now.fill) number path (level_of c.args.levels) in
     let shape = c.shape_of-shape.result in
-    let same : result c.loop-head.at.offset (content_from c.args.self.now.catalog.now c.loop-head.at.frame).groups
-    ≡ result (c.loop-head.at.offset + shape.count * shape.size) (content_from c.args.self.now.catalog.now shape.next).groups =
+    let same : result c.loop-head.at.offset (content_from c.args.self.now.catalog.words.now c.loop-head.at.frame).groups
+    ≡ result (c.loop-head.at.offset + shape.count * shape.size) (content_from c.args.self.now.catalog.words.now shape.next).groups =
     elim c.if-j-shape.branch [
       | then-j-shape+in_default-locate_own+in_default-locate_groups w ↦
           steps.found_neither there number path j w.if-j-shape.true (sym w.in_default-locate_own.ensures) (sym w.in_default-locate_groups.ensures)
@@ -99,7 +99,7 @@ loop-head-preserved t c =
 
 pub loop-head-smaller : goal.loop-head-smaller
 loop-head-smaller t c =
-    let within = position.parses_within c.args.self.now.catalog.now c.loop-head.at.frame c.loop-head.invariant.0.position.parses in
+    let within = position.parses_within c.args.self.now.catalog.words.now c.loop-head.at.frame c.loop-head.invariant.0.position.parses in
     omega (arith, within, c.shape_of-shape.ensures.next)
 
 pub returns : goal.returns

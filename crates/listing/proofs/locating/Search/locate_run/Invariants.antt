@@ -12,4 +12,4 @@ invariant-loop-point l =
     × (goal.iterator-loop-point).is_finite l.point-iterator
     × (located_among l.self.key.number l.offset (present_within l.limit l.offset (points_left l.point-iterator))
     ≡ located_among l.self.key.number l.fn.start.offset
-    (present_within l.limit l.fn.start.offset (content_from l.self.catalog.now l.fn.start.frame).points))
+    (present_within l.limit l.fn.start.offset (content_from l.self.catalog.words.now l.fn.start.frame).points))

@@ -16,15 +16,15 @@ entered levels few path j e =
 pub loop-head-init : goal.loop-head-init
 loop-head-init t c =
     let a = c.requires in
-    (steps.begins a, a.position.parses, a.position.no_point)
+    (steps.begins c.args.self.now.visit c.args.path.instances a (search rules), a.position.parses, a.position.no_point)
 
 pub put_own-own-requires : goal.put_own-own-requires
 put_own-own-requires t c =
     let i = c.loop-head.invariant in
     let e = sym c.in-Some.ensures in
-    let first = steps.count_there c.requires i.0 i.1 i.2 e in
-    let same = steps.count_there c.requires c.loop-j.invariant i.1 i.2 e in
-    steps.own_asks c.requires c.loop-j.invariant i.1 i.2 e (omega (arith, first, same, c.count_of-j-end.ensures.value, c.loop-j-test.true))
+    let first = steps.count_there c.args.self.now.visit c.args.path.instances c.requires i.0 i.1 i.2 e in
+    let same = steps.count_there c.args.self.now.visit c.args.path.instances c.requires c.loop-j.invariant i.1 i.2 e in
+    steps.own_asks c.args.self.now.visit c.args.path.instances c.requires c.loop-j.invariant i.1 i.2 e (omega (arith, first, same, c.count_of-j-end.ensures.value, c.loop-j-test.true))
 
 pub put_groups-at-requires : goal.put_groups-at-requires
 put_groups-at-requires t c =
@@ -32,11 +32,11 @@ put_groups-at-requires t c =
     let w = c.loop-j.invariant in
     let e = sym c.in-Some.ensures in
     let own = c.put_own-own.ensures in
-    let first = steps.count_there c.requires i.0 i.1 i.2 e in
-    let same = steps.count_there c.requires w i.1 i.2 e in (
-      omega (arith, steps.level_left c.requires w i.1 i.2 e, c.decreases),
-      steps.lower_asks c.requires w i.1 i.2 e (omega (arith, first, same, c.count_of-j-end.ensures.value, c.loop-j-test.true))
-          c.args.self.now.words own.table_after
+    let first = steps.count_there c.args.self.now.visit c.args.path.instances c.requires i.0 i.1 i.2 e in
+    let same = steps.count_there c.args.self.now.visit c.args.path.instances c.requires w i.1 i.2 e in (
+      omega (arith, steps.level_left c.args.self.now.visit c.args.path.instances c.requires w i.1 i.2 e, c.decreases),
+      steps.lower_asks c.args.self.now.visit c.args.path.instances c.requires w i.1 i.2 e (omega (arith, first, same, c.count_of-j-end.ensures.value, c.loop-j-test.true))
+          c.args.self.now.catalog.sixteen_bits own.table_after
           (entered c.args.levels c.requires.at_most3 c.args.path.instances _ c.with_number-within.ensures) own.after_run own.out_after,
     )
 
@@ -47,31 +47,31 @@ loop-j-preserved t c =
     let e = sym c.in-Some.ensures in
     let own = c.put_own-own.ensures in
     let g = c.put_groups-at.ensures in
-    let first = steps.count_there c.requires i.0 i.1 i.2 e in
-    let same = steps.count_there c.requires w i.1 i.2 e in
+    let first = steps.count_there c.args.self.now.visit c.args.path.instances c.requires i.0 i.1 i.2 e in
+    let same = steps.count_there c.args.self.now.visit c.args.path.instances c.requires w i.1 i.2 e in
     let is_table : length c.put_groups-at.new.table ≡ 65536 = search rules in
-    steps.further c.requires w i.1 i.2 e (omega (arith, first, same, c.count_of-j-end.ensures.value, c.loop-j-test.true))
-    c.args.self.now.words own.table_after
+    steps.further c.args.self.now.visit c.args.path.instances c.requires w i.1 i.2 e (omega (arith, first, same, c.count_of-j-end.ensures.value, c.loop-j-test.true))
+    c.args.self.now.catalog.sixteen_bits own.table_after
     (entered c.args.levels c.requires.at_most3 c.args.path.instances _ c.with_number-within.ensures) own.after_run own.out_after
     g.after_groups g.out_after g.agree_except is_table
 
 pub loop-head-preserved : goal.loop-head-preserved
 loop-head-preserved t c =
-    let ws = c.args.self.now.catalog.now in
+    let ws = c.args.self.now.catalog.words.now in
     let at = c.loop-head.at in
     let i = c.loop-head.invariant in
     let e = sym c.in-Some.ensures in
     let opened = (position.group_next ws at.frame i.1 i.2 _ e).1 in
-    let s = steps.parses_past c.requires i.0 i.1 i.2 e in
-    let first = steps.count_there c.requires i.0 i.1 i.2 e in
-    let same = steps.count_there c.requires c.loop-j.invariant i.1 i.2 e in
-    let w = steps.passes c.requires c.loop-j.invariant i.1 i.2 e (omega (arith, first, same, c.count_of-j-end.ensures.value, c.loop-j-test.false)) in
+    let s = steps.parses_past c.args.self.now.visit c.args.path.instances c.requires i.0 i.1 i.2 e in
+    let first = steps.count_there c.args.self.now.visit c.args.path.instances c.requires i.0 i.1 i.2 e in
+    let same = steps.count_there c.args.self.now.visit c.args.path.instances c.requires c.loop-j.invariant i.1 i.2 e in
+    let w = steps.passes c.args.self.now.visit c.args.path.instances c.requires c.loop-j.invariant i.1 i.2 e (omega (arith, first, same, c.count_of-j-end.ensures.value, c.loop-j-test.false)) in
     let past = c.after_group.ensures ∙ group_passed ws at.frame opened in
     rw past (w, s.0, s.1)
 
 pub loop-head-smaller : goal.loop-head-smaller
 loop-head-smaller t c =
-    let ws = c.args.self.now.catalog.now in
+    let ws = c.args.self.now.catalog.words.now in
     let at = c.loop-head.at in
     let i = c.loop-head.invariant in
     let within = position.parses_within ws at.frame i.1 in
@@ -82,4 +82,4 @@ loop-head-smaller t c =
 pub returns-clause-out_after : goal.returns-clause-out_after
 returns-clause-out_after t c =
     let i = c.loop-head.invariant in
-    (steps.ends c.requires i.0 i.1 i.2 (sym c.in_default.ensures)).0
+    (steps.ends c.args.self.now.visit c.args.path.instances c.requires i.0 i.1 i.2 (sym c.in_default.ensures)).0

@@ -21,7 +21,7 @@ put_record-requires-clause-records_in_bounds c =
 pub overflow_add-at-in-loop-point-2 : goal.overflow_add-at-in-loop-point-2
 overflow_add-at-in-loop-point-2 c =
     let i = c.loop-point.invariant.2 in
-    omega (arith, i.asks.few, still_within i)
+    omega (arith, c.args.self.now.catalog.few, still_within i)
 
 pub loop-point-preserved : goal.loop-point-preserved
 loop-point-preserved c =

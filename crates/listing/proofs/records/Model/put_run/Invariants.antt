@@ -7,5 +7,5 @@ abbrev pub invariant-loop-point : goal.invariant-loop-point
 invariant-loop-point l =
     (goal.iterator-loop-point).can_next l.point-iterator
     × (goal.iterator-loop-point).is_finite l.point-iterator
-    × StillWrites l.self.catalog.now l.self.body.now l.table l.self.visit l.path.instances l.initial.out l.initial.at l.out l.at
+    × StillWrites l.self.catalog.words.now l.self.body.now l.table l.self.visit l.path.instances l.initial.out l.initial.at l.out l.at
     (points_left l.point-iterator)
