@@ -1,6 +1,6 @@
 // Hexadecimal digits of any case.
 ghost use Rattle.std.specs.Prelude.{◌≡◌, ◌<◌, get_or};
-ghost use Rattle.input.specs.Digits.{digit_value, is_digit, digit_or0, are_digits, word};
+ghost use Rattle.input.specs.Digits.{digit_value, digit_or0, are_digits, word};
 ghost use Rattle.input.specs.CodeTypes.{to_spec_digit};
 
 // The value of `byte` as a hexadecimal digit; none for any other byte.
@@ -8,27 +8,15 @@ ghost use Rattle.input.specs.CodeTypes.{to_spec_digit};
 pub fn digit_of(byte: u8) -> Option<u16>
     ensures { to_spec_digit result ≡ digit_value byte }
 {
-    match byte {
-        b'0'..=b'9' => Some((byte - b'0') as u16),
-        b'A'..=b'F' => Some((byte - b'A') as u16 + 10),
-        b'a'..=b'f' => Some((byte - b'a') as u16 + 10),
-        _ => None,
-    }
-}
-
-// Is the byte a digit?
-#[tactic(auto, unfolding(crate::specs::Digits::is_digit))]
-fn is_digit(byte: u8) -> bool
-    ensures { result ≡ is_digit byte }
-{
-    digit_of(byte).is_some()
+    Some(char::from(byte).to_digit(16)? as u16)
 }
 
 // Are all these bytes digits?
+#[tactic(auto, unfolding(crate::specs::Digits::is_digit, crate::specs::Digits::digit_value))]
 pub(crate) fn are_digits(bytes: &[u8]) -> bool
     ensures { result ≡ are_digits bytes.now }
 {
-    bytes.iter().all(|byte| is_digit(*byte))
+    bytes.iter().all(u8::is_ascii_hexdigit)
 }
 
 // The value of a digit; 0 for any other byte.

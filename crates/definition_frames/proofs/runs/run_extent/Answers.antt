@@ -14,7 +14,7 @@ loop-point-init c =
       tt,
       tt,
       counts_none _ _ _ _ (ap (λ t. t.n) same ∙ taken.count)
-      (ap (λ t. points_left t.iter) same ∙ ap points_left taken.source ∙ c.points_from.ensures),
+          (ap (λ t. points_left t.iter) same ∙ ap points_left taken.source ∙ c.points_from.ensures),
     )
 
 pub loop-point-preserved : goal.loop-point-preserved

@@ -2,7 +2,6 @@
 use mathlib.Core.Path.{◌≡◌, sym, ap, ◌∙◌}
 use mathlib.Core.List.{List}
 use Prim.Native.Nat.{ℕ}
-use native.Mathlib.Omega.{arith}
 use Rattle.catalog_frames.specs.Frames.{Point}
 use Rattle.catalog_frames.specs.CodeTypes.{to_spec_point}
 use Rattle.definition_frames.specs.CodeTypes.{points_left}
@@ -51,7 +50,7 @@ loop-point-preserved c =
       tt,
       tt,
       rw c.from-offset.ensures
-      (sym further ∙ sym (among a.self.now.key.number a.limit l.offset c.in-Some.ensures.steps) ∙ l.invariant.2),
+          (sym further ∙ sym (among a.self.now.key.number a.limit l.offset c.in-Some.ensures.steps) ∙ l.invariant.2),
     )
 
 pub returns : goal.returns
