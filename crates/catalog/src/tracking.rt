@@ -48,13 +48,13 @@ impl Tracking {
         ensures id_fits { IdFits (frame_at frame.entry.catalog.now frame.entry.index) }
     {
         let state = self.state;
-        match read_frame(frame.catalog, frame.index) {
-            Some(Frame::Model(id)) => model_fault(&self.ids, state.depth, id),
-            Some(Frame::Group(head)) => {
+        match read_frame(frame.catalog, frame.index).ok_or(Refusal::MalformedFrame)? {
+            Frame::Model(id) => model_fault(&self.ids, state.depth, id),
+            Frame::Group(head) => {
                 let counted = self.uncounted != Some(frame.index);
                 group_fault(&self.numbers, state.depth, state.has_fill, head, counted)
             }
-            Some(Frame::Point(point)) => {
+            Frame::Point(point) => {
                 point_fault(
                     &self.numbers,
                     &self.scales,
@@ -63,14 +63,13 @@ impl Tracking {
                     point,
                 )
             }
-            Some(Frame::End) => {
+            Frame::End => {
                 let first = FrameAt {
                     catalog: frame.catalog,
                     index: state.innermost(),
                 };
                 end_fault(state.depth, state.has_group, first.kind() != POINT)
             }
-            None => Err(Refusal::MalformedFrame),
         }
     }
 
