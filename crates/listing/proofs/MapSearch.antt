@@ -24,7 +24,7 @@ use Rattle.listing.specs.Listing.{Record, record_of, Answer, listed, with_record
 use Rattle.listing.specs.Finding as Finding
 use Rattle.listing.specs.Finding.{is_record, finding_in, Result, nothing_result, result}
 use Rattle.listing.specs.InternalContracts.{result_at, IsListed}
-use Rattle.listing.specs.InternalModels.{StartsAt, ModelGiven, GivesModel, IsNoModel, header_there}
+use Rattle.listing.specs.InternalModels.{StartsAt, ModelGiven, GivesModel, IsNoModel}
 use Rattle.listing.specs.declared.models.Models.{Models}
 use Rattle.listing.specs.declared.models.ModelAt.{ModelAt}
 use Rattle.listing.proofs.Searches.{skipped, own_records, none_later}

@@ -26,12 +26,11 @@ use catalog::check;
 use checked::{CheckedCatalog, CheckedPlant};
 pub use group_instances::InstancePath;
 use group_instances::NUMBERS;
-use models::{ModelAt, Models};
+use models::{ModelAt, Models, model_at};
 pub use records::WIDTH;
 use records::{Model, Visit};
 use refusals::{Refusal, Refused};
 use register_map::{FIRST_HEADER, Header, body_address, header_at, opened};
-use registers::part;
 pub use search::{Target, find};
 use std::error::Error;
 use std::fmt;
@@ -139,11 +138,12 @@ fn survey_map(plant: &CheckedPlant, table: &mut Table) -> Result<Listed, NotList
     let mut at = FIRST_HEADER;
     let mut headers = 0;
     let mut points = 0;
+    // No `for` over `Models`, since the header after the last model decides too: the end marker or a refusal.
     loop {
         match header_at(plant.map, at) {
             Ok(Header::Model { id, length }) => {
-                let body = part(plant.map, at + 2, length as usize);
-                match survey_model(&plant.catalog, table, id, body) {
+                let model = model_at(plant.map, at, id, length);
+                match survey_model(&plant.catalog, table, &model) {
                     Ok(survey) => points += survey.map_or(0, |survey| survey.points),
                     Err(refusal) => return refused(refusal, at, headers),
                 }
@@ -204,7 +204,7 @@ fn put_known(
     ensures value { result ≡ records + Lists.length (points_of (read_in catalog.now.words.now model.now.id model.now.body.now)) }
     ensures out_after { out.new ≡ written (visit_of index model.now) records (points_of (read_in catalog.now.words.now model.now.id model.now.body.now)) out.old }
 {
-    let Ok(Some(survey)) = survey_model(catalog, table, model.id, model.body) else {
+    let Ok(Some(survey)) = survey_model(catalog, table, model) else {
         return records;
     };
     let visit = Visit {

@@ -62,7 +62,7 @@ impl<'a> Iterator for Models<'a> {
 }
 
 // The model with the header at `address`, by its id and its length.
-fn model_at(map: &[u16], address: usize, id: u16, count: u16) -> ModelAt
+pub(crate) fn model_at(map: &[u16], address: usize, id: u16, count: u16) -> ModelAt
     requires { (address + 2 + count ≤ length map.now) × (length map.now ≤ 65536) }
     ensures address { result.address ≡ address }
     ensures id { result.id ≡ id }

@@ -69,7 +69,7 @@ fn search_model(
 ) -> Option<Target>
     ensures { to_spec_finding (Ok result) ≡ result_at model.now.address (first_with (is_point key.number key.path.instances) (points_of (read_in catalog.now.words.now model.now.id model.now.body.now))) }
 {
-    let Ok(Some(survey)) = survey_model(catalog, table, model.id, model.body) else {
+    let Ok(Some(survey)) = survey_model(catalog, table, model) else {
         return None;
     };
     let search = Search {

@@ -1,7 +1,7 @@
 -- `listing::put_known` meets its contract: the survey decides whether the model has records to write.
-use Rattle.std.proofs.Common.{rules, ◌≡◌}
+use Rattle.std.proofs.Common.{◌≡◌}
 use Rattle.std.specs.Prelude.{None}
-use Rattle.layout.specs.InternalWalks.{points_of, read_in}
+use Rattle.layout.specs.InternalWalks.{read_in}
 use Rattle.listing.specs.InternalContracts.{visit_of}
 use Rattle.listing.proofs.MapSurvey.{no_points_unknown, no_points_refused}
 use Rattle.listing.proofs.MapRecords.{nothing_written}

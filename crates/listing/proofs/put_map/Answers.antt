@@ -1,5 +1,5 @@
 -- `listing::put_map` meets its contract: at each model, writing the remaining ones gives the list that the contract requires.
-use Rattle.std.proofs.Common.{◌≡◌, ap, sym, subst, ◌∙◌, arith}
+use Rattle.std.proofs.Common.{ap, sym, subst, ◌∙◌, arith}
 use mathlib.Core.Logic.{inl}
 use Rattle.std.specs.Iterator.Adapters.{enumerate_source, enumerate_count}
 use Rattle.model_definitions.specs.Definitions.{definitions}

@@ -1,5 +1,5 @@
 -- `listing::models::Models::next` meets its contract: a model ends within the map, where the next header is.
-use Rattle.std.proofs.Common.{rules, ◌+◌, length, take, drop, refl, sym, ap, ◌∙◌, arith, nat_eq}
+use Rattle.std.proofs.Common.{◌+◌, length, take, drop, refl, sym, ap, ◌∙◌, arith, nat_eq}
 use Rattle.register_map.specs.Headers.{model}
 use Rattle.register_map.proofs.HeaderCases.{model_ends}
 use Rattle.listing.specs.InternalModels.{CanWalk}
