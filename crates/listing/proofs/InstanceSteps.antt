@@ -4,7 +4,7 @@ use mathlib.Core.List.{List, [], ◌++◌}
 use mathlib.Core.Option.{none, some}
 use Prim.Native.Nat.{ℕ, suc, ◌+◌, ◌-◌, ◌≤◌, ◌<◌}
 use native.Mathlib.Omega.{arith}
-use lib.ListN.{length, get_or, set, length-set}
+use lib.ListN.{length, get_or, set}
 use Rattle.catalog_frames.specs.Frames.{Point, Head, frame_in}
 use Rattle.model_definitions.specs.Definitions.{Groups, group, points_size, group_frames}
 use Rattle.model_definitions.specs.Soundness.{numbers_of}

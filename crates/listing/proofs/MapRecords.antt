@@ -5,10 +5,10 @@ use mathlib.Core.List as Lists
 use Prim.Native.Nat.{ℕ, ◌+◌, ◌*◌, ◌≤◌}
 use native.Mathlib.Omega.{arith}
 use lib.Dec.{eqb}
-use lib.ListN.{length, drop, length-append, length-map}
+use lib.ListN.{length, take, drop, length-append, length-map}
 use lib.Seq.{sets, sets-eq}
 use Rattle.lists.proofs.StoreLaws.{sets_append}
-use Rattle.register_map.specs.Headers.{model, end_marker, refused, header_at}
+use Rattle.register_map.specs.Headers.{Header, model, end_marker, refused, header_at}
 use Rattle.register_map.specs.Scan.{Model}
 use Rattle.register_map.proofs.HeaderCases.{model_ends}
 use Rattle.layout.specs.Points.{ModelPoint}
@@ -16,7 +16,10 @@ use Rattle.layout.specs.Reading.{Reading, unknown, faulty, points}
 use Rattle.layout.specs.InternalWalks.{points_of}
 use Rattle.listing.specs.Listing as Listing
 use Rattle.listing.specs.Listing.{Record, record_width, record_of, Answer, listed, walked, entries, stored, consecutive}
-use Rattle.listing.specs.InternalContracts.{written, WalkFits}
+use Rattle.listing.specs.InternalContracts.{written, visit_of, WalkFits}
+use Rattle.listing.specs.InternalModels.{CanWalk, StartsAt, ModelGiven, IsNoModel, header_there}
+use Rattle.listing.specs.declared.models.Models.{Models}
+use Rattle.listing.specs.declared.models.ModelAt.{ModelAt}
 use Rattle.listing.specs.declared.records.Visit.{Visit}
 use Rattle.listing.proofs.WrittenRecords.{entries_length, entries_append, written_none, written_length}
 use Rattle.listing.proofs.WalkSteps.{not_listed, prepended_listed}
@@ -144,3 +147,58 @@ module _ {read : Model → Reading} {map before out : List ℕ} {at index record
             let b = prepended_listed (Lists.map (record_of index at id) ps) next here.left here.headers
             (sym (walk_at_points read map index at id len here.low h e) ∙ here.rest) in
             goes ps b.0 b.1 b.2
+
+-- ---- The walk as an iterator over the models
+
+-- It begins at the first header.
+pub models_start : {read : Model → Reading} {map out : List ℕ} {s : Models} → StartsAt map s → WalkFits (walked read map) out
+    → WalkingMap read map out out s.at 0 0
+models_start {read} {map} {out} b f = subst (λ a. WalkingMap read map out out a 0 0) (sym b.at) (walking_starts read map out f)
+
+module _ {read : Model → Reading} {map before out : List ℕ} {index records : ℕ} (s : Models) (same : s.map.now ≡ map)
+    (here : WalkingMap read map before out s.at index records) where
+  -- If it gives no model, all records are written.
+  pub no_model_left : IsNoModel (header_there s) → out ≡ stored (walked read map) before
+  no_model_left n =
+      go (header_at (eqb s.at 2) (drop s.at map)) refl (subst (λ x. IsNoModel (header_at (eqb s.at 2) (drop s.at x))) same n)
+    where
+      go : (x : Header) → header_at (eqb s.at 2) (drop s.at map) ≡ x → IsNoModel x → out ≡ stored (walked read map) before
+      go (model id len) e f = absurd f
+      go end_marker e f = walking_ends here e
+      go (refused number) e f = walking_refused here e
+
+  module _ {t : Models} {m : ModelAt} (can : CanWalk s) (given : ModelGiven s m t) where
+    -- The points of the model that it gives.
+    abbrev pub given_points : List ModelPoint
+    given_points = points_of (read (record { id = m.id; body = m.body.now }))
+
+    -- They fit, and after writing them the walk goes on.
+    onward : (record_width * (records + length given_points) ≤ length out)
+        × WalkingMap read map before (written (visit_of index m) records given_points out) t.at (index + 1) (records + length given_points)
+    onward =
+        let n = length m.body.now in
+        let short = subst (λ x. length x ≤ 65536) same can.short in
+        let h = subst (λ x. header_at (eqb s.at 2) (drop s.at x) ≡ model m.id n) same given.header in
+        let b : m.body.now ≡ take n (drop (s.at + 2) map) = given.body ∙ ap (λ x. take n (drop (s.at + 2) x)) same in
+        let P : List ℕ → ℕ → ℕ → Type 0 = λ body address next.
+        (record_width * (records + length (points_of (read (record { id = m.id; body = body })))) ≤ length out)
+        × WalkingMap read map before
+        (written (record { index = index; id = m.id; address = address }) records (points_of (read (record { id = m.id; body = body }))) out)
+        next (index + 1) (records + length (points_of (read (record { id = m.id; body = body })))) in
+        let there : P (take n (drop (s.at + 2) map)) s.at (s.at + (2 + n)) = walking_goes_on here short h in
+        subst (λ x. P x m.address t.at) (sym b)
+        (subst (λ x. P (take n (drop (s.at + 2) map)) x t.at) (sym given.address)
+        (subst (P (take n (drop (s.at + 2) map)) s.at) (sym given.next) there))
+
+    pub given_fits : record_width * (records + length given_points) ≤ length out
+    given_fits = onward.0
+
+    pub given_written : {number following written_now : ℕ} {out' : List ℕ} → number ≡ index → following ≡ index + 1
+        → written_now ≡ records + length given_points → out' ≡ written (visit_of number m) records given_points out
+        → WalkingMap read map before out' t.at following written_now
+    given_written {number} {following} {written_now} {out'} a b r o =
+        let W : List ℕ → ℕ → ℕ → Type 0 = λ x i k. WalkingMap read map before x t.at i k in
+        subst (λ i. W out' i written_now) (sym b)
+        (subst (W out' (index + 1)) (sym r)
+        (subst (λ x. W x (index + 1) (records + length given_points))
+        (sym (o ∙ ap (λ i. written (visit_of i m) records given_points out) a)) onward.1))

@@ -8,9 +8,11 @@ use Prim.Native.Nat.{ℕ, ◌+◌, ◌≤◌}
 use native.Mathlib.Omega.{arith}
 use borrow.Author.Tests.{eq-eqb, ne_eqb}
 use lib.Dec.{eqb}
-use lib.ListN.{length, drop}
+use lib.ListN.{length, take, drop}
+use Rattle.std.specs.Prelude as Std
+use Rattle.std.specs.Iterator.{Yields, YieldsThen}
 use Rattle.lists.specs.Tests.{first_with}
-use Rattle.register_map.specs.Headers.{model, end_marker, refused, header_at}
+use Rattle.register_map.specs.Headers.{Header, model, end_marker, refused, header_at}
 use Rattle.register_map.specs.Scan.{Model}
 use Rattle.register_map.proofs.HeaderCases.{model_ends}
 use Rattle.layout.specs.Points.{ModelPoint}
@@ -22,6 +24,9 @@ use Rattle.listing.specs.Listing.{Record, record_of, Answer, listed, with_record
 use Rattle.listing.specs.Finding as Finding
 use Rattle.listing.specs.Finding.{is_record, finding_in, Result, nothing_result, result}
 use Rattle.listing.specs.InternalContracts.{result_at, IsListed}
+use Rattle.listing.specs.InternalModels.{StartsAt, ModelGiven, GivesModel, IsNoModel}
+use Rattle.listing.specs.declared.models.Models.{Models}
+use Rattle.listing.specs.declared.models.ModelAt.{ModelAt}
 use Rattle.listing.proofs.Searches.{skipped, own_records, none_later}
 use Rattle.listing.proofs.MapSteps.{walk_at, model_at, walk_starts, walk_at_end, walk_at_refused, walk_at_unknown, walk_at_faulty, walk_at_points}
 
@@ -100,12 +105,6 @@ search_starts read map target number path l =
       few_models = omega arith;
     }
 
--- The same at an equal address.
-pub search_at : {read : Model → Reading} {map : List ℕ} {target number : ℕ} {path : List ℕ} {at here index : ℕ} → here ≡ at
-    → Searching read map target number path at index → Searching read map target number path here index
-search_at {read} {map} {target} {number} {path} {at} {here} {index} e s =
-    subst (λ a. Searching read map target number path a index) (sym e) s
-
 module _ {read : Model → Reading} {map : List ℕ} {target number : ℕ} {path : List ℕ} {at index : ℕ}
     (here : Searching read map target number path at index) where
   abbrev expected : Result
@@ -180,3 +179,60 @@ module _ {read : Model → Reading} {map : List ℕ} {target number : ℕ} {path
             let l = under_records (Lists.map (record_of index at id) ps) next (subst IsListed w here.is_listed) in
             sym (ap (λ a. result (finding_in target number path a)) w
             ∙ own_decides target number path index at id (eq-eqb index target y) ps next l later)
+
+-- ---- The search by an iterator over the models
+
+module _ (read : Model → Reading) (map : List ℕ) (target number : ℕ) (path : List ℕ) (short : length map ≤ 65536) where
+  abbrev At : ℕ → ℕ → Type 0
+  At = Searching read map target number path
+
+  abbrev wanted : Result
+  wanted = result (finding_in target number path (walked read map))
+
+  header_is : {s t : Models} {m : ModelAt} → s.map.now ≡ map → ModelGiven s m t
+      → header_at (eqb s.at 2) (drop s.at map) ≡ model m.id (length m.body.now)
+  header_is {s} {t} {m} same given = subst (λ x. header_at (eqb s.at 2) (drop s.at x) ≡ model m.id (length m.body.now)) same given.header
+
+  -- Models before the one with the index are skipped.
+  skips : (xs : List ModelAt) (s t : Models) {index : ℕ} → s.map.now ≡ map → At s.at index → index + length xs ≤ target
+      → Yields GivesModel s xs t → (t.map.now ≡ map) × At t.at (index + length xs)
+  skips [] s t {index} same here few y =
+      let all : index ≡ index + 0 = omega arith in
+      subst (λ u. (u.map.now ≡ map) × At u.at (index + 0)) y (same, subst (At s.at) all here)
+  skips (m ∷ xs) s t {index} same here few y =
+      let on = search_other here (header_is same y.1) short (omega arith) in
+      let next = subst (λ a. At a (index + 1)) (sym y.1.next) on in
+      let rest = skips xs y.0 t {index = index + 1} (y.1.same_map ∙ same) next (omega arith) y.2 in
+      let all : index + 1 + length xs ≡ index + length (m ∷ xs) = omega arith in
+      (rest.0, subst (At t.at) all rest.1)
+
+  module _ {s : Models} (starts : StartsAt map s) (listed_all : IsListed (walked read map)) where
+    begins : At s.at 0
+    begins = subst (λ a. At a 0) (sym starts.at) (search_starts read map target number path listed_all)
+
+    -- The map has no model with the index.
+    pub no_model : (xs : List ModelAt) {u : Models} → YieldsThen GivesModel s xs Std.None u → length xs ≤ target → nothing_result ≡ wanted
+    no_model xs {u} y few =
+        let end = y.0 in
+        let there = skips xs s end {index = 0} starts.map_is begins (omega arith) y.1 in
+        go (header_at (eqb end.at 2) (drop end.at map)) refl there.1
+        (subst (λ x. IsNoModel (header_at (eqb end.at 2) (drop end.at x))) there.0 y.2.1)
+      where
+        go : (x : Header) {at index : ℕ} → header_at (eqb at 2) (drop at map) ≡ x → At at index → IsNoModel x → nothing_result ≡ wanted
+        go (model id len) e here f = absurd f
+        go end_marker e here f = search_ends here e
+        go (refused n) e here f = search_refused here e
+
+    -- The model with the index decides.
+    pub model_found : (xs : List ModelAt) {m : ModelAt} {u : Models} → YieldsThen GivesModel s xs (Std.Some m) u → length xs ≡ target
+        → result_at m.address (first_with (is_point number path) (points_of (read (record { id = m.id; body = m.body.now })))) ≡ wanted
+    model_found xs {m} {u} y all =
+        let end = y.0 in
+        let given = y.2 in
+        let there = skips xs s end {index = 0} starts.map_is begins (omega arith) y.1 in
+        let n = length m.body.now in
+        let b : m.body.now ≡ take n (drop (end.at + 2) map) = given.body ∙ ap (λ x. take n (drop (end.at + 2) x)) there.0 in
+        let R : ℕ → List ℕ → Result = λ address body.
+        result_at address (first_with (is_point number path) (points_of (read (record { id = m.id; body = body })))) in
+        ap (λ a. R a m.body.now) given.address ∙ ap (R end.at) b
+        ∙ search_own there.1 (header_is there.0 given) (omega (arith, all))

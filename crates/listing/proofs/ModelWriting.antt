@@ -1,5 +1,5 @@
 -- Writing the records of a model: its top points, and then its groups.
-use mathlib.Core.Path.{◌≡◌, refl, sym, ap, subst, ◌∙◌}
+use mathlib.Core.Path.{◌≡◌, sym, ap, subst, ◌∙◌}
 use mathlib.Core.List.{List, ◌++◌, append-nil}
 use Prim.Native.Nat.{ℕ, ◌+◌, ◌*◌, ◌≤◌, ◌<◌}
 use native.Mathlib.Omega.{arith}
@@ -14,7 +14,6 @@ use Rattle.layout.specs.PointTables.{scope_in, present_within}
 use Rattle.layout.specs.InternalWalks.{content_from, Accepted, instance_in, AtGroups, points_of, HasPoints, Ready}
 use Rattle.layout.proofs.Readings.{Full, HowRead, reading_left_out, full, resolves_left}
 use Rattle.layout.proofs.FramePosition as position
-use Rattle.layout.proofs.AcceptedModels as models
 use Rattle.layout.proofs.GroupDescent.{top_groups}
 use Rattle.layout.proofs.PointCounts as point_counts
 use Rattle.layout.proofs.LeftOutPad as pads

@@ -1,5 +1,5 @@
 -- Internal: contracts between private functions of this crate; no public contract cites this file.
-use Rattle.std.specs.Prelude.{◌≡◌, Option, Some, None, Result, Ok, Err, true, false, ◌&&◌, ◌||◌, List, map, ℕ, ◌+◌, ◌*◌, ◌/◌, ◌≤◌, min, eqb, length, take, drop}
+use Rattle.std.specs.Prelude.{◌≡◌, Option, Some, None, Result, Ok, Err, true, false, ◌&&◌, ◌||◌, List, map, ℕ, ◌+◌, ◌*◌, ◌≤◌, min, eqb, length}
 use Rattle.std.proofs.Math.Option as Math
 use Rattle.std.proofs.Math.Option.{none, some}
 use Rattle.std.proofs.lemmas.List.Edits.{sets}
@@ -24,6 +24,7 @@ use Rattle.listing.specs.declared.extents.Extent.{Extent}
 use Rattle.listing.specs.declared.extents.Size.{Size}
 use Rattle.listing.specs.declared.surveys.Survey.{Survey}
 use Rattle.listing.specs.declared.locating.Shape.{Shape}
+use Rattle.listing.specs.declared.models.ModelAt.{ModelAt}
 use Rattle.listing.specs.declared.records.Visit.{Visit}
 use Rattle.listing.specs.declared.records.Progress.{Progress}
 
@@ -135,9 +136,9 @@ result_at at (some p) = Finding.found_result (record { address = at + 2 + p.offs
 abbrev pub record_at : Visit → ModelPoint → Listing.Record
 record_at visit = Listing.record_of visit.index visit.address visit.id
 
--- The body of the visited model: `len` registers after its header.
-abbrev pub body_at : List ℕ → Visit → ℕ → List ℕ
-body_at registers visit len = take len (drop (visit.address + 2) registers)
+-- The visit of a model of the map whose index is `index`.
+abbrev pub visit_of : ℕ → ModelAt → Visit
+visit_of index m = record { index = index; id = m.id; address = m.address }
 
 -- The output list after writing the points ps of the visited model, the first of them as record number `count`.
 abbrev pub written : Visit → ℕ → List ModelPoint → List ℕ → List ℕ

@@ -5,3 +5,4 @@ pub mod Calls
 pub mod InternalAccepted
 pub mod InternalCodeTypes
 pub mod InternalContracts
+pub mod InternalModels

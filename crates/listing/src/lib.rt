@@ -6,6 +6,7 @@ mod checked;
 mod extents;
 mod frames;
 mod locating;
+mod models;
 mod records;
 mod search;
 mod surveys;
@@ -19,17 +20,17 @@ ghost use Rattle.layout.specs.InternalWalks.{points_of, read_in};
 ghost use Rattle.listing.specs.Listing as Listings;
 ghost use Rattle.listing.specs.CodeTypes.{to_spec_listing, HeadersCounted, WithoutHeaders, BeforeHeaders, AtStart};
 ghost use Rattle.listing.specs.Calls.{ListCall};
-ghost use Rattle.listing.specs.InternalContracts.{written, body_at, WalkFits};
+ghost use Rattle.listing.specs.InternalContracts.{written, visit_of, WalkFits};
 
 use catalog::check;
 use checked::{CheckedCatalog, CheckedPlant};
 pub use group_instances::InstancePath;
 use group_instances::NUMBERS;
+use models::{ModelAt, Models, model_at};
 pub use records::WIDTH;
 use records::{Model, Visit};
 use refusals::{Refusal, Refused};
 use register_map::{FIRST_HEADER, Header, body_address, header_at, opened};
-use registers::part;
 pub use search::{Target, find};
 use std::error::Error;
 use std::fmt;
@@ -137,11 +138,12 @@ fn survey_map(plant: &CheckedPlant, table: &mut Table) -> Result<Listed, NotList
     let mut at = FIRST_HEADER;
     let mut headers = 0;
     let mut points = 0;
+    // No `for` over `Models`, since the header after the last model decides too: the end marker or a refusal.
     loop {
         match header_at(plant.map, at) {
             Ok(Header::Model { id, length }) => {
-                let body = part(plant.map, at + 2, length as usize);
-                match survey_model(&plant.catalog, table, id, body) {
+                let model = model_at(plant.map, at, id, length);
+                match survey_model(&plant.catalog, table, &model) {
                     Ok(survey) => points += survey.map_or(0, |survey| survey.points),
                     Err(refusal) => return refused(refusal, at, headers),
                 }
@@ -183,43 +185,37 @@ fn put_map(plant: &CheckedPlant, table: &mut Table, out: &mut [u64])
     requires { WalkFits (Listings.walked (reading (definitions plant.now.catalog.words.now)) plant.now.map.now) out.old }
     ensures { out.new ≡ Listings.stored (Listings.walked (reading (definitions plant.now.catalog.words.now)) plant.now.map.now) out.old }
 {
-    let mut at = FIRST_HEADER;
-    let mut index = 0;
     let mut records = 0;
-    while let Ok(Header::Model { id, length }) = header_at(plant.map, at) {
-        let visit = Visit {
-            index,
-            id,
-            address: at,
-        };
-        records = put_known(plant, table, out, visit, length as usize, records);
-        at = after_model(at, length);
-        index += 1;
+    for (index, model) in Models::new(plant).enumerate() {
+        records = put_known(&plant.catalog, table, out, index, &model, records);
     }
 }
 
-// Writes the records of a model that the catalog knows; skips an unknown one. Returns the number of records written so far.
+// Writes the records of a model if the catalog knows it; its index is `index`. Returns the number of records written so far.
 fn put_known(
-    plant: &CheckedPlant,
+    catalog: &CheckedCatalog,
     table: &mut Table,
     out: &mut [u64],
-    visit: Visit,
-    length: usize,
+    index: usize,
+    model: &ModelAt,
     records: usize,
 ) -> usize
-    requires length_bound { (visit.address + 2 + length ≤ Lists.length plant.now.map.now) × (length ≤ 65535) × (Lists.length plant.now.map.now ≤ 65536) }
-    requires length_bound_2 { Listings.record_width * (records + Lists.length (points_of (read_in plant.now.catalog.words.now visit.id (body_at plant.now.map.now visit length)))) ≤ Lists.length out.old }
-    ensures value { result ≡ records + Lists.length (points_of (read_in plant.now.catalog.words.now visit.id (body_at plant.now.map.now visit length))) }
-    ensures out_after { out.new ≡ written visit records (points_of (read_in plant.now.catalog.words.now visit.id (body_at plant.now.map.now visit length))) out.old }
+    requires { Listings.record_width * (records + Lists.length (points_of (read_in catalog.now.words.now model.now.id model.now.body.now))) ≤ Lists.length out.old }
+    ensures value { result ≡ records + Lists.length (points_of (read_in catalog.now.words.now model.now.id model.now.body.now)) }
+    ensures out_after { out.new ≡ written (visit_of index model.now) records (points_of (read_in catalog.now.words.now model.now.id model.now.body.now)) out.old }
 {
-    let body = part(plant.map, visit.address + 2, length);
-    let Ok(Some(survey)) = survey_model(&plant.catalog, table, visit.id, body) else {
+    let Ok(Some(survey)) = survey_model(catalog, table, model) else {
         return records;
     };
+    let visit = Visit {
+        index,
+        id: model.id,
+        address: model.address,
+    };
     let model = Model {
-        catalog: plant.catalog,
+        catalog: *catalog,
         visit,
-        body,
+        body: model.body,
         survey,
     };
     model.put_points(table, out, records)

@@ -13,12 +13,13 @@ ghost use Rattle.listing.specs.InternalContracts.{target_at, result_at, IsListed
 
 use crate::checked::{CheckedCatalog, CheckedPlant};
 use crate::locating::{Key, Location, Search};
+use crate::models::{ModelAt, Models};
 use crate::surveys::survey_model;
-use crate::{Table, after_model, checked_plant, survey_map};
+use crate::{Table, checked_plant, survey_map};
 use catalog::Point;
 use group_instances::{InstancePath, NUMBERS};
 use refusals::Refused;
-use register_map::{FIRST_HEADER, Header, body_address, header_at};
+use register_map::body_address;
 use registers::{part, raw_value};
 
 // A point: its address, its definition in the catalog, and its raw value (0 if it has over four registers).
@@ -55,32 +56,20 @@ fn search_map(plant: &CheckedPlant, table: &mut Table, model: usize, key: Key) -
     requires { IsListed (Listings.walked (reading (definitions plant.now.catalog.words.now)) plant.now.map.now) }
     ensures { to_spec_finding (Ok result) ≡ Findings.result (Findings.finding_in model key.number key.path.instances (Listings.walked (reading (definitions plant.now.catalog.words.now)) plant.now.map.now)) }
 {
-    let mut at = FIRST_HEADER;
-    let mut index = 0;
-    while let Ok(Header::Model { id, length }) = header_at(plant.map, at) {
-        if index == model {
-            let body = part(plant.map, at + 2, length as usize);
-            return search_model(&plant.catalog, table, id, body, key, at);
-        }
-        at = after_model(at, length);
-        index += 1;
-    }
-    None
+    let found = Models::new(plant).nth(model)?;
+    search_model(&plant.catalog, table, &found, key)
 }
 
-// Looks for the point in one model: its id, its body and the address `at` of its header.
+// Looks for the point in one model.
 fn search_model(
     catalog: &CheckedCatalog,
     table: &mut Table,
-    id: u16,
-    body: &[u16],
+    model: &ModelAt,
     key: Key,
-    at: usize,
 ) -> Option<Target>
-    requires { (length body.now ≤ 65535) × (at ≤ 65536) }
-    ensures { to_spec_finding (Ok result) ≡ result_at at (first_with (is_point key.number key.path.instances) (points_of (read_in catalog.now.words.now id body.now))) }
+    ensures { to_spec_finding (Ok result) ≡ result_at model.now.address (first_with (is_point key.number key.path.instances) (points_of (read_in catalog.now.words.now model.now.id model.now.body.now))) }
 {
-    let Ok(Some(survey)) = survey_model(catalog, table, id, body) else {
+    let Ok(Some(survey)) = survey_model(catalog, table, model) else {
         return None;
     };
     let search = Search {
@@ -89,8 +78,8 @@ fn search_model(
         fill: survey.fill,
         key,
     };
-    let location = search.locate_model(body.len(), survey.first)?;
-    Some(target_at(at, body, location))
+    let location = search.locate_model(model.body.len(), survey.first)?;
+    Some(target_at(model.address, model.body, location))
 }
 
 // The result for a point that was located in `body`, in the model whose header is at address `at`.

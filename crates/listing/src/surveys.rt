@@ -11,6 +11,7 @@ use crate::Table;
 use crate::checked::CheckedCatalog;
 use crate::extents::{Extent, groups_extent};
 use crate::frames::find_model;
+use crate::models::ModelAt;
 use definition_frames::{Run, is_pad_left_out, run_extent};
 use group_instances::{LOWER_LEVELS, fill_count, record_run};
 use refusals::Refusal;
@@ -27,34 +28,31 @@ pub(crate) struct Survey {
 pub(crate) fn survey_model(
     catalog: &CheckedCatalog,
     table: &mut Table,
-    id: u16,
-    body: &[u16],
+    model: &ModelAt,
 ) -> Result<Option<Survey>, Refusal>
-    requires { length body.now ≤ 65535 }
-    ensures result_value { to_spec_survey result ≡ surveyed (read_in catalog.now.words.now id body.now) }
-    ensures ready_by { ReadyBy catalog.now.words.now id body.now table.new result }
+    ensures result_value { to_spec_survey result ≡ surveyed (read_in catalog.now.words.now model.now.id model.now.body.now) }
+    ensures ready_by { ReadyBy catalog.now.words.now model.now.id model.now.body.now table.new result }
 {
-    let Some(first) = find_model(catalog, id) else {
+    let Some(first) = find_model(catalog, model.id) else {
         return Ok(None);
     };
-    survey_known(catalog, table, id, body, first).map(Some)
+    survey_known(catalog, table, model, first).map(Some)
 }
 
 // Surveys a model by the definition that begins at frame `first`.
 fn survey_known(
     catalog: &CheckedCatalog,
     table: &mut Table,
-    id: u16,
-    body: &[u16],
+    model: &ModelAt,
     first: usize,
 ) -> Result<Survey, Refusal>
-    requires body_len_bound { length body.now ≤ 65535 }
-    requires parses_at { ParsesAt catalog.now.words.now first × (top_of id (definitions catalog.now.words.now) ≡ some (content_from catalog.now.words.now first)) }
-    ensures result_value { to_spec_known result ≡ surveyed (read_by id (content_from catalog.now.words.now first) body.now) }
-    ensures ready_by { KnownReadyBy catalog.now.words.now id body.now table.new result }
+    requires { ParsesAt catalog.now.words.now first × (top_of model.now.id (definitions catalog.now.words.now) ≡ some (content_from catalog.now.words.now first)) }
+    ensures result_value { to_spec_known result ≡ surveyed (read_by model.now.id (content_from catalog.now.words.now first) model.now.body.now) }
+    ensures ready_by { KnownReadyBy catalog.now.words.now model.now.id model.now.body.now table.new result }
 {
+    let body = model.body;
     let run = run_extent(catalog.words, first);
-    if is_pad_left_out(catalog.words, id, run, body.len()) {
+    if is_pad_left_out(catalog.words, model.id, run, body.len()) {
         record_run(catalog.words, first, body, 0, table);
         return Ok(Survey {
             first,

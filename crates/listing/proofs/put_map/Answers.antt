@@ -1,46 +1,46 @@
--- `listing::put_map` meets its contract: at each header, writing the remaining models gives the list that the contract requires.
-use Rattle.std.proofs.Common.{◌≡◌, ℕ, List, ◌+◌, sym, subst, arith, nat_eq}
+-- `listing::put_map` meets its contract: at each model, writing the remaining ones gives the list that the contract requires.
+use Rattle.std.proofs.Common.{ap, sym, subst, ◌∙◌, arith}
+use mathlib.Core.Logic.{inl}
+use Rattle.std.specs.Iterator.Adapters.{enumerate_source, enumerate_count}
 use Rattle.model_definitions.specs.Definitions.{definitions}
-use Rattle.register_map.specs.declared.Header.{Header}
-use Rattle.register_map.proofs.HeaderLaws.{opening_none}
-use Rattle.register_map.proofs.HeaderCases.{model_ends}
 use Rattle.layout.specs.Reading.{reading}
-use Rattle.listing.proofs.MapRecords.{WalkingMap, walking_starts, walking_ends, walking_refused}
-use Rattle.listing.proofs.MapRecords.{walking_goes_on, walking_at}
+use Rattle.listing.specs.InternalModels.{CanWalk, StartsAt}
+use Rattle.listing.proofs.MapRecords.{WalkingMap, models_start, no_model_left, given_fits, given_written}
 use Rattle.listing.proofs.put_map.Goals as goal
 
-pub loop-id-init : goal.loop-id-init
-loop-id-init c =
-    let v = c.args in
-    walking_starts (reading (definitions v.plant.now.catalog.words.now)) v.plant.now.map.now v.out.now c.requires
-
-pub put_known-records-requires-clause-length_bound : goal.put_known-records-requires-clause-length_bound
-put_known-records-requires-clause-length_bound c =
-    let l = c.loop-id in
-    let short = (opening_none c.args.plant.now.map.now c.args.plant.now.opens).0 in
-    let ends = model_ends (nat_eq l.at 2) c.args.plant.now.map.now l.at (sym (rw c.in-Ok-Model.field-0-is at c.in-Ok-Model.ensures)) in
-    (omega arith, omega arith, short)
-
-pub put_known-records-requires-clause-length_bound_2 : goal.put_known-records-requires-clause-length_bound_2
-put_known-records-requires-clause-length_bound_2 c =
-    let short = (opening_none c.args.plant.now.map.now c.args.plant.now.opens).0 in
-    (walking_goes_on c.loop-id.invariant short (sym (rw c.in-Ok-Model.field-0-is at c.in-Ok-Model.ensures))).0
-
-pub loop-id-preserved : goal.loop-id-preserved
-loop-id-preserved c =
-    let short = (opening_none c.args.plant.now.map.now c.args.plant.now.opens).0 in
-    let next = (walking_goes_on c.loop-id.invariant short (sym (rw c.in-Ok-Model.field-0-is at c.in-Ok-Model.ensures))).1 in
-    let p = c.put_known-records in
+pub loop-index-init : goal.loop-index-init
+loop-index-init c =
+    let map = c.args.plant.now.map.now in
     let read = reading (definitions c.args.plant.now.catalog.words.now) in
-    let Goes : List ℕ → ℕ → Type 0 =
-    λ out n. WalkingMap read c.args.plant.now.map.now c.args.out.now out c.after_model-at.result (c.loop-id.index + 1) n in
-    let on = subst (Goes _) (sym p.ensures.value) (walking_at c.after_model-at.ensures next) in
-    subst (λ out. Goes out p.result) (sym p.ensures.out_after) on
+    let it = c.into_iter-index-iterator.result in
+    let source = ap enumerate_source c.into_iter-index-iterator.ensures.into_iter_gives ∙ c.enumerate-index-items.ensures.source in
+    let count = ap enumerate_count c.into_iter-index-iterator.ensures.into_iter_gives ∙ c.enumerate-index-items.ensures.count in
+    let can : CanWalk (enumerate_source it) = subst CanWalk (sym source) c.new.ensures.can_walk in
+    let starts : StartsAt map (enumerate_source it) = subst (StartsAt map) (sym source) c.new.ensures.starts_at in
+    let begun : WalkingMap read map c.args.out.now c.args.out.now (enumerate_source it).at 0 0 = models_start starts c.requires in (
+      (can, tt, inl (omega (arith, count, can.short))),
+      tt,
+      starts.map_is,
+      subst (λ i. WalkingMap read map c.args.out.now c.args.out.now (enumerate_source it).at i 0) (sym count) begun,
+    )
 
-pub returns-in_default : goal.returns-in_default
-returns-in_default c =
-    let e : c.in_default.field-0 ≡ Header.End = cc in
-    walking_ends c.loop-id.invariant (sym (rw (c.in_default.is, e) at c.header_at.ensures))
+pub put_known-records-requires : goal.put_known-records-requires
+put_known-records-requires c =
+    let i = c.loop-index.invariant in
+    given_fits (enumerate_source c.loop-index.index-iterator) i.2 i.3 i.0.0 c.in-Some.ensures.steps.0
 
-pub returns-in_default-2 : goal.returns-in_default-2
-returns-in_default-2 c = walking_refused c.loop-id.invariant (sym (rw c.in_default.is at c.header_at.ensures))
+pub loop-index-preserved : goal.loop-index-preserved
+loop-index-preserved c =
+    let i = c.loop-index.invariant in
+    let steps = c.in-Some.ensures.steps in
+    let put = c.put_known-records.ensures in (
+      c.in-Some.ensures.goes.keeps,
+      tt,
+      steps.0.same_map ∙ i.2,
+      given_written (enumerate_source c.loop-index.index-iterator) i.2 i.3 i.0.0 steps.0 steps.1 steps.2 put.value put.out_after,
+    )
+
+pub returns : goal.returns
+returns c =
+    let i = c.loop-index.invariant in
+    no_model_left (enumerate_source c.loop-index.index-iterator) i.2 i.3 c.in-None.ensures.steps.0.1

@@ -28,46 +28,46 @@ nothing_found number path at e = sym (ap (λ qs. result_at at (first_with (is_po
 pub returns-in_default : goal.returns-in_default
 returns-in_default c =
     let unknown : c.in_default.field-0 ≡ None = cc in
-    let read = read_in c.args.catalog.now.words.now c.args.id c.args.body.now in
-    nothing_found c.args.key.number c.args.key.path.instances c.args.at (no_points_unknown read (rw (c.in_default.is, unknown) at c.survey_model.ensures.result_value))
+    let read = read_in c.args.catalog.now.words.now c.args.model.now.id c.args.model.now.body.now in
+    nothing_found c.args.key.number c.args.key.path.instances c.args.model.now.address (no_points_unknown read (rw (c.in_default.is, unknown) at c.survey_model.ensures.result_value))
 
 pub returns-in_default-2 : goal.returns-in_default-2
 returns-in_default-2 c =
-    let read = read_in c.args.catalog.now.words.now c.args.id c.args.body.now in
-    nothing_found c.args.key.number c.args.key.path.instances c.args.at (no_points_refused read (rw c.in_default.is at c.survey_model.ensures.result_value))
+    let read = read_in c.args.catalog.now.words.now c.args.model.now.id c.args.model.now.body.now in
+    nothing_found c.args.key.number c.args.key.path.instances c.args.model.now.address (no_points_refused read (rw c.in_default.is at c.survey_model.ensures.result_value))
 
 pub invariant_of-search : goal.invariant_of-search
 invariant_of-search c =
     let survey = rw c.in-Ok-Some.field-0-is at c.in-Ok-Some.ensures in
-    record { few_instances = few_instances survey.ready_by c.requires.0 }
+    record { few_instances = few_instances survey.ready_by c.args.model.now.short }
 
 pub locate_model-requires : goal.locate_model-requires
 locate_model-requires c =
     let words = c.args.catalog.now.sixteen_bits in
     let three : length c.args.key.path.instances ≡ 3 = search rules in
     let survey = rw c.in-Ok-Some.field-0-is at c.in-Ok-Some.ensures in
-    let has = has_points (read_in c.args.catalog.now.words.now c.args.id c.args.body.now) survey.result_value in
-    model.model_asks (accepted_of _ c.args.catalog.now.accepted) survey.ready_by words has c.requires.0
+    let has = has_points (read_in c.args.catalog.now.words.now c.args.model.now.id c.args.model.now.body.now) survey.result_value in
+    model.model_asks (accepted_of _ c.args.catalog.now.accepted) survey.ready_by words has c.args.model.now.short
 
 pub target_at-requires : goal.target_at-requires
 target_at-requires c =
     let words = c.args.catalog.now.sixteen_bits in
     let three : length c.args.key.path.instances ≡ 3 = search rules in
     let survey = rw c.in-Ok-Some.field-0-is at c.in-Ok-Some.ensures in
-    let has = has_points (read_in c.args.catalog.now.words.now c.args.id c.args.body.now) survey.result_value in
-    let short = c.requires.0 in
+    let has = has_points (read_in c.args.catalog.now.words.now c.args.model.now.id c.args.model.now.body.now) survey.result_value in
+    let short = c.args.model.now.short in
     let found = model.one_found (accepted_of _ c.args.catalog.now.accepted) survey.ready_by words has short c.args.key.number c.args.key.path.instances
-    three c.args.at (sym c.in_ok-location.ensures) in
-    (c.requires.1, omega (arith, found.0, short))
+    three c.args.model.now.address (sym c.in_ok-location.ensures) in
+    (c.args.model.now.low, omega (arith, found.0, short))
 
 pub returns : goal.returns
 returns c =
     let words = c.args.catalog.now.sixteen_bits in
     let three : length c.args.key.path.instances ≡ 3 = search rules in
     let survey = rw c.in-Ok-Some.field-0-is at c.in-Ok-Some.ensures in
-    let has = has_points (read_in c.args.catalog.now.words.now c.args.id c.args.body.now) survey.result_value in
-    let found = model.one_found (accepted_of _ c.args.catalog.now.accepted) survey.ready_by words has c.requires.0 c.args.key.number
-    c.args.key.path.instances three c.args.at (sym c.in_ok-location.ensures) in
+    let has = has_points (read_in c.args.catalog.now.words.now c.args.model.now.id c.args.model.now.body.now) survey.result_value in
+    let found = model.one_found (accepted_of _ c.args.catalog.now.accepted) survey.ready_by words has c.args.model.now.short c.args.key.number
+    c.args.key.path.instances three c.args.model.now.address (sym c.in_ok-location.ensures) in
     ap found_result c.target_at.ensures ∙ found.1
 
 pub returns-in_err-location : goal.returns-in_err-location
@@ -75,7 +75,7 @@ returns-in_err-location c =
     let words = c.args.catalog.now.sixteen_bits in
     let three : length c.args.key.path.instances ≡ 3 = search rules in
     let survey = rw c.in-Ok-Some.field-0-is at c.in-Ok-Some.ensures in
-    let has = has_points (read_in c.args.catalog.now.words.now c.args.id c.args.body.now) survey.result_value in
+    let has = has_points (read_in c.args.catalog.now.words.now c.args.model.now.id c.args.model.now.body.now) survey.result_value in
     ap (λ o. to_spec_finding (Ok o)) c.from_residual.ensures
-    ∙ model.none_found (accepted_of _ c.args.catalog.now.accepted) survey.ready_by words has c.requires.0 c.args.key.number
-    c.args.key.path.instances three c.args.at (sym c.in_err-location.ensures)
+    ∙ model.none_found (accepted_of _ c.args.catalog.now.accepted) survey.ready_by words has c.args.model.now.short c.args.key.number
+    c.args.key.path.instances three c.args.model.now.address (sym c.in_err-location.ensures)

@@ -40,11 +40,11 @@ returns-then-is_pad_left_out c =
     let a = c.args in
     let is_table : length a.table.now ≡ 65536 = search rules in
     let ws = a.catalog.now.words.now in
-    let known = c.requires.parses_at in
+    let known = c.requires in
     let r = top_run ws a.first (accepted_of _ c.args.catalog.now.accepted) known.0 _ c.run_extent-run.ensures in
-    let e = pad_test ws a.first known.0 r a.id (length a.body.now) c.is_pad_left_out.ensures c.if-is_pad_left_out.true in
-    let recorded = c.record_run.ensures ∙ content_recorded ws a.first known.0 a.body.now 0 a.table.now in
-    let surveyed = laws.pad_left_out_lem a.id (accepted_of _ c.args.catalog.now.accepted) known.0 known.1 a.body.now a.table.now is_table
+    let e = pad_test ws a.first known.0 r a.model.now.id (length a.model.now.body.now) c.is_pad_left_out.ensures c.if-is_pad_left_out.true in
+    let recorded = c.record_run.ensures ∙ content_recorded ws a.first known.0 a.model.now.body.now 0 a.table.now in
+    let surveyed = laws.pad_left_out_lem a.model.now.id (accepted_of _ c.args.catalog.now.accepted) known.0 known.1 a.model.now.body.now a.table.now is_table
     recorded r e in
     record { result_value = surveyed.0; ready_by = surveyed.1.0 }
 
@@ -52,12 +52,12 @@ pub returns-then-body-run : goal.returns-then-body-run
 returns-then-body-run c =
     let a = c.args in
     let ws = a.catalog.now.words.now in
-    let known = c.requires.parses_at in
+    let known = c.requires in
     let r = top_run ws a.first (accepted_of _ c.args.catalog.now.accepted) known.0 _ c.run_extent-run.ensures in
-    let e = pad_test ws a.first known.0 r a.id (length a.body.now) c.is_pad_left_out.ensures c.if-is_pad_left_out.false in
-    let short : length a.body.now < points_size (content_from ws a.first).points = omega (arith, c.if-body-run.true, r.size) in
+    let e = pad_test ws a.first known.0 r a.model.now.id (length a.model.now.body.now) c.is_pad_left_out.ensures c.if-is_pad_left_out.false in
+    let short : length a.model.now.body.now < points_size (content_from ws a.first).points = omega (arith, c.if-body-run.true, r.size) in
     record {
-      result_value = models.below_surveyed a.id (content_from ws a.first) a.body.now e short;
+      result_value = models.below_surveyed a.model.now.id (content_from ws a.first) a.model.now.body.now e short;
       ready_by = tt;
     }
 
@@ -65,11 +65,11 @@ pub groups_extent-groups-requires : goal.groups_extent-groups-requires
 groups_extent-groups-requires c =
     let a = c.args in
     let ws = a.catalog.now.words.now in
-    let known = c.requires.parses_at in
+    let known = c.requires in
     let r = top_run ws a.first (accepted_of _ c.args.catalog.now.accepted) known.0 _ c.run_extent-run.ensures in
-    let recorded = c.record_run-2.ensures ∙ content_recorded ws a.first known.0 a.body.now 0 a.table.now in
+    let recorded = c.record_run-2.ensures ∙ content_recorded ws a.first known.0 a.model.now.body.now 0 a.table.now in
     record {
-      at_groups = laws.at_groups a.id (accepted_of _ c.args.catalog.now.accepted) known.0 known.1 r;
+      at_groups = laws.at_groups a.model.now.id (accepted_of _ c.args.catalog.now.accepted) known.0 known.1 r;
       levels_bound = omega arith;
     }
 
@@ -78,27 +78,27 @@ returns-then-groups c =
     let a = c.args in
     let is_table : length a.table.now ≡ 65536 = search rules in
     let ws = a.catalog.now.words.now in
-    let known = c.requires.parses_at in
+    let known = c.requires in
     let r = top_run ws a.first (accepted_of _ c.args.catalog.now.accepted) known.0 _ c.run_extent-run.ensures in
-    let e = pad_test ws a.first known.0 r a.id (length a.body.now) c.is_pad_left_out.ensures c.if-is_pad_left_out.false in
-    let recorded = c.record_run-2.ensures ∙ content_recorded ws a.first known.0 a.body.now 0 a.table.now in
+    let e = pad_test ws a.first known.0 r a.model.now.id (length a.model.now.body.now) c.is_pad_left_out.ensures c.if-is_pad_left_out.false in
+    let recorded = c.record_run-2.ensures ∙ content_recorded ws a.first known.0 a.model.now.body.now 0 a.table.now in
     let words = c.args.catalog.now.sixteen_bits in
-    let long : points_size (content_from ws a.first).points ≤ length a.body.now = omega (arith, c.if-body-run.false, r.size) in
+    let long : points_size (content_from ws a.first).points ≤ length a.model.now.body.now = omega (arith, c.if-body-run.false, r.size) in
     record {
-      result_value = laws.unimplemented a.id (accepted_of _ c.args.catalog.now.accepted) known.0 known.1 a.body.now a.table.now is_table
-          recorded words c.requires.body_len_bound e long r c.groups_extent-groups.ensures.extent_of c.if-groups.true;
+      result_value = laws.unimplemented a.model.now.id (accepted_of _ c.args.catalog.now.accepted) known.0 known.1 a.model.now.body.now a.table.now is_table
+          recorded words a.model.now.short e long r c.groups_extent-groups.ensures.extent_of c.if-groups.true;
       ready_by = tt;
     }
 
 pub fitted-requires : goal.fitted-requires
 fitted-requires c =
     let a = c.args in
-    let known = c.requires.parses_at in
+    let known = c.requires in
     let r = top_run a.catalog.now.words.now a.first (accepted_of _ c.args.catalog.now.accepted) known.0 _ c.run_extent-run.ensures in
-    let few = laws.few_points_lem a.id (accepted_of _ c.args.catalog.now.accepted) known.0 known.1 r in
+    let few = laws.few_points_lem a.model.now.id (accepted_of _ c.args.catalog.now.accepted) known.0 known.1 r in
     let groups = c.groups_extent-groups.ensures.extent_of in
     record {
-      size_in_bounds = (omega (arith, c.if-body-run.false), c.requires.body_len_bound, few);
+      size_in_bounds = (omega (arith, c.if-body-run.false), a.model.now.short, few);
       size_bound = (omega (arith, groups.size), omega (arith, groups.points), omega (arith, groups.fill_points));
     }
 
@@ -107,12 +107,12 @@ returns c =
     let a = c.args in
     let is_table : length a.table.now ≡ 65536 = search rules in
     let ws = a.catalog.now.words.now in
-    let known = c.requires.parses_at in
+    let known = c.requires in
     let r = top_run ws a.first (accepted_of _ c.args.catalog.now.accepted) known.0 _ c.run_extent-run.ensures in
-    let e = pad_test ws a.first known.0 r a.id (length a.body.now) c.is_pad_left_out.ensures c.if-is_pad_left_out.false in
-    let recorded = c.record_run-2.ensures ∙ content_recorded ws a.first known.0 a.body.now 0 a.table.now in
+    let e = pad_test ws a.first known.0 r a.model.now.id (length a.model.now.body.now) c.is_pad_left_out.ensures c.if-is_pad_left_out.false in
+    let recorded = c.record_run-2.ensures ∙ content_recorded ws a.first known.0 a.model.now.body.now 0 a.table.now in
     let words = c.args.catalog.now.sixteen_bits in
-    let long : points_size (content_from ws a.first).points ≤ length a.body.now = omega (arith, c.if-body-run.false, r.size) in
-    let surveyed = laws.surveyed_here a.id (accepted_of _ c.args.catalog.now.accepted) known.0 known.1 a.body.now a.table.now is_table
-    recorded words c.requires.body_len_bound e long r c.groups_extent-groups.ensures.extent_of c.if-groups.false c.fitted.ensures in
+    let long : points_size (content_from ws a.first).points ≤ length a.model.now.body.now = omega (arith, c.if-body-run.false, r.size) in
+    let surveyed = laws.surveyed_here a.model.now.id (accepted_of _ c.args.catalog.now.accepted) known.0 known.1 a.model.now.body.now a.table.now is_table
+    recorded words a.model.now.short e long r c.groups_extent-groups.ensures.extent_of c.if-groups.false c.fitted.ensures in
     record { result_value = surveyed.0; ready_by = surveyed.1.0 }

@@ -12,7 +12,7 @@ returns-clause-result_value c =
     let a = c.args in
     let ws = a.catalog.now.words.now in
     let known = sym c.in-Some.ensures.result_value in
-    let read = read_known (definitions ws) a.id a.body.now (content_from ws c.in-Some.first) known in
+    let read = read_known (definitions ws) a.model.now.id a.model.now.body.now (content_from ws c.in-Some.first) known in
     let mapped : to_spec_survey c.map.result ≡ to_spec_known c.survey_known.result = search rules in
     mapped ∙ c.survey_known.ensures.result_value ∙ sym (ap surveyed read)
 
@@ -21,4 +21,4 @@ returns-in_default-clause-result_value c =
     let a = c.args in
     let ws = a.catalog.now.words.now in
     let none = sym c.in_default.ensures.result_value in
-    sym (ap surveyed (read_unknown (definitions ws) a.id a.body.now none))
+    sym (ap surveyed (read_unknown (definitions ws) a.model.now.id a.model.now.body.now none))
