@@ -1,10 +1,12 @@
 -- Internal: amounts by parts, as the code represents them, and stored texts; no public contract cites this file.
 use Rattle.std.specs.Prelude.{◌≡◌, Bool, not, ◌&&◌, ◌⊎◌, List, ◌++◌, ℕ, ◌+◌, ◌*◌, ◌^◌, ◌≤◌, eqb, ℤ, nat_abs, length}
 use Rattle.std.specs.Bool.{beq}
+use Rattle.std.specs.Borrow.{MutBor}
 use Rattle.std.proofs.lemmas.List.Edits.{sets}
 use Rattle.std.specs.Int.Signed.{non_neg}
 use Rattle.display.specs.Amounts as Amounts
 use Rattle.display.specs.Decimals.{sign, unsigned_text}
+use Rattle.display.specs.declared.decimals.Text.{Text}
 use Rattle.display.specs.declared.quantities.ScaledNumber.{ScaledNumber}
 
 -- An amount's sign and magnitude, and its scale factor as zeros or places. Zero is never negative.
@@ -44,3 +46,17 @@ is_same_by_parts a b =
 pub record Put (before after : List ℕ) (position : ℕ) (text : List ℕ) (end : ℕ) : Type 0 where
   pub stored : after ≡ sets before position text
   pub ends : end ≡ position + length text
+
+-- The text was appended to a buffer behind a reference: it was stored at `position`, and `end` is the position after it.
+pub record Appended (before after : MutBor (List ℕ)) (position : ℕ) (text : List ℕ) (end : ℕ) : Type 0 where
+  pub same_reference : after.ghost_name ≡ before.ghost_name
+  pub put : Put before.now after.now position text end
+  pub same_capacity : length after.now ≡ length before.now
+
+-- The buffer has room for n bytes more.
+abbrev pub HasRoom : Text → ℕ → Type 0
+HasRoom t n = t.length + n ≤ length t.out.now
+
+-- A text was appended to another.
+abbrev pub Added : Text → Text → List ℕ → Type 0
+Added before after bytes = Appended before.out after.out before.length bytes after.length
