@@ -68,17 +68,18 @@ impl<'a> Text<'a> {
     // Appends the sign, the whole part and the places.
     fn amount(&mut self, amount: ScaledNumber)
         requires room { HasRoom self.old 32 }
-        requires ten_at_most { TenAtMost amount.zeros amount.places }
+        requires ten_at_most { TenAtMost amount.exponent }
         ensures added { Added self.old self.new (parts_text amount) }
         ensures upper_bound { self.new.length ≤ self.old.length + 32 }
     {
-        if amount.negative {
+        let ScaledNumber { integer, exponent } = amount;
+        if integer.negative {
             self.byte(b'-');
         }
-        if amount.places == 0 {
-            self.whole(amount.magnitude, amount.zeros);
+        if exponent < 0 {
+            self.places(integer.magnitude, exponent.unsigned_abs());
         } else {
-            self.places(amount.magnitude, amount.places);
+            self.whole(integer.magnitude, exponent.unsigned_abs());
         }
     }
 
