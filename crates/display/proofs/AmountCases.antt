@@ -1,5 +1,5 @@
 -- The cases of `amount_of`, and the bounds and parts of an accepted amount.
-use mathlib.Core.Path.{◌≡◌, sym, ap, ◌∙◌}
+use mathlib.Core.Path.{◌≡◌, refl, sym, ap, ◌∙◌}
 use mathlib.Core.Bool.{true, false}
 use Prim.Native.Nat.{ℕ}
 use native.Mathlib.Omega.{arith}
@@ -15,7 +15,7 @@ use Rattle.values.specs.CodeTypes.{to_code_unscaled}
 use Rattle.values.specs.declared.Integer.{Integer}
 use Rattle.values.proofs.UnscaledCases.{was_number}
 use Rattle.values.proofs.UnscaledRange.{unscaled_range}
-use Rattle.display.specs.Amounts.{amount, refused, amount_from, amount_of, zeros, places}
+use Rattle.display.specs.Amounts.{amount, refused, amount_from, amount_of}
 use Rattle.display.specs.InternalParts.{IsAmount, TenAtMost}
 use Rattle.display.specs.declared.quantities.ScaledNumber.{ScaledNumber}
 use Rattle.display.proofs.ScaleFactors.{ten_at_most}
@@ -34,12 +34,12 @@ module _ (code : ℕ) (presence : Presence) (raw : ℕ) (scale : ℤ) where
   pub value_within : (value s : ℤ) → amount_of code presence raw scale ≡ amount value s → Within64 value
   value_within value s e = unscaled_range code presence raw value (amount_of_lem value s e).is
 
-  pub scale_within : (value s : ℤ) → amount_of code presence raw scale ≡ amount value s → TenAtMost (zeros s) (places s)
+  pub scale_within : (value s : ℤ) → amount_of code presence raw scale ≡ amount value s → TenAtMost s
   scale_within value s e = let a = amount_of_lem value s e in rw (← a.same_scale) (ten_at_most scale a.in_range)
 
 -- The parts are bounded by the scale factor's range.
 pub parts_within : (code : ℕ) (presence : Presence) (raw : ℕ) (s : ℤ) (parts : ScaledNumber) → IsAmount (amount_of code presence raw s) parts
-    → TenAtMost parts.zeros parts.places
+    → TenAtMost parts.exponent
 parts_within code presence raw s parts w = rw w.form (scale_within code presence raw s w.value w.scale w.is)
 
 -- What the code makes of the unscaled integer and the scale factor: the amount's parts, or its refusal.
@@ -58,7 +58,7 @@ module _ (u : Unscaled) (scale : ℤ) where
 
     pub accepted_parts : is_scale_factor scale ≡ true
         → IsAmount (amount_from u scale)
-        (record { negative = integer.negative; magnitude = integer.magnitude; zeros = zeros scale; places = places scale })
+        (record { integer = integer; exponent = scale })
     accepted_parts s =
         let n = was_number u integer (sym e) in
-        record { value = n.value; scale = scale; is = ap (λ (v : Unscaled). amount_from v scale) n.is ∙ simp s; form = simp (n.sign, n.size) }
+        record { value = n.value; scale = scale; is = ap (λ (v : Unscaled). amount_from v scale) n.is ∙ simp s; form = rw (← n.sign, ← n.size) refl }

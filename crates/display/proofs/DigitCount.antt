@@ -69,10 +69,11 @@ within (suc steps) n h = go (ltb n 10) refl (λ l. within steps (n / 10) l)
 pub count : (n : ℕ) → CountOf n (digit_count n)
 count n = within n n (omega arith)
 
--- The first power of ten above n gives the number of its digits.
-pub first_above : (n k : ℕ) → 1 ≤ k → (1 < k → 10 ^ (k - 1) ≤ n) → n < 10 ^ k → k ≡ digit_count n
-first_above n k some no_fewer enough =
-    unique n k (digit_count n) (record { some = some; enough = enough; no_fewer = no_fewer }) (count n)
+-- The last power of ten up to n gives the number of its digits.
+pub from_power : (n k : ℕ) → 10 ^ k ≤ n → n < 10 * 10 ^ k → suc k ≡ digit_count n
+from_power n k low high =
+    let last : suc k - 1 ≡ k = omega arith in
+    unique n (suc k) (digit_count n) (record { some = omega arith; enough = omega (arith, pow-suc 10 k, high); no_fewer = λ l. rw last low }) (count n)
 
 -- The definition's two cases, without a bound on its steps.
 pub one_digit : (n : ℕ) → n < 10 → digit_count n ≡ 1

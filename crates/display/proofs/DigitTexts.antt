@@ -4,13 +4,11 @@ use mathlib.Core.List.{List, [], ◌∷◌, ◌++◌}
 use Prim.Native.Nat.{ℕ, zero, suc, ◌+◌, ◌-◌, ◌*◌, ◌^◌, ◌≤◌, ◌<◌}
 use native.Mathlib.Nat.{add-zero, add-suc, zero-mul, mul_assoc, zero-div, div-div-eq-div-mul, mul-div_cancel, mul-mod_left, pow-suc}
 use native.Mathlib.Omega.{arith}
-use lib.ListN.{length, take, set, replicate}
+use lib.ListN.{length, set}
 use lib.Pow.{pow-add}
-use lib.Seq.{sets, take_at}
+use lib.Seq.{sets}
 use Rattle.std.proofs.lemmas.List.{set_comm}
 use Rattle.display.specs.Decimals.{digit_zero, digit_at, last_digits, digit_count, digits_of}
-use Rattle.display.specs.CodeTypes.{to_code_digits}
-use Rattle.display.specs.declared.Digits.{Digits}
 use Rattle.display.proofs.PowersOfTen.{positive}
 use Rattle.display.proofs.DigitCount.{appended}
 
@@ -35,10 +33,6 @@ set_before out (y ∷ ys) i j x h =
 pub store_digit : (out : List ℕ) (i k n : ℕ) → set (sets out (suc i) (last_digits k n)) i (digit_at n k) ≡ sets out i (last_digits (suc k) n)
 unfolding last_digits
 store_digit out i k n = set_before out (last_digits k n) i (suc i) (digit_at n k) (omega arith)
-
--- The digits, cut out of the result of `digits_of`.
-pub digits_cut : (d : Digits) (n : ℕ) → d ≡ to_code_digits n → take d.count d.bytes ≡ digits_of n
-digits_cut d n e = rw (e, take_at (digits_of n) (replicate (20 - digit_count n) 0) (digit_count n) (number_length n))
 
 -- ---- Appended zeros
 

@@ -53,13 +53,13 @@ module _ (m d : ℕ) (wide : 11 ≤ d) (small : m < 10 ^ d) where
       let q : m * 10 ^ 0 / 10 ^ suc p < 10 ^ (d - suc p) = (div-lt_iff_lt-mul {x = m * 10 ^ 0} {y = 10 ^ (d - suc p)} (positive (suc p))).1 l in
       omega (arith, at_most (m * 10 ^ 0 / 10 ^ suc p) (d - suc p) (omega arith) q)
 
-  number_bound : (scale : ℤ) → TenAtMost (zeros scale) (places scale) → length (unsigned_text (m * 10 ^ zeros scale) (places scale)) ≤ d + 10
+  number_bound : (scale : ℤ) → TenAtMost scale → length (unsigned_text (m * 10 ^ zeros scale) (places scale)) ≤ d + 10
   number_bound (pos k) t = omega (arith, text_length (m * 10 ^ k) 0, zeros_length k, t.zeros_bound)
   number_bound (negsuc p) t =
       omega
       (arith, text_length (m * 10 ^ 0) (suc p), places_length p (omega (arith, t.places_bound)), digits_length (suc p) (m * 10 ^ 0))
 
-text_bound : (value scale : ℤ) → Within64 value → TenAtMost (zeros scale) (places scale) → length (decimal_text value scale) ≤ 30
+text_bound : (value scale : ℤ) → Within64 value → TenAtMost scale → length (decimal_text value scale) ≤ 30
 text_bound (pos a) scale w t = number_bound a 20 (omega arith) (omega arith) scale t
 text_bound (negsuc a) scale w t = omega (arith, number_bound (suc a) 19 (omega arith) (omega arith) scale t)
 

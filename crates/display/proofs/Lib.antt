@@ -11,6 +11,7 @@ pub mod PowersOfTen
 pub mod DigitCount
 pub mod DigitTexts
 pub mod StoredTexts
+pub mod AppendedTexts
 pub mod DecimalCases
 pub mod ReadingBack
 pub mod ScaleFactors

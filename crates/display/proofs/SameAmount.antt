@@ -4,7 +4,9 @@ use Prim.Native.Nat.{ℕ, ◌+◌, ◌-◌, ◌*◌, ◌^◌, ◌≤◌}
 use native.Mathlib.Nat.{mul_assoc}
 use native.Mathlib.Omega.{arith}
 use lib.Dec.{eqb}
-use lib.IntN.{ℤ, pos, ◌*ℤ◌}
+use lib.IntN.{ℤ, pos, negsuc, nat_abs, ◌-ℤ◌, ◌*ℤ◌}
+use lib.Signed.{◌≤ℤ◌}
+use Rattle.std.proofs.lemmas.Int.{ints}
 use lib.Pow.{pow-add}
 use Rattle.display.specs.Amounts.{fraction_of, zeros, places}
 use Rattle.display.specs.Equality.{is_same_integer, is_same_fraction}
@@ -31,15 +33,35 @@ shared_power m n d k =
     factor_cancels (m * 10 ^ d) n (10 ^ k) (positive k) (sym e ∙ q) in
     same_test (m * 10 ^ d) n (m * 10 ^ (d + k)) (n * 10 ^ k) (λ q. e ∙ ap (λ (x : ℕ). x * 10 ^ k) q) back
 
-module _ (m n up down : ℕ) where
-  pub first_larger : down ≤ up → eqb (m * 10 ^ (up - down)) n ≡ eqb (m * 10 ^ up) (n * 10 ^ down)
-  first_larger h =
-      let e : up - down + down ≡ up = omega arith in
-      shared_power m n (up - down) down ∙ ap (λ (k : ℕ). eqb (m * 10 ^ k) (n * 10 ^ down)) e
+-- The greater exponent is more by as much as the powers on the two sides differ.
+record Gap (e f : ℤ) : Type 0 where
+  less : zeros f + places e ≤ zeros e + places f
+  is : zeros e + places f - (zeros f + places e) ≡ nat_abs (e -ℤ f)
+  back : zeros e + places f - (zeros f + places e) ≡ nat_abs (f -ℤ e)
 
-  pub second_larger : up ≤ down → eqb (n * 10 ^ (down - up)) m ≡ eqb (m * 10 ^ up) (n * 10 ^ down)
+gap : (e f : ℤ) → f ≤ℤ e → Gap e f
+gap (pos a) (pos b) h = record { less = omega (arith, ints, h); is = omega (arith, ints, h); back = omega (arith, ints, h) }
+gap (pos a) (negsuc b) h = record { less = omega (arith, ints, h); is = omega (arith, ints, h); back = omega (arith, ints, h) }
+gap (negsuc a) (pos b) h = record { less = omega (arith, ints, h); is = omega (arith, ints, h); back = omega (arith, ints, h) }
+gap (negsuc a) (negsuc b) h = record { less = omega (arith, ints, h); is = omega (arith, ints, h); back = omega (arith, ints, h) }
+
+module _ (m n : ℕ) (e f : ℤ) where
+  pub first_larger : f ≤ℤ e → eqb (m * 10 ^ nat_abs (e -ℤ f)) n ≡ eqb (m * 10 ^ (zeros e + places f)) (n * 10 ^ (zeros f + places e))
+  first_larger h =
+      let g = gap e f h in
+      let up = zeros e + places f in
+      let down = zeros f + places e in
+      let back : up - down + down ≡ up = omega (arith, g.less) in
+      rw (← g.is) (shared_power m n (up - down) down ∙ ap (λ (k : ℕ). eqb (m * 10 ^ k) (n * 10 ^ down)) back)
+
+  pub second_larger : e ≤ℤ f → eqb (n * 10 ^ nat_abs (e -ℤ f)) m ≡ eqb (m * 10 ^ (zeros e + places f)) (n * 10 ^ (zeros f + places e))
   second_larger h =
-      let e : down - up + up ≡ down = omega arith in
+      let g = gap f e h in
+      let up = zeros e + places f in
+      let down = zeros f + places e in
+      let back : down - up + up ≡ down = omega (arith, g.less) in
+      rw (← g.back) (
       shared_power n m (down - up) up
-      ∙ ap (λ (k : ℕ). eqb (n * 10 ^ k) (m * 10 ^ up)) e
+      ∙ ap (λ (k : ℕ). eqb (n * 10 ^ k) (m * 10 ^ up)) back
       ∙ same_test (n * 10 ^ down) (m * 10 ^ up) (m * 10 ^ up) (n * 10 ^ down) sym sym
+      )

@@ -1,16 +1,12 @@
 -- Consecutive texts that are stored one by one are stored as one text.
-use mathlib.Core.Path.{◌≡◌, refl, sym, ap, ◌∙◌}
-use mathlib.Core.List.{List, [], ◌∷◌, ◌++◌}
+use mathlib.Core.Path.{◌≡◌, sym, ap, ◌∙◌}
+use mathlib.Core.List.{List, ◌++◌}
 use Prim.Native.Nat.{ℕ, ◌+◌, ◌-◌, ◌≤◌}
 use native.Mathlib.Omega.{arith}
-use lib.ListN.{length, length-append, set, drop, replicate, length-replicate, replicate-append-replicate}
+use lib.ListN.{length, length-append, drop, replicate, length-replicate, replicate-append-replicate}
 use lib.Seq.{length-sets, sets-eq, drop_at}
 use Rattle.lists.proofs.StoreLaws.{sets_append}
 use Rattle.display.specs.InternalParts.{Put}
-
--- Storing one byte.
-pub put_byte : (out : List ℕ) (position byte : ℕ) → Put out (set out position byte) position (byte ∷ []) (position + 1)
-put_byte out position byte = record { stored = refl; ends = refl }
 
 pub put_both : {a b c : List ℕ} {i j k : ℕ} {xs ys : List ℕ} → Put a b i xs j → Put b c j ys k → Put a c i (xs ++ ys) k
 put_both {a} {b} {c} {i} {j} {k} {xs} {ys} p q =

@@ -2,14 +2,14 @@
 ghost use Rattle.std.specs.Prelude.{◌≡◌, ◌*◌, ◌^◌, eqb};
 ghost use Rattle.display.specs.Equality.{equality};
 ghost use Rattle.display.specs.CodeTypes.{quantity_amount, to_spec_equality};
-ghost use Rattle.display.specs.InternalParts.{TenAtMost, is_same_by_parts};
+ghost use Rattle.display.specs.InternalParts.{is_same_by_parts};
 
 use crate::Quantity;
 use crate::quantities::{ScaledNumber, accept};
 use refusals::Refusal;
 
 // Is value × 10 ^ scale the same number for both? The first quantity's refusal comes before the second's.
-#[tactic(auto, using(crate::proofs::AmountCases::parts_within, crate::proofs::EqualityCases::both_accepted), unfolding(crate::specs::Equality::equality))]
+#[tactic(auto, using(crate::proofs::EqualityCases::both_accepted), unfolding(crate::specs::Equality::equality))]
 pub fn equal_quantities(a: Quantity, b: Quantity) -> Result<bool, Refusal>
     ensures { to_spec_equality result ≡ equality (quantity_amount a) (quantity_amount b) }
 {
@@ -18,19 +18,17 @@ pub fn equal_quantities(a: Quantity, b: Quantity) -> Result<bool, Refusal>
     Ok(is_same(x, y))
 }
 
-// The same sign, and the same magnitude at a common scale.
+// The same sign, and the same magnitude at the lesser exponent.
 #[tactic(auto, using(crate::proofs::SameAmount::first_larger, crate::proofs::SameAmount::second_larger), unfolding(crate::specs::InternalParts::is_same_by_parts))]
 fn is_same(x: ScaledNumber, y: ScaledNumber) -> bool
-    requires { TenAtMost x.zeros x.places × TenAtMost y.zeros y.places }
     ensures { result ≡ is_same_by_parts x y }
 {
-    let up = x.zeros + y.places;
-    let down = y.zeros + x.places;
-    x.negative == y.negative
-        && if down <= up {
-            is_shifted(x.magnitude, up - down, y.magnitude)
+    let shift = x.exponent.abs_diff(y.exponent);
+    x.integer.negative == y.integer.negative
+        && if y.exponent <= x.exponent {
+            is_shifted(x.integer.magnitude, shift, y.integer.magnitude)
         } else {
-            is_shifted(y.magnitude, down - up, x.magnitude)
+            is_shifted(y.integer.magnitude, shift, x.integer.magnitude)
         }
 }
 

@@ -1,11 +1,11 @@
 // Exact decimal text.
-ghost use Rattle.std.specs.Prelude.{◌≡◌, ◌+◌, ◌*◌, ◌^◌, ◌≤◌, ◌<◌, length, IfOk};
+ghost use Rattle.std.specs.Prelude.{◌≡◌, ◌+◌, ◌*◌, ◌^◌, ◌≤◌, ◌∷◌, [], length, IfOk};
 ghost use Rattle.point_types.specs.CodeTypes.{to_spec_presence};
-ghost use Rattle.display.specs.Decimals.{last_digits, digit_count, digits_of, sign, unsigned_text, stored};
+ghost use Rattle.display.specs.Decimals.{last_digits, digit_count, digits_of, unsigned_text, stored};
 ghost use Rattle.display.specs.CodeTypes.{decimal_into, length_of, to_spec_decimal, to_code_digits};
-ghost use Rattle.display.specs.InternalParts.{TenAtMost, parts_text, Put};
+ghost use Rattle.display.specs.InternalParts.{TenAtMost, parts_text, HasRoom, Added};
 
-use crate::powers::{POWERS, power_of_ten};
+use crate::powers::power_of_ten;
 use crate::quantities::{ScaledNumber, accept};
 use crate::{Digits, MOST_DIGITS, Presence, Quantity};
 use refusals::Refusal;
@@ -36,7 +36,9 @@ pub fn decimal(
     if out.len() < LEAST_BUFFER {
         return Err(Refusal::ShortBuffer);
     }
-    Ok(put_amount(out, amount))
+    let mut text = Text { out, length: 0 };
+    text.amount(amount);
+    Ok(text.length)
 }
 
 // The digits of n, without a leading zero; 0 is one digit.
@@ -45,97 +47,104 @@ pub fn digits_of(n: u64) -> Digits
     ensures count_in_bounds { result.count ≤ length result.bytes }
 {
     let mut bytes = [0u8; MOST_DIGITS];
-    let count = put_number(&mut bytes, 0, n);
+    let mut text = Text {
+        out: &mut bytes,
+        length: 0,
+    };
+    text.number(n);
+    let count = text.length;
     Digits { bytes, count }
 }
 
-// The sign, the whole part and the places. Like each of the following functions it returns the position after
-// the bytes that it stored.
-fn put_amount(out: &mut [u8], amount: ScaledNumber) -> usize
-    requires in_bounds { 32 ≤ length out.old }
-    requires ten_at_most { TenAtMost amount.zeros amount.places }
-    ensures put { Put out.old out.new 0 (parts_text amount) result }
-    ensures upper_bound { result ≤ 32 }
-{
-    let at = put_sign(out, amount.negative);
-    if amount.places == 0 {
-        put_whole(out, at, amount.magnitude, amount.zeros)
-    } else {
-        put_places(out, at, amount.magnitude, amount.places)
+// A text that grows at the start of a buffer. (`report` has a like one: these functions need room, and a public
+// function has no `requires`.)
+#[derive(Drop)]
+struct Text<'a> {
+    out: &'a mut [u8],
+    length: usize,
+}
+
+impl<'a> Text<'a> {
+    // Appends the sign, the whole part and the places.
+    fn amount(&mut self, amount: ScaledNumber)
+        requires room { HasRoom self.old 32 }
+        requires ten_at_most { TenAtMost amount.exponent }
+        ensures added { Added self.old self.new (parts_text amount) }
+        ensures upper_bound { self.new.length ≤ self.old.length + 32 }
+    {
+        let ScaledNumber { integer, exponent } = amount;
+        if integer.negative {
+            self.byte(b'-');
+        }
+        if exponent < 0 {
+            self.places(integer.magnitude, exponent.unsigned_abs());
+        } else {
+            self.whole(integer.magnitude, exponent.unsigned_abs());
+        }
     }
-}
 
-// A minus if the number is below 0.
-fn put_sign(out: &mut [u8], negative: bool) -> usize
-    requires { 1 ≤ length out.old }
-    ensures put { Put out.old out.new 0 (sign negative) result }
-    ensures upper_bound { result ≤ 1 }
-{
-    if negative {
-        out[0] = b'-';
-        1
-    } else {
-        0
+    // Appends n × 10 ^ zeros: its digits and the zeros, but one 0 for zero.
+    fn whole(&mut self, n: u64, zeros: u32)
+        requires { (zeros ≤ 10) × HasRoom self.old 30 }
+        ensures added { Added self.old self.new (unsigned_text (n * 10 ^ zeros) 0) }
+        ensures upper_bound { self.new.length ≤ self.old.length + 30 }
+    {
+        self.number(n);
+        if n != 0 {
+            self.digits(zeros as usize, 0);
+        }
     }
-}
 
-// n × 10 ^ zeros: its digits and the zeros, but one 0 for zero.
-fn put_whole(out: &mut [u8], at: usize, n: u64, zeros: u32) -> usize
-    requires { (zeros ≤ 10) × (at + 30 ≤ length out.old) }
-    ensures put { Put out.old out.new at (unsigned_text (n * 10 ^ zeros) 0) result }
-    ensures upper_bound { result ≤ at + 30 }
-{
-    let end = put_number(out, at, n);
-    if n == 0 {
-        end
-    } else {
-        put_digits(out, end, zeros as usize, 0)
+    // Appends n / 10 ^ places: the whole part, the point and the last digits.
+    fn places(&mut self, n: u64, places: u32)
+        requires { (1 ≤ places) × (places ≤ 10) × HasRoom self.old 31 }
+        ensures added { Added self.old self.new (unsigned_text n places) }
+        ensures upper_bound { self.new.length ≤ self.old.length + 31 }
+    {
+        self.number(n / power_of_ten(places));
+        self.byte(b'.');
+        self.digits(places as usize, n);
     }
-}
 
-// n / 10 ^ places: the whole part, the point and the last digits.
-fn put_places(out: &mut [u8], at: usize, n: u64, places: u32) -> usize
-    requires { (1 ≤ places) × (places ≤ 10) × (at + 31 ≤ length out.old) }
-    ensures put { Put out.old out.new at (unsigned_text n places) result }
-    ensures upper_bound { result ≤ at + 31 }
-{
-    let point = put_number(out, at, n / power_of_ten(places));
-    out[point] = b'.';
-    put_digits(out, point + 1, places as usize, n)
-}
-
-// The digits of n without a leading zero.
-fn put_number(out: &mut [u8], at: usize, n: u64) -> usize
-    requires { at + 20 ≤ length out.old }
-    ensures put { Put out.old out.new at (digits_of n) result }
-    ensures upper_bound { result ≤ at + 20 }
-{
-    put_digits(out, at, digit_count(n), n)
-}
-
-// The last `count` digits of n, from `at` on.
-fn put_digits(out: &mut [u8], at: usize, count: usize, n: u64) -> usize
-    requires { (count ≤ 20) × (at + count ≤ length out.old) }
-    ensures put { Put out.old out.new at (last_digits count n) result }
-    ensures value { result ≡ at + count }
-{
-    let mut rest = n;
-    for i in (at..at + count).rev() {
-        out[i] = b'0' + (rest % 10) as u8;
-        rest /= 10;
+    // Appends the digits of n without a leading zero.
+    fn number(&mut self, n: u64)
+        requires { HasRoom self.old 20 }
+        ensures added { Added self.old self.new (digits_of n) }
+        ensures upper_bound { self.new.length ≤ self.old.length + 20 }
+    {
+        self.digits(digit_count(n), n);
     }
-    at + count
+
+    // Appends the last `count` digits of n.
+    fn digits(&mut self, count: usize, n: u64)
+        requires { (count ≤ 20) × HasRoom self.old count }
+        ensures added { Added self.old self.new (last_digits count n) }
+        ensures value { self.new.length ≡ self.old.length + count }
+    {
+        let end = self.length + count;
+        let mut rest = n;
+        for i in (self.length..end).rev() {
+            self.out[i] = b'0' + (rest % 10) as u8;
+            rest /= 10;
+        }
+        self.length = end;
+    }
+
+    // Appends a byte.
+    fn byte(&mut self, byte: u8)
+        requires { HasRoom self.old 1 }
+        ensures { Added self.old self.new (byte ∷ []) }
+    {
+        self.out[self.length] = byte;
+        self.length += 1;
+    }
 }
 
 // The number of digits of n.
+#[tactic(auto, using(crate::proofs::DigitCount::one_digit, crate::proofs::DigitCount::from_power))]
 fn digit_count(n: u64) -> usize
     ensures value { result ≡ digit_count n }
     ensures upper_bound { result ≤ 20 }
 {
-    for count in 1..POWERS {
-        if n < power_of_ten(count) {
-            return count as usize;
-        }
-    }
-    POWERS as usize
+    n.checked_ilog10().map_or(1, |k| k as usize + 1)
 }

@@ -3,6 +3,8 @@
 // public call takes any arguments and carries an equation with the definitions of specs/.
 #![tactic(auto)]
 
+ghost use Rattle.std.specs.Prelude.{◌≡◌, take};
+
 mod comparison;
 mod decimals;
 mod powers;
@@ -22,6 +24,15 @@ pub const MOST_DIGITS: usize = 20;
 pub struct Digits {
     pub bytes: [u8; MOST_DIGITS],
     pub count: usize,
+}
+
+impl Digits {
+    // The digits alone: the first `count` bytes. A count above that of the bytes gives them all.
+    pub fn as_slice(&self) -> &[u8]
+        ensures { result.now ≡ take self.now.count self.now.bytes }
+    {
+        &self.bytes[..self.count.min(MOST_DIGITS)]
+    }
 }
 
 // A raw value under its type, of a mandatory or an optional point, and its scale factor as a register: in two's

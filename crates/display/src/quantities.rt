@@ -1,21 +1,19 @@
 // Reading a quantity: its number, and the power of ten that scales it.
 ghost use Rattle.std.specs.Prelude.{◌≡◌, MatchResult};
 ghost use Rattle.refusals.specs.Refusals.{number};
-ghost use Rattle.display.specs.Amounts.{refused, zeros, places};
-ghost use Rattle.display.specs.CodeTypes.{scale_factor, quantity_amount};
+ghost use Rattle.display.specs.Amounts.{refused};
+ghost use Rattle.display.specs.CodeTypes.{quantity_amount};
 ghost use Rattle.display.specs.InternalParts.{IsAmount};
 
 use crate::Quantity;
 use refusals::Refusal;
 use values::Integer;
 
-// A number by its sign and magnitude, times 10 ^ zeros and divided by 10 ^ places; `zeros` or `places` is 0.
+// An integer times 10 ^ exponent.
 #[derive(Clone, Copy, Debug, PartialEq, Eq)]
 pub(crate) struct ScaledNumber {
-    pub(crate) negative: bool,
-    pub(crate) magnitude: u64,
-    pub(crate) zeros: u32,
-    pub(crate) places: u32,
+    pub(crate) integer: Integer,
+    pub(crate) exponent: i32,
 }
 
 // Accepts or refuses a quantity. The type is tested first, then the value, then the scale factor.
@@ -27,25 +25,6 @@ pub(crate) fn accept(quantity: Quantity) -> Result<ScaledNumber, Refusal>
     if !values::scale_factor_in_range(quantity.scale) {
         return Err(Refusal::BadScaleFactor);
     }
-    Ok(scaled(integer, quantity.scale))
-}
-
-// The number with its scale factor: 0 to 10 is the number of zeros to append, -10 to -1 that of the places
-// after the decimal point.
-fn scaled(integer: Integer, scale: u16) -> ScaledNumber
-    ensures { result ≡ record { negative = integer.negative; magnitude = integer.magnitude; zeros = zeros (scale_factor scale); places = places (scale_factor scale) } }
-{
-    let exponent = scale.cast_signed();
-    let power = u32::from(exponent.unsigned_abs());
-    let (zeros, places) = if 0 <= exponent {
-        (power, 0)
-    } else {
-        (0, power)
-    };
-    ScaledNumber {
-        negative: integer.negative,
-        magnitude: integer.magnitude,
-        zeros,
-        places,
-    }
+    let exponent = i32::from(quantity.scale.cast_signed());
+    Ok(ScaledNumber { integer, exponent })
 }

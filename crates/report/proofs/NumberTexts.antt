@@ -1,44 +1,55 @@
--- The text of consecutive numbers: of two lists, one record later, and with one number more.
-use mathlib.Core.Path.{◌≡◌, refl}
+-- The text of numbers with a space between two: with one number more, and as a line.
+use mathlib.Core.Path.{◌≡◌, refl, sym}
 use mathlib.Core.List.{List, [], ◌∷◌, ◌++◌, append_assoc}
-use Prim.Native.Nat.{ℕ, suc, ◌+◌, ◌%◌, ◌<◌}
-use native.Mathlib.Nat.{add-zero}
+use Prim.Native.Nat.{ℕ, zero, suc, ◌+◌, ◌-◌, ◌*◌, ◌≤◌, ◌<◌}
 use native.Mathlib.Numerals.{add-one}
 use native.Mathlib.Omega.{arith}
+use Prim.Native.Char.{code}
 use lib.ListN.{length, take, get_or}
 use lib.Seq.{length-take-le, take-suc}
+use Rattle.input.specs.Lines.{line_feed}
 use Rattle.display.specs.Decimals.{digits_of}
-use Rattle.listing.specs.Listing.{record_width}
-use Rattle.report.specs.InternalContracts.{separator_after, numbers_text}
+use Rattle.report.specs.Text.{numbers_line}
 
--- The text of ms ++ ns is the text of ms, and the text of ns from the next index on.
-pub texts_append : (index : ℕ) (ms ns : List ℕ)
-    → numbers_text index (ms ++ ns) ≡ numbers_text index ms ++ numbers_text (index + length ms) ns
-unfolding numbers_text
-texts_append index [] ns = rw (add-zero index)
-texts_append index (m ∷ ms) ns =
-    let e : index + suc (length ms) ≡ index + 1 + length ms = omega arith in
-    let first = separator_after index ∷ numbers_text (index + 1) ms in
-    rw (e, texts_append (index + 1) ms ns, append_assoc (digits_of m) first (numbers_text (index + 1 + length ms) ns))
+-- Numbers with a space between two.
+unfoldable pub spaced : List ℕ → List ℕ
+spaced [] = []
+spaced (n ∷ []) = digits_of n
+spaced (n ∷ m ∷ ns) = digits_of n ++ code " " ∷ spaced (m ∷ ns)
 
--- The separators repeat with every record.
-separator_again : (index : ℕ) → separator_after (index + record_width) ≡ separator_after index
-unfolding separator_after
-separator_again index =
-    let place : (index + record_width) % record_width ≡ index % record_width = omega arith in
-    rw (place, separator_after)
+-- What stands before number i: a space, but nothing before the first.
+abbrev pub space_before : ℕ → List ℕ
+space_before zero = []
+space_before (suc i) = code " " ∷ []
 
-pub texts_again : (index : ℕ) (ns : List ℕ) → numbers_text (index + record_width) ns ≡ numbers_text index ns
-unfolding numbers_text
-texts_again index [] = refl
-texts_again index (n ∷ ns) =
-    let next : index + record_width + 1 ≡ index + 1 + record_width = omega arith in
-    rw (separator_again index, next, texts_again (index + 1) ns)
+pub space_is : (i : ℕ) → (i ≡ 0 → ⊥) → code " " ∷ [] ≡ space_before i
+space_is zero some = absurd (some refl)
+space_is (suc i) some = refl
+
+-- The first number has no space before it, which makes room for LF.
+pub space_fits : (i : ℕ) → i * 21 - 1 + length (space_before i) ≤ i * 21
+space_fits zero = omega arith
+space_fits (suc i) = omega arith
+
+one_last : (ns : List ℕ) (m : ℕ) → spaced (ns ++ m ∷ []) ≡ spaced ns ++ space_before (length ns) ++ digits_of m
+unfolding spaced
+one_last [] m = refl
+one_last (n ∷ []) m = sym (append_assoc (digits_of n) (code " " ∷ []) (digits_of m))
+one_last (n ∷ k ∷ ns) m =
+    let others = code " " ∷ spaced (k ∷ ns) in
+    let space = space_before (length (k ∷ ns)) in
+    rw (one_last (k ∷ ns) m, append_assoc (digits_of n) others space, append_assoc (digits_of n) (others ++ space) (digits_of m)) refl
 
 -- One number more.
 pub one_more : (ns : List ℕ) (i : ℕ) → i < length ns
-    → numbers_text 0 (take i ns) ++ (digits_of (get_or ns i 0) ++ separator_after i ∷ []) ≡ numbers_text 0 (take (i + 1) ns)
-unfolding numbers_text
+    → spaced (take i ns) ++ space_before i ++ digits_of (get_or ns i 0) ≡ spaced (take (i + 1) ns)
 one_more ns i h =
-    let e : 0 + length (take i ns) ≡ i = omega (arith, length-take-le i ns (omega arith)) in
-    rw (add-one i, take-suc ns i 0, texts_append 0 (take i ns) (get_or ns i 0 ∷ []), e)
+    let e : length (take i ns) ≡ i = length-take-le i ns (omega arith) in
+    rw (add-one i, take-suc ns i 0, one_last (take i ns) (get_or ns i 0), e) refl
+
+-- LF after the last number makes a line.
+pub line_ended : (ns : List ℕ) → spaced ns ++ line_feed ∷ [] ≡ numbers_line ns
+unfolding spaced numbers_line
+line_ended [] = refl
+line_ended (n ∷ []) = refl
+line_ended (n ∷ m ∷ ns) = rw (← line_ended (m ∷ ns), append_assoc (digits_of n)) refl

@@ -1,26 +1,38 @@
--- The lines of records are the text of their consecutive numbers: so the code's text is the text of the listing.
+-- The lines of records are those of their consecutive numbers: so the code's text is the text of the listing.
 use mathlib.Core.Path.{◌≡◌, refl, ap, ◌∙◌}
 use mathlib.Core.List.{List, [], ◌∷◌, ◌++◌}
-use Prim.Native.Nat.{ℕ, ◌*◌}
+use Prim.Native.Nat.{ℕ, suc, ◌*◌, ◌/◌, ◌<◌}
 use native.Mathlib.Omega.{arith}
-use lib.ListN.{length}
-use lib.Seq.{take_at}
+use lib.ListN.{length, length-append}
+use lib.Seq.{take_at, drop_at}
 use Rattle.listing.specs.Listing.{Record, record_numbers, record_width, entries, consecutive}
 use Rattle.listing.proofs.WrittenRecords.{entries_length}
 use Rattle.report.specs.Text.{numbers_line, record_lines, listing_text}
-use Rattle.report.specs.InternalContracts.{separator_after, numbers_text, list_text}
-use Rattle.report.proofs.NumberTexts.{texts_append, texts_again}
+use Rattle.report.specs.InternalContracts.{lines, lines_of, list_text}
 
--- The numbers of a record are its line, and the numbers after them begin a new line.
-record_line : (r : Record) (rest : List ℕ) → numbers_text 0 (record_numbers r ++ rest) ≡ numbers_line (record_numbers r) ++ numbers_text 0 rest
-unfolding record_numbers numbers_line numbers_text separator_after
-record_line r rest =
-    texts_append 0 (record_numbers r) rest ∙ ap (λ (text : List ℕ). numbers_line (record_numbers r) ++ text) (texts_again 0 rest)
+-- The line of the first record, and those of the others.
+pub first_line : (all one rest : List ℕ) → all ≡ one ++ rest → length one ≡ record_width
+    → lines_of all ≡ numbers_line one ++ lines_of rest
+unfolding lines
+first_line all one rest parts size =
+    let sum = ap length parts ∙ length-append one rest in
+    let count : length all / record_width ≡ suc (length rest / record_width) = omega arith in
+    rw (count, parts, take_at one rest record_width size, drop_at one rest record_width size) refl
 
-pub record_lines_lem : (rs : List Record) → record_lines rs ≡ numbers_text 0 (entries rs)
-unfolding record_lines numbers_text consecutive
+-- Numbers too few for a record have no line.
+pub no_line : (rest : List ℕ) → length rest < record_width → lines_of rest ≡ []
+unfolding lines
+no_line rest short = let none : length rest / record_width ≡ 0 = omega arith in rw none refl
+
+record_size : (r : Record) → length (record_numbers r) ≡ record_width
+unfolding record_numbers
+record_size r = refl
+
+pub record_lines_lem : (rs : List Record) → record_lines rs ≡ lines_of (entries rs)
+unfolding record_lines lines consecutive
 record_lines_lem [] = refl
-record_lines_lem (r ∷ rs) = rw (record_line r (entries rs), record_lines_lem rs)
+record_lines_lem (r ∷ rs) =
+    rw (first_line _ (record_numbers r) (entries rs) refl (record_size r), record_lines_lem rs) refl
 
 -- The text that the code makes of the records' numbers, whatever follows them in the list.
 pub listing_text_lem : (rs : List Record) (rest : List ℕ) (headers : ℕ)

@@ -1,9 +1,10 @@
--- `put_listing` stores the first line part by part, and then the numbers.
-use Rattle.display.proofs.StoredTexts.{put_both}
+-- `put_listing`: the first line part by part, and then the lines of the records.
+use Rattle.std.proofs.Common.{rules}
+use Rattle.display.proofs.AppendedTexts.{appended_both, given_back}
 use Rattle.report.proofs.text.put_listing.Goals as goal
 
 pub returns-clause-put : goal.returns-clause-put
 returns-clause-put c =
-    let points = put_both c.put_bytes-after_word.ensures c.put_number-after_points.ensures.put in
-    let headers = put_both (put_both points c.put_bytes-after_headers_word.ensures) c.put_number-after_headers.ensures.put in
-    put_both headers (put_both c.put_bytes-records.ensures c.put_numbers.ensures.put)
+    let points = appended_both c.bytes.ensures c.number.ensures.added in
+    let headers = appended_both (appended_both points c.bytes-2.ensures) c.number-2.ensures.added in
+    given_back (appended_both headers (appended_both c.bytes-3.ensures c.records.ensures.added)) (search rules)

@@ -1,10 +1,11 @@
--- `put_refusal` stores the number, ` at `, the place and LF.
-use Rattle.display.proofs.StoredTexts.{put_both}
+-- `put_refusal`: the number, ` at `, the place and LF.
+use Rattle.std.proofs.Common.{rules}
 use Rattle.report.specs.Text.{refusal_text}
+use Rattle.display.proofs.AppendedTexts.{appended_both, given_back}
 use Rattle.report.proofs.text.put_refusal.Goals as goal
 
 pub returns-clause-put : goal.returns-clause-put
 unfolding refusal_text
 returns-clause-put c =
-    let first = put_both c.put_number-after_number.ensures.put c.put_bytes-after_at.ensures in
-    rw (← c.number.ensures) (put_both (put_both first c.put_number-after_place.ensures.put) c.put_bytes.ensures)
+    let first = appended_both c.number-2.ensures.added c.bytes.ensures in
+    rw (← c.number.ensures) (given_back (appended_both (appended_both first c.number-3.ensures.added) c.bytes-2.ensures) (search rules))
