@@ -10,14 +10,13 @@ use lib.Seq.{sets, sets-eq}
 use Rattle.lists.proofs.StoreLaws.{sets_append}
 use Rattle.register_map.specs.Headers.{Header, model, end_marker, refused, header_at}
 use Rattle.register_map.specs.Scan.{Model}
-use Rattle.register_map.proofs.HeaderCases.{model_ends}
 use Rattle.layout.specs.Points.{ModelPoint}
 use Rattle.layout.specs.Reading.{Reading, unknown, faulty, points}
 use Rattle.layout.specs.InternalWalks.{points_of}
 use Rattle.listing.specs.Listing as Listing
 use Rattle.listing.specs.Listing.{Record, record_width, record_of, Answer, listed, walked, entries, stored, consecutive}
 use Rattle.listing.specs.InternalContracts.{written, visit_of, WalkFits}
-use Rattle.listing.specs.InternalModels.{CanWalk, StartsAt, ModelGiven, IsNoModel, header_there}
+use Rattle.listing.specs.InternalModels.{StartsAt, ModelGiven, IsNoModel, header_there}
 use Rattle.listing.specs.declared.models.Models.{Models}
 use Rattle.listing.specs.declared.models.ModelAt.{ModelAt}
 use Rattle.listing.specs.declared.records.Visit.{Visit}
@@ -41,14 +40,6 @@ pub record WalkingMap (read : Model → Reading) (map before out : List ℕ) (at
   pub capacity : record_width * (records + length left) ≤ length out
   pub same_length : length out ≡ length before
   pub low : 2 ≤ at
-  pub high : at ≤ 65538
-  pub few_models : index ≤ at
-
--- The same at an equal address.
-pub walking_at : {read : Model → Reading} {map before out : List ℕ} {at here index records : ℕ} → here ≡ at
-    → WalkingMap read map before out at index records → WalkingMap read map before out here index records
-walking_at {read} {map} {before} {out} {at} {here} {index} {records} e w =
-    subst (λ a. WalkingMap read map before out a index records) (sym e) w
 
 pub walking_starts : (read : Model → Reading) (map out : List ℕ) → WalkFits (walked read map) out
     → WalkingMap read map out out 2 0 0
@@ -69,8 +60,6 @@ walking_starts read map out = go (walked read map) refl
           capacity = omega (arith, f);
           same_length = refl;
           low = omega arith;
-          high = omega arith;
-          few_models = omega arith;
         }
 
 module _ {read : Model → Reading} {map before out : List ℕ} {at index records : ℕ}
@@ -88,7 +77,7 @@ module _ {read : Model → Reading} {map before out : List ℕ} {at index record
   pub walking_refused : {A : Type 0} {number : ℕ} → header_at (eqb at 2) (drop at map) ≡ refused number → A
   walking_refused h = not_listed (sym (walk_at_refused read map index at h) ∙ here.rest)
 
-  module _ (short : length map ≤ 65536) {id len : ℕ} (h : header_at (eqb at 2) (drop at map) ≡ model id len) where
+  module _ {id len : ℕ} (h : header_at (eqb at 2) (drop at map) ≡ model id len) where
     abbrev own : Model
     own = model_at map at id len
 
@@ -116,8 +105,7 @@ module _ {read : Model → Reading} {map before out : List ℕ} {at index record
         let all : entries rs ++ entries ss ≡ entries here.left = sym (ap entries q ∙ entries_append rs ss) in
         let count : length here.left ≡ length ps + length ss =
         ap length q ∙ omega (arith, length-append rs ss, length-map ps f) in
-        let same = written_length visit records ps out in
-        let ends = model_ends (eqb at 2) map at h in (
+        let same = written_length visit records ps out in (
           omega (arith, here.capacity, count),
           record {
             left = ss;
@@ -130,8 +118,6 @@ module _ {read : Model → Reading} {map before out : List ℕ} {at index record
             capacity = omega (arith, here.capacity, count, same);
             same_length = same ∙ here.same_length;
             low = omega (arith, here.low);
-            high = omega (arith, ends, short);
-            few_models = omega (arith, here.few_models);
           },
         )
 
@@ -167,7 +153,7 @@ module _ {read : Model → Reading} {map before out : List ℕ} {index records :
       go end_marker e f = walking_ends here e
       go (refused number) e f = walking_refused here e
 
-  module _ {t : Models} {m : ModelAt} (can : CanWalk s) (given : ModelGiven s m t) where
+  module _ {t : Models} {m : ModelAt} (given : ModelGiven s m t) where
     -- The points of the model that it gives.
     abbrev pub given_points : List ModelPoint
     given_points = points_of (read (record { id = m.id; body = m.body.now }))
@@ -177,7 +163,6 @@ module _ {read : Model → Reading} {map before out : List ℕ} {index records :
         × WalkingMap read map before (written (visit_of index m) records given_points out) t.at (index + 1) (records + length given_points)
     onward =
         let n = length m.body.now in
-        let short = subst (λ x. length x ≤ 65536) same can.short in
         let h = subst (λ x. header_at (eqb s.at 2) (drop s.at x) ≡ model m.id n) same given.header in
         let b : m.body.now ≡ take n (drop (s.at + 2) map) = given.body ∙ ap (λ x. take n (drop (s.at + 2) x)) same in
         let P : List ℕ → ℕ → ℕ → Type 0 = λ body address next.
@@ -185,7 +170,7 @@ module _ {read : Model → Reading} {map before out : List ℕ} {index records :
         × WalkingMap read map before
         (written (record { index = index; id = m.id; address = address }) records (points_of (read (record { id = m.id; body = body }))) out)
         next (index + 1) (records + length (points_of (read (record { id = m.id; body = body })))) in
-        let there : P (take n (drop (s.at + 2) map)) s.at (s.at + (2 + n)) = walking_goes_on here short h in
+        let there : P (take n (drop (s.at + 2) map)) s.at (s.at + (2 + n)) = walking_goes_on here h in
         subst (λ x. P x m.address t.at) (sym b)
         (subst (λ x. P (take n (drop (s.at + 2) map)) x t.at) (sym given.address)
         (subst (P (take n (drop (s.at + 2) map)) s.at) (sym given.next) there))

@@ -90,8 +90,6 @@ pub record Searching (read : Model → Reading) (map : List ℕ) (target number 
   pub same : finding_in target number path (walk_at read map index at) ≡ finding_in target number path (walked read map)
   pub is_listed : IsListed (walk_at read map index at)
   pub low : 2 ≤ at
-  pub high : at ≤ 65538
-  pub few_models : index ≤ at
 
 pub search_starts : (read : Model → Reading) (map : List ℕ) (target number : ℕ) (path : List ℕ) → IsListed (walked read map)
     → Searching read map target number path 2 0
@@ -101,8 +99,6 @@ search_starts read map target number path l =
       same = ap (finding_in target number path) e;
       is_listed = subst IsListed (sym e) l;
       low = omega arith;
-      high = omega arith;
-      few_models = omega arith;
     }
 
 module _ {read : Model → Reading} {map : List ℕ} {target number : ℕ} {path : List ℕ} {at index : ℕ}
@@ -131,20 +127,17 @@ module _ {read : Model → Reading} {map : List ℕ} {target number : ℕ} {path
     not_faulty e = absurd (subst IsListed (walk_at_faulty read map index at id len here.low h e) here.is_listed)
 
     -- Another model is skipped.
-    pub search_other : length map ≤ 65536 → (index ≡ target → ⊥)
+    pub search_other : (index ≡ target → ⊥)
         → Searching read map target number path (at + (2 + len)) (index + 1)
-    search_other short n = go (read own) refl
+    search_other n = go (read own) refl
       where
         goes : finding_in target number path (walk_at read map index at) ≡ finding_in target number path next → IsListed next
             → Searching read map target number path (at + (2 + len)) (index + 1)
         goes e l =
-            let ends = model_ends (eqb at 2) map at h in
             record {
               same = sym e ∙ here.same;
               is_listed = l;
               low = omega (arith, here.low);
-              high = omega (arith, ends, short);
-              few_models = omega (arith, here.few_models);
             }
 
         go : (r : Reading) → read own ≡ r → Searching read map target number path (at + (2 + len)) (index + 1)
@@ -182,7 +175,7 @@ module _ {read : Model → Reading} {map : List ℕ} {target number : ℕ} {path
 
 -- ---- The search by an iterator over the models
 
-module _ (read : Model → Reading) (map : List ℕ) (target number : ℕ) (path : List ℕ) (short : length map ≤ 65536) where
+module _ (read : Model → Reading) (map : List ℕ) (target number : ℕ) (path : List ℕ) where
   abbrev At : ℕ → ℕ → Type 0
   At = Searching read map target number path
 
@@ -200,7 +193,7 @@ module _ (read : Model → Reading) (map : List ℕ) (target number : ℕ) (path
       let all : index ≡ index + 0 = omega arith in
       subst (λ u. (u.map.now ≡ map) × At u.at (index + 0)) y (same, subst (At s.at) all here)
   skips (m ∷ xs) s t {index} same here few y =
-      let on = search_other here (header_is same y.1) short (omega arith) in
+      let on = search_other here (header_is same y.1) (omega arith) in
       let next = subst (λ a. At a (index + 1)) (sym y.1.next) on in
       let rest = skips xs y.0 t {index = index + 1} (y.1.same_map ∙ same) next (omega arith) y.2 in
       let all : index + 1 + length xs ≡ index + length (m ∷ xs) = omega arith in

@@ -110,7 +110,7 @@ pub fn list(catalog: &[u16], map: &[u16], out: &mut [u64]) -> Result<Listed, Not
     ensures list_call { ListCall catalog.now map.now out.old result out.new }
 {
     let plant = checked_plant(catalog, map)?;
-    let mut table = [0u16; NUMBERS];
+    let mut table = [0; NUMBERS];
     let listed = survey_map(&plant, &mut table)?;
     if out.len() / WIDTH < listed.points {
         return refused(Refusal::ShortList, listed.points, listed.headers);
@@ -166,7 +166,7 @@ fn after_model(at: usize, length: u16) -> usize
     requires { at ≤ 65538 }
     ensures { result ≡ at + (2 + length) }
 {
-    body_address(at as u32, length as u32)
+    body_address(at as u32, u32::from(length))
 }
 
 // The refusal with its place and its number of headers.

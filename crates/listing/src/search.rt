@@ -42,7 +42,7 @@ pub fn find(
     ensures { to_spec_finding result ≡ Findings.result (Findings.finding catalog.now map.now model point path.instances) }
 {
     let plant = checked_plant(catalog, map)?;
-    let mut table = [0u16; NUMBERS];
+    let mut table = [0; NUMBERS];
     survey_map(&plant, &mut table)?;
     let key = Key {
         number: point,

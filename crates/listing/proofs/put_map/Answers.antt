@@ -27,7 +27,7 @@ loop-index-init c =
 pub put_known-records-requires : goal.put_known-records-requires
 put_known-records-requires c =
     let i = c.loop-index.invariant in
-    given_fits (enumerate_source c.loop-index.index-iterator) i.2 i.3 i.0.0 c.in-Some.ensures.steps.0
+    given_fits (enumerate_source c.loop-index.index-iterator) i.2 i.3 c.in-Some.ensures.steps.0
 
 pub loop-index-preserved : goal.loop-index-preserved
 loop-index-preserved c =
@@ -37,7 +37,7 @@ loop-index-preserved c =
       c.in-Some.ensures.goes.keeps,
       tt,
       steps.0.same_map ∙ i.2,
-      given_written (enumerate_source c.loop-index.index-iterator) i.2 i.3 i.0.0 steps.0 steps.1 steps.2 put.value put.out_after,
+      given_written (enumerate_source c.loop-index.index-iterator) i.2 i.3 steps.0 steps.1 steps.2 put.value put.out_after,
     )
 
 pub returns : goal.returns

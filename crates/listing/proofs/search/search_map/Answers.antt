@@ -12,18 +12,16 @@ pub returns-in_err-found : goal.returns-in_err-found
 returns-in_err-found c =
     let v = c.args in
     let map = v.plant.now.map.now in
-    let short = (opening_none map v.plant.now.opens).0 in
     let ran = c.in_err-found.ensures.ran in
     ap (λ o. to_spec_finding (Ok o)) c.from_residual.ensures
-    ∙ no_model (reading (definitions v.plant.now.catalog.words.now)) map v.model v.key.number v.key.path.instances short
+    ∙ no_model (reading (definitions v.plant.now.catalog.words.now)) map v.model v.key.number v.key.path.instances
     c.new.ensures.starts_at c.requires ran.0 ran.1 ran.2
 
 pub returns : goal.returns
 returns c =
     let v = c.args in
     let map = v.plant.now.map.now in
-    let short = (opening_none map v.plant.now.opens).0 in
     let ran = c.in_ok-found.ensures.ran in
     c.search_model.ensures
-    ∙ model_found (reading (definitions v.plant.now.catalog.words.now)) map v.model v.key.number v.key.path.instances short
+    ∙ model_found (reading (definitions v.plant.now.catalog.words.now)) map v.model v.key.number v.key.path.instances
     c.new.ensures.starts_at c.requires ran.0 ran.1 ran.2
