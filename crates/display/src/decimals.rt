@@ -5,7 +5,6 @@ ghost use Rattle.display.specs.Decimals.{last_digits, digit_count, digits_of, un
 ghost use Rattle.display.specs.CodeTypes.{decimal_into, length_of, to_spec_decimal, to_code_digits};
 ghost use Rattle.display.specs.InternalParts.{TenAtMost, parts_text, HasRoom, Added};
 
-use crate::powers::power_of_ten;
 use crate::quantities::{ScaledNumber, accept};
 use crate::{Digits, MOST_DIGITS, Presence, Quantity};
 use refusals::Refusal;
@@ -96,12 +95,13 @@ impl<'a> Text<'a> {
     }
 
     // Appends n / 10 ^ places: the whole part, the point and the last digits.
+    #[tactic(auto, using(crate::proofs::PowersOfTen::fits))]
     fn places(&mut self, n: u64, places: u32)
         requires { (1 ≤ places) × (places ≤ 10) × HasRoom self.old 31 }
         ensures added { Added self.old self.new (unsigned_text n places) }
         ensures upper_bound { self.new.length ≤ self.old.length + 31 }
     {
-        self.number(n / power_of_ten(places));
+        self.number(n / 10u64.pow(places));
         self.byte(b'.');
         self.digits(places as usize, n);
     }

@@ -7,7 +7,6 @@ ghost use Rattle.std.specs.Prelude.{◌≡◌, take};
 
 mod comparison;
 mod decimals;
-mod powers;
 mod quantities;
 
 pub use comparison::equal_quantities;
