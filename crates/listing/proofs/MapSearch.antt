@@ -14,7 +14,6 @@ use Rattle.std.specs.Iterator.{Yields, YieldsThen}
 use Rattle.lists.specs.Tests.{first_with}
 use Rattle.register_map.specs.Headers.{Header, model, end_marker, refused, header_at}
 use Rattle.register_map.specs.Scan.{Model}
-use Rattle.register_map.proofs.HeaderCases.{model_ends}
 use Rattle.layout.specs.Points.{ModelPoint}
 use Rattle.layout.specs.Paths.{is_point}
 use Rattle.layout.specs.Reading.{Reading, unknown, faulty, points, Fault}

@@ -2,7 +2,6 @@
 use Rattle.std.proofs.Common.{ap, ◌∙◌}
 use Rattle.std.specs.Prelude.{Ok}
 use Rattle.model_definitions.specs.Definitions.{definitions}
-use Rattle.register_map.proofs.HeaderLaws.{opening_none}
 use Rattle.layout.specs.Reading.{reading}
 use Rattle.listing.specs.CodeTypes.{to_spec_finding}
 use Rattle.listing.proofs.MapSearch.{no_model, model_found}
