@@ -1,5 +1,5 @@
 // Finds one point of a register map by its model's index, its number and its instance path.
-ghost use Rattle.std.specs.Prelude.{◌≡◌, ◌≤◌, length};
+ghost use Rattle.std.specs.Prelude.{◌≡◌, ◌≤◌};
 ghost use Rattle.lists.specs.Tests.{first_with};
 ghost use Rattle.model_definitions.specs.Definitions.{definitions};
 ghost use Rattle.catalog_frames.specs.CodeTypes.{to_spec_point};

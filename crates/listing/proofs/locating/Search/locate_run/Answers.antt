@@ -23,7 +23,7 @@ loop-point-init c =
       tt,
       tt,
       among a.self.now.key.number a.limit a.start.offset
-      (same ∙ run_content a.self.now.catalog.words.now a.start.frame c.requires.parses_at),
+          (same ∙ run_content a.self.now.catalog.words.now a.start.frame c.requires.parses_at),
     )
 
 pub returns-then-limit-offset : goal.returns-then-limit-offset
