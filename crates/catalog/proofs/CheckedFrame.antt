@@ -49,7 +49,7 @@ pub record Holds (ws : List ℕ) (i : ℕ) (t : Tracking) : Type 0 where
   pub fresh : Fresh decides.state
   pub indexed : Indexed ws t.numbers t.scales t.uncounted i t.state
 
--- If no error is told, no rule is broken.
+-- If no error is returned, no rule is broken.
 pub unbroken_value : (r : Result (Unit {0}) Refusal) (q : Option ℕ) → is_ok r ≡ true → to_spec_fault r ≡ q → none ≡ q
 unbroken_value (Ok done) q e b = b
 unbroken_value (Err x) q e b = absurd (cc)

@@ -7,7 +7,7 @@ use Rattle.std.specs.Borrow.{MutBor}
 use Rattle.display.specs.InternalParts.{Put, Appended}
 use Rattle.display.proofs.StoredTexts.{put_both, put_length}
 
--- A text stored behind a reference was appended.
+-- A text that was stored in a lent buffer was appended.
 pub appended : {a b : MutBor (List ℕ)} {i j : ℕ} {xs : List ℕ} → b.ghost_name ≡ a.ghost_name → Put a.now b.now i xs j → Appended a b i xs j
 appended e p = record { same_reference = e; put = p; same_capacity = put_length p }
 

@@ -41,7 +41,7 @@ pub record Put (before after : List ℕ) (position : ℕ) (text : List ℕ) (end
   pub stored : after ≡ sets before position text
   pub ends : end ≡ position + length text
 
--- The text was appended to a buffer behind a reference: it was stored at `position`, and `end` is the position after it.
+-- The text was appended to a lent buffer: it was stored at `position`, and `end` is the position after it.
 pub record Appended (before after : MutBor (List ℕ)) (position : ℕ) (text : List ℕ) (end : ℕ) : Type 0 where
   pub same_reference : after.ghost_name ≡ before.ghost_name
   pub put : Put before.now after.now position text end

@@ -1,7 +1,7 @@
 // Sets of 16-bit numbers: a bit for each of the 65,536, 64 to a word.
 #![tactic(auto)]
 
-ghost use Rattle.std.specs.Prelude.{◌≡◌, eqb};
+ghost use Rattle.std.specs.Prelude.{◌≡◌, eqb, replicate};
 ghost use Rattle.number_sets.specs.NumberSets.{in_set, marked, Blank, Marks};
 
 use std::marker::Model;
@@ -24,9 +24,10 @@ impl Model for NumberSet {
 }
 
 impl NumberSet {
-    // A set that has no number.
+    // A set that has no number: all its words are 0.
     pub fn new() -> NumberSet
-        ensures { Blank result }
+        ensures words { result ≡ replicate 1024 0 }
+        ensures blank { Blank result }
     {
         NumberSet {
             words: [0; SET_WORDS],

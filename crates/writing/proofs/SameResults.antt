@@ -1,4 +1,4 @@
--- What `write` returns is told by its result: no two refusals have the same number.
+-- The result determines what `write` returns: no two refusals have the same number.
 use mathlib.Core.Path.{◌≡◌, refl, sym, ap, ◌∙◌}
 use mathlib.Core.List.{List, [], ◌∷◌}
 use mathlib.Core.Option.{Option, some}

@@ -1,5 +1,5 @@
--- `raw_value` joins up to four registers. The invariant: the value joined so far fits so many registers; and shifted past the registers
--- left, plus their value, it is the whole value.
+-- `raw_value` joins up to four registers. The invariant: the value joined so far fits the registers joined so far; and shifted past the
+-- registers left, plus their value, it is the whole value.
 use mathlib.Core.Path.{◌≡◌}
 use Prim.Native.Nat.{◌+◌, ◌-◌, ◌*◌, ◌^◌, ◌<◌}
 use lib.ListN.{length, drop}
