@@ -1,4 +1,4 @@
--- The numbers of the refusals (document 01, change request 2, and docs/FORMAT.md, "Refusals").
+-- The numbers of the refusals (document 01; docs/FORMAT.md, "Refusals", says why each is returned).
 use Rattle.std.specs.Prelude.{◌≡◌, ℕ}
 use Rattle.refusals.specs.declared.Refusal.{Refusal}
 use Rattle.refusals.specs.declared.Refused.{Refused}
