@@ -29,3 +29,7 @@ pub record Marks (before after : List ℕ) (such : ℕ → Bool) (present : Bool
 pub record Blank (words : List ℕ) : Type 0 where
   pub size : length words ≡ 1024
   pub none : (n : ℕ) → n < 65536 → in_set words n ≡ false
+
+-- The set has these words.
+abbrev pub HasWords : List ℕ → List ℕ → Type 0
+HasWords words set = set ≡ words

@@ -1,16 +1,16 @@
 // Sets of 16-bit numbers: a bit for each of the 65,536, 64 to a word.
 #![tactic(auto)]
 
-ghost use Rattle.std.specs.Prelude.{◌≡◌, eqb, replicate};
-ghost use Rattle.number_sets.specs.NumberSets.{in_set, marked, Blank, Marks};
+ghost use Rattle.std.specs.Prelude.{◌≡◌, eqb, length, replicate};
+ghost use Rattle.number_sets.specs.NumberSets.{in_set, marked, Blank, HasWords, Marks};
 
 use std::marker::Model;
 
 // The number of words of a set.
-const SET_WORDS: usize = 1024;
+pub const SET_WORDS: usize = 1024;
 
 // A set of 16-bit numbers. A contract sees its words.
-#[derive(Drop)]
+#[derive(Clone, Copy, Debug, PartialEq, Eq)]
 pub struct NumberSet {
     words: [u64; SET_WORDS],
 }
@@ -21,6 +21,17 @@ impl Model for NumberSet {
     ghost Value = { List ℕ };
 
     ghost view = { λ s. s.words };
+
+    ghost inverse = { λ words. record { words = words } };
+}
+
+// The set that has these words.
+impl From<[u64; SET_WORDS]> for NumberSet {
+    ghost from_gives = { HasWords };
+
+    fn from(words: [u64; SET_WORDS]) -> NumberSet {
+        NumberSet { words }
+    }
 }
 
 impl NumberSet {
@@ -32,6 +43,14 @@ impl NumberSet {
         NumberSet {
             words: [0; SET_WORDS],
         }
+    }
+
+    // The words of the set.
+    pub fn words(&self) -> &[u64; SET_WORDS]
+        ensures words { result.now ≡ self.now }
+        ensures size { length self.now ≡ 1024 }
+    {
+        &self.words
     }
 
     // Is the number in the set?
@@ -47,6 +66,7 @@ impl NumberSet {
     pub fn mark(&mut self, number: u16, present: bool)
         ensures set_after { self.new ≡ marked self.old number present }
         ensures marks { Marks self.old self.new (λ n. eqb n number) present }
+        ensures size { length self.old ≡ 1024 }
     {
         let at = (number / 64) as usize;
         let word = self.words[at];
