@@ -1,6 +1,6 @@
 -- The code's types as values of the definitions: what `list` and `find` return.
-use Rattle.std.specs.Prelude.{◌≡◌, Option, Some, None, Result, Ok, Err, List, ℕ, ◌+◌, ◌-◌, ◌/◌, ◌≤◌, length}
-use Rattle.refusals.specs.Refusals.{number}
+use Rattle.std.specs.Prelude.{◌≡◌, Option, Some, None, Result, Ok, Err, List, ℕ, ◌+◌, ◌-◌, ◌/◌, ◌≤◌, ◌++◌, length, codes, decimal}
+use Rattle.refusals.specs.Refusals.{number, printed_with_place}
 use Rattle.refusals.specs.declared.Refusal.{Refusal}
 use Rattle.refusals.specs.declared.Refused.{Refused}
 use Rattle.catalog_frames.specs.CodeTypes.{to_spec_point}
@@ -37,6 +37,11 @@ BeforeHeaders refused not_listed = not_listed ≡ record { refusal = refused.ref
 -- `not_listed` is the refusal `refusal` at place 0, before the first header.
 abbrev pub AtStart : Refusal → NotListed → Type 0
 AtStart refusal not_listed = not_listed ≡ record { refusal = refusal; place = 0; headers = 0 }
+
+-- What a refusal of `list` prints, as in `5 at 3 headers 0`.
+abbrev pub printed_with_headers : NotListed → List ℕ
+printed_with_headers r =
+    printed_with_place (record { refusal = r.refusal; place = r.place }) ++ codes " headers " ++ decimal r.headers
 
 -- The point that `find` returns.
 abbrev pub to_spec_target : Target → Finding.Target

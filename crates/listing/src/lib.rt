@@ -11,14 +11,14 @@ mod records;
 mod search;
 mod surveys;
 
-ghost use Rattle.std.specs.Prelude.{MatchResult, ◌≡◌, ◌+◌, ◌*◌, ◌≤◌, length};
+ghost use Rattle.std.specs.Prelude.{MatchResult, Some, ◌≡◌, ◌+◌, ◌*◌, ◌≤◌, length};
 ghost use Rattle.std.proofs.Math.ListN as Lists;
 ghost use Rattle.refusals.specs.Refusals.{number};
 ghost use Rattle.model_definitions.specs.Definitions.{definitions};
 ghost use Rattle.layout.specs.Reading.{reading};
 ghost use Rattle.layout.specs.InternalWalks.{points_of, read_in};
 ghost use Rattle.listing.specs.Listing as Listings;
-ghost use Rattle.listing.specs.CodeTypes.{to_spec_listing, HeadersCounted, WithoutHeaders, BeforeHeaders, AtStart};
+ghost use Rattle.listing.specs.CodeTypes.{to_spec_listing, HeadersCounted, WithoutHeaders, BeforeHeaders, AtStart, printed_with_headers};
 ghost use Rattle.listing.specs.Calls.{ListCall};
 ghost use Rattle.listing.specs.InternalContracts.{written, visit_of, WalkFits};
 
@@ -56,6 +56,8 @@ pub struct NotListed {
 
 // As in `5 at 3 headers 0`.
 impl fmt::Display for NotListed {
+    ghost output = { λ not_listed. Some (printed_with_headers not_listed) };
+
     fn fmt<W: fmt::Write>(&self, f: &mut fmt::Formatter<W>) -> fmt::Result {
         let refused = Refused::from(*self);
         write!(f, "{refused} headers {}", self.headers)

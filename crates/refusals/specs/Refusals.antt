@@ -1,5 +1,5 @@
 -- The numbers of the refusals (document 01; docs/FORMAT.md, "Refusals", says why each is returned).
-use Rattle.std.specs.Prelude.{◌≡◌, ℕ}
+use Rattle.std.specs.Prelude.{◌≡◌, ℕ, List, ◌++◌, codes, decimal}
 use Rattle.refusals.specs.declared.Refusal.{Refusal}
 use Rattle.refusals.specs.declared.Refused.{Refused}
 
@@ -46,3 +46,11 @@ number Refusal.OverCapacity = 52
 -- `refused` is the refusal `refusal` at place 0.
 abbrev pub PlaceZero : Refusal → Refused → Type 0
 PlaceZero refusal refused = refused ≡ record { refusal = refusal; place = 0 }
+
+-- What a refusal prints, as in `5`: its number.
+abbrev pub printed : Refusal → List ℕ
+printed refusal = decimal (number refusal)
+
+-- What it prints with its place, as in `5 at 3`.
+abbrev pub printed_with_place : Refused → List ℕ
+printed_with_place refused = printed refused.refusal ++ codes " at " ++ decimal refused.place

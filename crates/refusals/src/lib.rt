@@ -2,8 +2,8 @@
 // refuse returns a `Result` whose error is one of these types, or `listing::NotListed`.
 #![tactic(auto)]
 
-ghost use Rattle.std.specs.Prelude.{◌≡◌};
-ghost use Rattle.refusals.specs.Refusals.{number, PlaceZero};
+ghost use Rattle.std.specs.Prelude.{◌≡◌, Some};
+ghost use Rattle.refusals.specs.Refusals.{number, PlaceZero, printed, printed_with_place};
 
 use std::error::Error;
 use std::fmt;
@@ -62,6 +62,8 @@ impl Refusal {
 
 // Its number.
 impl fmt::Display for Refusal {
+    ghost output = { λ refusal. Some (printed refusal) };
+
     fn fmt<W: fmt::Write>(&self, f: &mut fmt::Formatter<W>) -> fmt::Result {
         write!(f, "{}", self.number())
     }
@@ -87,6 +89,8 @@ impl From<Refusal> for Refused {
 
 // As in `5 at 3`.
 impl fmt::Display for Refused {
+    ghost output = { λ refused. Some (printed_with_place refused) };
+
     fn fmt<W: fmt::Write>(&self, f: &mut fmt::Formatter<W>) -> fmt::Result {
         write!(f, "{} at {}", self.refusal, self.place)
     }
