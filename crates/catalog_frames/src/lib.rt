@@ -71,7 +71,9 @@ pub enum Frame {
     End,
 }
 
-// Frame i, or `None` if it is malformed or the catalog has no whole frame i.
+// Frame i, or `None` if it is malformed or the catalog has no whole frame i. Inlined, so that a search that asks for one
+// kind of frame reads no other word of the others.
+#[inline(always)]
 pub fn read_frame(catalog: &[u16], i: usize) -> Option<Frame>
     ensures { to_spec_frame result ≡ frame_in catalog.now i }
 {
@@ -80,6 +82,7 @@ pub fn read_frame(catalog: &[u16], i: usize) -> Option<Frame>
 }
 
 // The frame with these words, or `None` if it is malformed: its kind is not 1 to 4, or a word that its kind does not name is not 0.
+#[inline(always)]
 #[tactic(auto, unfolding(crate::specs::Frames::frame_of))]
 fn frame_of(words: &[u16; FRAME_WORDS]) -> Option<Frame>
     ensures { to_spec_frame result ≡ frame_of (get_or words.now 0 0) (get_or words.now 1 0) (get_or words.now 2 0) (get_or words.now 3 0) (get_or words.now 4 0) (get_or words.now 5 0) (get_or words.now 6 0) (get_or words.now 7 0) }
