@@ -17,5 +17,6 @@ pub mod ReadingBack
 pub mod ScaleFactors
 pub mod AmountCases
 pub mod ScaledIntegers
+pub mod Multiples
 pub mod SameAmount
 pub mod EqualityCases

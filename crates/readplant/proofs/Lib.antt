@@ -1,1 +1,2 @@
 pub mod WholeInputs
+pub mod Appending

@@ -18,5 +18,6 @@ pub mod WritingCases
 pub mod SameResults
 pub mod AfterCases
 pub mod MapAfter
+pub mod RefusalTests
 pub mod RegisterSteps
 pub mod FoundTargets
